@@ -3,3 +3,4 @@ pub mod HeadlineRowFacts
 pub mod EndingRowFacts
 pub mod PollRowFacts
 pub mod LivePollRowFacts
+pub mod GrownRowFacts

@@ -12,6 +12,7 @@ use Rattle.modem_history.specs.Acts.{Act, is_for}
 use Rattle.modem_history.specs.Kinds.{of_kind}
 use Rattle.modem_history.specs.Sessions as session
 use Rattle.modem_history.specs.Sessions.{Beginning, EndView, Finishes, Leftovers, SessionFits, SessionView, heard_as, heards, taken_since}
+use Rattle.modem_driver.specs.Grown.{HasGrown}
 use Rattle.modem_driver.specs.Headline.{AnswersOwn, HasOnePlace, HearsEach, Leaves, NoneAfterClose, Settlement}
 use Rattle.modem_driver.specs.Replays.{AreFull}
 use Rattle.modem_driver.specs.SessionStates.{end_of}
@@ -27,11 +28,12 @@ pub record Rest : Type 0 where
   pub unplaced : List Outcome
   pub unannounced : List Urc
 
--- a session on the desk: how it began, how it stood at its end, its history, what `finish` gave, and what rests
+-- a session on the desk: how it began, how it stood at its end and between its calls before, newest first, its history, what `finish` gave, and what rests
 -- when the next one begins or the desk is settled
 pub record Spell : Type 0 where
   pub start : Beginning
   pub session : SessionView
+  pub earlier : List SessionView
   pub past : List Act
   pub leftovers : Leftovers
   pub rest : Rest
@@ -55,7 +57,7 @@ pub record IsSpell (kinds : List UrcKind) (callers : ℕ) (desk : EndView) (s : 
   pub begins : s.start.desk ≡ desk
   pub kinds_are : s.start.kinds ≡ kinds
   pub callers_are : list_all (λ (q : Request). nat_lt q.caller callers) (taken_since s.start s.session) ≡ true
-  pub fits : SessionFits s.start s.session s.past
+  pub grown : HasGrown s.start (s.session ∷ s.earlier) s.past
   pub finishes : Finishes s.session s.past s.leftovers
   pub rests : RestsOf kinds callers s.leftovers s.rest
 

@@ -7,7 +7,7 @@ use Rattle.modem_desk.specs.declared.request.Outcome.{Outcome}
 use Rattle.modem_desk.specs.declared.request.Urc.{Urc}
 use Rattle.modem_desk.specs.Ends.{DriverView}
 use Rattle.modem_history.specs.Acts.{Act, after}
-use Rattle.modem_history.specs.Sessions.{Beginning, LineView, IsHistory, FitsRequests, FitsReceived, FitsSent, FitsTold, FitsHeard}
+use Rattle.modem_history.specs.Sessions.{Beginning, LineView, SessionFits}
 use Rattle.modem_driver.specs.Endpoints.{EndpointState, EndpointFits, AnnouncesOne, BeginsBy, GivesLine, GivesOctets, GivesOutcome, HandlesAlone, Loses, Numbers, TakesOctets, TellsOne, Ticks, with_failure, with_taken}
 use Rattle.modem_driver.specs.EndpointSteps.{with_received, with_sent}
 use Rattle.modem_driver.specs.SessionStates.{beginning_by, seen_by, end_of}
@@ -67,24 +67,13 @@ OneHistory =
     (b : Beginning) (w v : World) (past : List Act) → 1 ≤ length w.driver.desk.rings
     → EndpointFits b w.line w.driver w.endpoint past → Calls w v → WentOn b v past
 
--- What a history tells of the endpoint and of what its line and its desk's end saw since it began: it is lawful, and of
--- whole calls; and the requests taken, the octets taken and given, and the outcomes and lines given are its own, each
--- once, in their orders.
-pub record IsAllOf (b : Beginning) (v : World) (past : List Act) : Type 0 where
-  pub history : IsHistory b past
-  pub requests : FitsRequests b (seen_by v.line (end_of v.driver) v.endpoint.machine) past
-  pub octets_in : FitsReceived b (seen_by v.line (end_of v.driver) v.endpoint.machine) past
-  pub octets_out : FitsSent b (seen_by v.line (end_of v.driver) v.endpoint.machine) past
-  pub outcomes : FitsTold b (seen_by v.line (end_of v.driver) v.endpoint.machine) past
-  pub lines : FitsHeard b (seen_by v.line (end_of v.driver) v.endpoint.machine) past
-
--- there is such a history
+-- a history of the endpoint and of what its line and its desk's end saw since it began, as a session has one
 pub record HasAll (b : Beginning) (v : World) : Type 0 where
   pub past : List Act
-  pub all : IsAllOf b v past
+  pub fits : SessionFits b (seen_by v.line (end_of v.driver) v.endpoint.machine) past
 
--- The law: one history tells all of an endpoint that was begun, whatever calls followed. The desk's end listens to its
--- kinds and has a caller 0.
+-- The law: one history tells all of an endpoint that was begun, whatever calls followed: what a session fits. So it has a loss only
+-- where a call on the line failed. The desk's end listens to its kinds and has a caller 0.
 unfoldable pub TellsAll : Type 0
 TellsAll =
     (dialect : Dialect) (n1 : ℕ) (kinds : List UrcKind) (w v : World) → w.driver.desk.kinds ≡ kinds

@@ -17,6 +17,7 @@ use Rattle.modem_history.specs.Sessions.{Beginning, LineView, gots, taken_since}
 use Rattle.modem_history.specs.Turns.{HoldsWhereRoom, may_act, may_fail}
 use Rattle.modem_history.specs.Wholes.{is_said}
 use Rattle.modem_driver.specs.EndpointSteps.{HandLacksRoom, IsDrained, goes_out, with_received, with_sent}
+use Rattle.modem_driver.specs.MemoryNeeds.{OwesFlow}
 use Rattle.modem_driver.specs.SessionStates.{Machine, beginning_by, machine_by, seen_by, end_of}
 use Rattle.modem_driver.specs.TurnSteps.{StandingFits, turn_state, view_of}
 use Rattle.modem_driver.specs.declared.endpoint.Blocked.{Blocked}
@@ -113,10 +114,9 @@ MachineSays k all None = all × (k.deframer.next ≡ None)
 MachineSays k all (Some OutputFirst) = WantsRoom k
 MachineSays k all (Some NoMemory) = k.deframer.next ≢ None
 
--- what an endpoint answers to input: as `MachineSays` has it, or NoMemory behind the last octet, for the MSC of a
--- connection
+-- what an endpoint answers to input: as `MachineSays` has it, or NoMemory behind the last octet, for an MSC that is due
 abbrev pub Says : EndpointState → (all : Type 0) → Option Blocked → Type 0
-Says e all (Some NoMemory) = (e.machine.deframer.next ≢ None) ⊎ all
+Says e all (Some NoMemory) = (e.machine.deframer.next ≢ None) ⊎ (all × OwesFlow e.machine)
 Says e all says = MachineSays e.machine all says
 
 -- ## Requests
@@ -125,20 +125,27 @@ Says e all says = MachineSays e.machine all says
 abbrev pub with_taken : DriverView → Request → DriverView
 with_taken d q = record d { taken = d.taken ++ q ∷ [] }
 
--- The request of this number, which asks for this, was taken from a desk that has a caller 0, and frames at hand were
--- handled. None of the acts is a tick or a loss, or holds or frees a connection.
-pub record TakesRequest (l : LineView) (d : DriverView) (old new : EndpointState) (ask : Ask) (n : ℕ) : Type 0 where
-  pub acts : List Act
-  pub leads : 1 ≤ length d.desk.rings
-      → LeadsOver l l d (with_taken d (record { caller = 0; number = n; ask = ask })) old new acts
-  pub may : 1 ≤ length d.desk.rings → (b : Beginning) (past : List Act) → EndpointFits b l d old past
-      → (waiting : List Urc) → list_all (may_act waiting) acts ≡ true
-
 -- frames at hand were handled, and nothing else changed
 pub record HandlesAlone (l : LineView) (d : DriverView) (old new : EndpointState) : Type 0 where
   pub acts : List Act
   pub leads : LeadsOver l l d d old new acts
   pub may : (b : Beginning) (past : List Act) → EndpointFits b l d old past
+      → (waiting : List Urc) → list_all (may_act waiting) acts ≡ true
+
+-- frames at hand were handled until none was left, or one that lacks room, and nothing else changed
+pub record HandlesAll (l : LineView) (d : DriverView) (old new : EndpointState) : Type 0 where
+  pub alone : HandlesAlone l d old new
+  pub lacks : HandLacksRoom new.machine
+
+-- Frames at hand were handled, and then the request of this number, which asks for this, was taken from a desk that has a
+-- caller 0. None of the acts is a tick or a loss, or holds or frees a connection.
+pub record TakesRequest (l : LineView) (d : DriverView) (old new : EndpointState) (ask : Ask) (n : ℕ) : Type 0 where
+  pub between : EndpointState
+  pub frames : HandlesAll l d old between
+  pub acts : List Act
+  pub leads : 1 ≤ length d.desk.rings
+      → LeadsOver l l d (with_taken d (record { caller = 0; number = n; ask = ask })) between new acts
+  pub may : 1 ≤ length d.desk.rings → (b : Beginning) (past : List Act) → EndpointFits b l d between past
       → (waiting : List Urc) → list_all (may_act waiting) acts ≡ true
 
 -- the requests in hand and the outcomes that wait are 128, or all numbers are used up
@@ -173,14 +180,13 @@ pub record IsOneTick (past acts : List Act) : Type 0 where
   pub acts_are : acts ≡ Tick ∷ more
   pub follow : list_all is_said more ≡ true
 
--- by some acts frames at hand were handled, and then one tick passed
+-- frames at hand were handled, and then one tick passed
 pub record Ticks (l : LineView) (d : DriverView) (old new : EndpointState) : Type 0 where
-  pub frames : List Act
+  pub between : EndpointState
+  pub frames : HandlesAll l d old between
   pub acts : List Act
-  pub leads : LeadsOver l l d d old new (frames ++ acts)
-  pub may : (b : Beginning) (past : List Act) → EndpointFits b l d old past
-      → (waiting : List Urc) → list_all (may_act waiting) frames ≡ true
-  pub tick : (b : Beginning) (past : List Act) → EndpointFits b l d old past → IsOneTick (after past frames) acts
+  pub leads : LeadsOver l l d d between new acts
+  pub tick : (b : Beginning) (past : List Act) → EndpointFits b l d between past → IsOneTick past acts
 
 -- The line wasn't lost before these acts, and is after them. Behind the loss there are outcomes alone. No frame was
 -- handled, no tick passed, and no request is in hand any more.
@@ -198,14 +204,13 @@ pub record IsOneLoss (past acts : List Act) : Type 0 where
 abbrev pub with_failure : LineView → LineView
 with_failure l = record l { failures = l.failures + 1 }
 
--- by some acts frames at hand were handled, and then the line was lost, since a call on it had failed
+-- frames at hand were handled, and then the line was lost, since a call on it had failed
 pub record Loses (l : LineView) (d : DriverView) (old new : EndpointState) : Type 0 where
-  pub frames : List Act
+  pub between : EndpointState
+  pub frames : HandlesAll l d old between
   pub acts : List Act
-  pub leads : LeadsOver l (with_failure l) d d old new (frames ++ acts)
-  pub may : (b : Beginning) (past : List Act) → EndpointFits b l d old past
-      → (waiting : List Urc) → list_all (may_act waiting) frames ≡ true
-  pub loss : (b : Beginning) (past : List Act) → EndpointFits b l d old past → IsOneLoss (after past frames) acts
+  pub leads : LeadsOver l (with_failure l) d d between new acts
+  pub loss : (b : Beginning) (past : List Act) → EndpointFits b l d between past → IsOneLoss past acts
 
 -- ## What came of it
 

@@ -20,6 +20,7 @@ use Rattle.modem_history.specs.Kinds.{of_kind}
 use Rattle.modem_history.specs.Sessions as session
 use Rattle.modem_history.specs.Sessions.{Beginning, Finishes, Leftovers, SessionFits, SessionView, driving, heard_as, heards, taken_since}
 use Rattle.modem_history.specs.Wholes.{HasOwnAnswer, IsPrefixOf, commands_for, is_same}
+use Rattle.modem_driver.specs.Grown.{HasGrown}
 use Rattle.modem_driver.specs.Replays.{AreFull}
 
 -- ## A run and its end
@@ -31,22 +32,24 @@ pub record Settlement : Type 0 where
   pub untaken : List (List Outcome)
   pub unheard : List (List Urc)
 
--- a run: how its session began, how it stood at the end and what `finish` gave; the driver's end, the callers
+-- a run: how its session began, how it stood at the end and between its calls before that, newest first, its history, and
+-- what `finish` gave; the driver's end, the callers
 -- and the listeners that were handed in for settlement, and what that gave
 pub record Run : Type 0 where
   pub start : Beginning
   pub session : SessionView
+  pub earlier : List SessionView
+  pub past : List Act
   pub leftovers : Leftovers
   pub driver : DriverView
   pub callers : List CallerView
   pub listeners : List ListenerView
   pub settlement : Settlement
 
--- the session has this history, and `finish` gave what it says
+-- the session has this history, which grew from call to call, and `finish` gave what it says
 pub record HasEnd (run : Run) : Type 0 where
-  pub past : List Act
-  pub fits : SessionFits run.start run.session past
-  pub finishes : Finishes run.session past run.leftovers
+  pub grown : HasGrown run.start (run.session ∷ run.earlier) run.past
+  pub finishes : Finishes run.session run.past run.leftovers
 
 -- The desk had done nothing when the session began on its driver's end. The session has a history, and each
 -- request that it took is of a caller of the desk. The desk was settled with the driver's end that `finish`
@@ -144,14 +147,13 @@ pub record Holds (run : Run) (i : ℕ) (c : CallerView) : Type 0 where
 -- order, none after a close. Each answered command has exactly its solicited lines up to its final code. Each
 -- subscribed unsolicited line is announced once. At settle every caller holds each of its outcomes once.
 pub record Headline (run : Run) : Type 0 where
-  pub past : List Act
-  pub fits : SessionFits run.start run.session past
-  pub leaves : (newer older : List Act) → past ≡ newer ++ older → (d : ℕ) → Leaves d older run.callers
-  pub none_after_close : NoneAfterClose past
-  pub full : AreFull run.start.n1 past
-  pub answers : AnswersOwn run.start past
-  pub hears : HearsEach run.start past
-  pub announces : Each (Announces run past) run.listeners
+  pub fits : SessionFits run.start run.session run.past
+  pub leaves : (newer older : List Act) → run.past ≡ newer ++ older → (d : ℕ) → Leaves d older run.callers
+  pub none_after_close : NoneAfterClose run.past
+  pub full : AreFull run.start.n1 run.past
+  pub answers : AnswersOwn run.start run.past
+  pub hears : HearsEach run.start run.past
+  pub announces : Each (Announces run run.past) run.listeners
   pub holds : Each (Holds run) run.callers
 
 -- the law: every settled run has the headline

@@ -76,9 +76,9 @@ abbrev pub LacksRoom : Setting → List Act → ℕ → Option Bool → Type 0
 LacksRoom s past d None = ⊥
 LacksRoom s past d (Some go) = has_flow_room s past d go ≡ false
 
--- the frame that is called for, if one is, has a place in the control queue
+-- a frame is called for, and has a place in the control queue
 abbrev pub HasPlace : Setting → List Act → ℕ → Option Bool → Type 0
-HasPlace s past d None = Unit {0}
+HasPlace s past d None = ⊥
 HasPlace s past d (Some go) = has_flow_room s past d go ≡ true
 
 -- what a backlog calls for has no place in the control queue, by every past
@@ -86,7 +86,7 @@ unfoldable pub HasNoRoom : Core → ℕ → (lines : ℕ) → Type 0
 HasNoRoom v d lines =
     (s : Setting) (past : List Act) → MayAsk s v past → LacksRoom s past d (due_by s past d lines)
 
--- what a backlog calls for has a place in the control queue, by every past
+-- a backlog calls for an MSC, which has a place in the control queue, by every past
 unfoldable pub FindsRoom : Core → ℕ → (lines : ℕ) → Type 0
 FindsRoom v d lines =
     (s : Setting) (past : List Act) → MayAsk s v past → HasPlace s past d (due_by s past d lines)

@@ -28,9 +28,13 @@ pub mod EntryTries
 pub mod WaitingLists
 pub mod LineQueues
 pub mod WaitingTicks
+pub mod MemoryNeeds
 pub mod EndpointSteps
 pub mod Endpoints
 pub mod EndpointLaws
+pub mod OneSession
+pub mod Grown
+pub mod GrownRows
 pub mod Endings
 pub mod EndingRows
 pub mod SessionStates

@@ -146,6 +146,7 @@ impl Core {
         ensures good_n1 { result ≢ Err CoreError.BadN1 }
         ensures err { OnErr result (self.new ≡ self.old) }
         ensures n1 { self.new.station.n1 ≡ self.old.station.n1 }
+        ensures lost { self.new.lost ≡ self.old.lost }
         ensures never_full { result ≡ Err CoreError.NoRoom → ¬ CoreIsIdle self.old }
     {
         if !self.station.has_room_for(frame) {
@@ -272,6 +273,7 @@ impl Core {
         ensures no_memory { OnErr result (result ≡ Err CoreError.NoMemory) }
         ensures err { OnErr result (self.new ≡ self.old) }
         ensures n1 { self.new.station.n1 ≡ self.old.station.n1 }
+        ensures lost { self.new.lost ≡ self.old.lost }
     {
         let done = self.join_lane(frame.dlci, fork, acts)?;
         let _noted = take(&mut self.station, frame);
@@ -314,6 +316,7 @@ impl Core {
         ensures no_memory { OnErr result (result ≡ Err CoreError.NoMemory) }
         ensures err { OnErr result (self.new ≡ self.old) }
         ensures n1 { self.new.station.n1 ≡ self.old.station.n1 }
+        ensures lost { self.new.lost ≡ self.old.lost }
     {
         let mut acts = Vec::new(self.alloc);
         self.read(frame, fork, &mut acts)?;
@@ -378,6 +381,7 @@ impl Core {
         ensures good_n1 { result ≢ Err CoreError.BadN1 }
         ensures err { OnErr result (self.new ≡ self.old) }
         ensures n1 { self.new.station.n1 ≡ self.old.station.n1 }
+        ensures lost { self.new.lost ≡ self.old.lost }
         ensures never_full { result ≡ Err CoreError.NoRoom → ¬ CoreIsIdle self.old }
     {
         if self.lost {

@@ -2,6 +2,8 @@
 ghost use Rattle.std.specs.Prelude.{◌≡◌, ℕ, true, false, List, []};
 ghost use Rattle.std.specs.List.{list_all, list_any};
 ghost use Rattle.modem_driver.specs.EndpointLaws.{OneHistory, TellsAll};
+ghost use Rattle.modem_driver.specs.OneSession.{LivedGrows, OneSession};
+ghost use Rattle.modem_driver.specs.GrownRows.{CountsBehind, CountsNotBefore};
 ghost use Rattle.modem_driver.specs.EndingRows.{ends_in, going_rows, stopped_rows, AreNoEndings, IsNoGoing, IsRightEnding, StaysEnded};
 ghost use Rattle.modem_driver.specs.DeskHeadline.{DeskRun, IsDeskHeadline};
 ghost use Rattle.modem_driver.specs.Headline.{IsHeadline, Run, SendsFull};
@@ -121,4 +123,15 @@ pub fn polls()
 pub fn endpoints()
     ensures history { OneHistory }
     ensures all { TellsAll }
+{}
+
+/// Runs of a session's calls, by the calls' clauses. A session that has just begun has one history, whatever turns, polls and ticks
+/// follow. Each of these calls adds its own acts to it: what a turn says of its octets, requests and outcomes stands at its place. At
+/// each of them the session fits the history so far.
+#[tactic(auto, using(crate::proofs::law_proofs::OneSessions::one_session, crate::proofs::law_proofs::GrownHistories::lived_grows, crate::proofs::rows::GrownRowFacts::counts_behind, crate::proofs::rows::GrownRowFacts::counts_not_before))]
+pub fn sessions()
+    ensures one { OneSession (λ (l : LineView). l) }
+    ensures grows { LivedGrows }
+    ensures behind { CountsBehind }
+    ensures not_before { CountsNotBefore }
 {}

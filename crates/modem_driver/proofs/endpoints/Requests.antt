@@ -14,20 +14,18 @@ use Rattle.modem_desk.specs.declared.request.Ask.{Ask}
 use Rattle.modem_desk.specs.declared.request.Request.{Request}
 use Rattle.modem_desk.specs.Ends.{DriverView}
 use Rattle.modem_history.specs.Requests.{are_distinct, is_apart}
-use Rattle.modem_history.specs.Acts.{Act, after}
+use Rattle.modem_history.specs.Acts.{Act}
 use Rattle.modem_history.specs.Wholes.{taken_requests}
 use Rattle.modem_history.specs.Sessions.{Beginning, LineView, taken_since, heard_as}
-use Rattle.modem_history.specs.Turns.{may_act}
-use Rattle.modem_history.proofs.calls.StatesAfterActs.{after_both}
 use Rattle.modem_history.proofs.law_proofs.SessionLaws.{since_more}
 use Rattle.modem_driver.specs.Cores.{Fits}
 use Rattle.modem_driver.specs.Holding.{HoldsFit}
-use Rattle.modem_driver.specs.EndpointSteps.{HandlesFrames}
+use Rattle.modem_driver.specs.EndpointSteps.{HandLacksRoom, HandlesFrames}
 use Rattle.modem_driver.specs.Endpoints.{EndpointFits, Begins, BeginsBy, HasNoneAside, LeadsOver, Numbers, Refuses, TakesRequest, is_numbered, with_taken}
 use Rattle.modem_driver.specs.SessionStates.{Machine, MachineGoes, machine_by, new_machine, seen_by, end_of}
-use Rattle.modem_driver.specs.TurnSteps.{StandingFits, Leads, turn_state}
+use Rattle.modem_driver.specs.TurnSteps.{StandingFits, turn_state}
 use Rattle.modem_driver.specs.TurnTakes.{TakesAside}
-use Rattle.modem_driver.proofs.endpoints.WholeCalls.{leads_over}
+use Rattle.modem_driver.proofs.endpoints.WholeCalls.{handled_all, handled_alone}
 use Rattle.modem_driver.proofs.sessions.steps.LineOctets.{loss_with}
 use Rattle.modem_driver.proofs.sessions.steps.OutcomeCounts.{is_caller}
 use Rattle.modem_driver.proofs.sessions.steps.StartAndTick.{begins_over, machine_begins}
@@ -152,50 +150,32 @@ numbered_here b l d old k n ask past fit =
 
 -- ## It is taken
 
-pub takes_request : (k0 k1 k2 : Machine) (n : ℕ) (ask : Ask) → HandlesFrames k0 k1 → k1.aside ≡ None → length k1.core.hand + length k1.unplaced < 128 → TakesAside (record k1 { aside = Some (record { caller = 0; number = n; ask = ask }) }) k2 → (l : LineView) (d : DriverView)
+pub takes_request : (k0 k1 k2 : Machine) (n : ℕ) (ask : Ask) → HandlesFrames k0 k1 → HandLacksRoom k1 → k1.aside ≡ None → length k1.core.hand + length k1.unplaced < 128 → TakesAside (record k1 { aside = Some (record { caller = 0; number = n; ask = ask }) }) k2 → (l : LineView) (d : DriverView)
     → TakesRequest l d (record { machine = k0; next = n }) (record { machine = k2; next = n + 1 }) ask n
-unfolding HandlesFrames MachineGoes LeadsOver Leads
-takes_request k0 k1 k2 n ask handles none room takes l d =
-    let q : Request = record { caller = 0; number = n; ask = ask } in
-    let e = with_taken d q in
-    let h = handles l d in
+unfolding MachineGoes LeadsOver
+takes_request k0 k1 k2 n ask handles lacks none room takes l d =
+    let e = with_taken d (record { caller = 0; number = n; ask = ask }) in
     record {
-      acts = h.acts ++ takes.acts;
-      leads = λ some b past f.
-          let mid : EndpointFits b l d (record { machine = k1; next = n }) (after past h.acts) = leads_over l l d k0 k1 n h.acts h.leads b past f in
-          let asked = asks_here b l d k1 n ask (after past h.acts) none room some mid in
-          record {
-            stands = subst (λ (p : List Act). StandingFits b (turn_state l e k2) p) (sym (after_both h.acts takes.acts past)) (takes.goes b l e (after past h.acts) asked);
-            numbers = numbered_here b l d k1 k2 n ask (after past h.acts) mid;
-          };
-      may = λ some b past f waiting.
-          let mid : EndpointFits b l d (record { machine = k1; next = n }) (after past h.acts) = leads_over l l d k0 k1 n h.acts h.leads b past f in
-          let asked = asks_here b l d k1 n ask (after past h.acts) none room some mid in
-          list_all-append (may_act waiting) h.acts takes.acts
-          ∙ and_from (list_all (may_act waiting) h.acts) (list_all (may_act waiting) takes.acts) (h.may waiting b past f.stands)
-          (takes.adds waiting b l e (after past h.acts) asked).may;
+      between = record { machine = k1; next = n };
+      frames = handled_all k0 k1 n handles lacks l d;
+      acts = takes.acts;
+      leads = λ some b past f. record {
+        stands = takes.goes b l e past (asks_here b l d k1 n ask past none room some f);
+        numbers = numbered_here b l d k1 k2 n ask past f;
+      };
+      may = λ some b past f waiting. (takes.adds waiting b l e past (asks_here b l d k1 n ask past none room some f)).may;
     }
 
-pub numbers : (k0 k1 k2 : Machine) (n later : ℕ) (ask : Ask) → HandlesFrames k0 k1 → k1.aside ≡ None → length k1.core.hand + length k1.unplaced < 128 → TakesAside (record k1 { aside = Some (record { caller = 0; number = n; ask = ask }) }) k2 → later ≡ n + 1
+pub numbers : (k0 k1 k2 : Machine) (n later : ℕ) (ask : Ask) → HandlesFrames k0 k1 → HandLacksRoom k1 → k1.aside ≡ None → length k1.core.hand + length k1.unplaced < 128 → TakesAside (record k1 { aside = Some (record { caller = 0; number = n; ask = ask }) }) k2 → later ≡ n + 1
     → Numbers (record { machine = k0; next = n }) (record { machine = k2; next = later }) ask n
-numbers k0 k1 k2 n later ask handles none room takes e = record {
+numbers k0 k1 k2 n later ask handles lacks none room takes e = record {
   number = refl;
   later = e;
-  takes = λ l d. subst (λ (m : ℕ). TakesRequest l d (record { machine = k0; next = n }) (record { machine = k2; next = m }) ask n) (sym e) (takes_request k0 k1 k2 n ask handles none room takes l d);
+  takes = λ l d. subst (λ (m : ℕ). TakesRequest l d (record { machine = k0; next = n }) (record { machine = k2; next = m }) ask n) (sym e) (takes_request k0 k1 k2 n ask handles lacks none room takes l d);
 }
 
 pub refuses : (k0 k1 : Machine) (n : ℕ) → HandlesFrames k0 k1 → Refuses (record { machine = k0; next = n }) (record { machine = k1; next = n })
-unfolding HandlesFrames
-refuses k0 k1 n handles = record {
-  number = refl;
-  handles = λ l d.
-      let h = handles l d in
-      record {
-        acts = h.acts;
-        leads = leads_over l l d k0 k1 n h.acts h.leads;
-        may = λ b past f waiting. h.may waiting b past f.stands;
-      };
-}
+refuses k0 k1 n handles = record { number = refl; handles = handled_alone k0 k1 n handles }
 
 -- the octets are all fed, and none is kept aside
 pub fed_after : (k1 k2 : Machine) (q : Request) → TakesAside (record k1 { aside = Some q }) k2 → k1.unfed ≡ [] → HasNoneAside k2

@@ -1,14 +1,14 @@
 -- A tick passes, and the line is lost.
 use Rattle.std.proofs.Common.{ap, ◌∙◌}
-use Rattle.std.specs.Prelude.{ℕ, true, List, [], ◌++◌, refl}
+use Rattle.std.specs.Prelude.{ℕ, true, List, [], refl}
 use Rattle.modem_desk.specs.Ends.{DriverView}
-use Rattle.modem_history.specs.Acts.{Act, after}
+use Rattle.modem_history.specs.Acts.{Act}
 use Rattle.modem_history.specs.Sessions.{LineView}
-use Rattle.modem_driver.specs.EndpointSteps.{HandlesFrames}
+use Rattle.modem_driver.specs.EndpointSteps.{HandLacksRoom, HandlesFrames}
 use Rattle.modem_driver.specs.Endpoints.{HasNoneAside, Loses, Ticks, with_failure}
 use Rattle.modem_driver.specs.SessionStates.{Machine, MachineGoes, MachineLoses, MachineMoves, MachineTicks}
 use Rattle.modem_driver.specs.TurnSteps.{Leads, turn_state}
-use Rattle.modem_driver.proofs.endpoints.WholeCalls.{leads_over}
+use Rattle.modem_driver.proofs.endpoints.WholeCalls.{handled_all, leads_over}
 use Rattle.modem_driver.proofs.sessions.steps.LineOctets.{fault_goes}
 use Rattle.modem_driver.proofs.sessions.meanings.WholeTurns.{leads_on}
 
@@ -16,41 +16,36 @@ leads_by : (old new : Machine) (acts : List Act) → MachineGoes old new acts �
 unfolding Leads MachineGoes
 leads_by old new acts goes l d b past f = goes b l d past f
 
-pub ticks : (k0 k1 k2 : Machine) (next : ℕ) → HandlesFrames k0 k1 → MachineTicks k1 k2 → (l : LineView) (d : DriverView) → Ticks l d (record { machine = k0; next = next }) (record { machine = k2; next = next })
-unfolding HandlesFrames Leads
-ticks k0 k1 k2 next handles tick l d =
-    let h = handles l d in
-    record {
-      frames = h.acts;
-      acts = tick.acts;
-      leads = leads_over l l d k0 k2 next (h.acts ++ tick.acts) (leads_on (turn_state l d k0) (turn_state l d k1) (turn_state l d k2) h.acts tick.acts h.leads (leads_by k1 k2 tick.acts tick.goes l d));
-      may = λ b past f waiting. h.may waiting b past f.stands;
-      tick = λ b past f.
-          let t = tick.tick b l d (after past h.acts) (h.leads b past f.stands) in
-          record { live = t.live; more = t.more; acts_are = t.acts_are; follow = t.follow };
-    }
+pub ticks : (k0 k1 k2 : Machine) (next : ℕ) → HandlesFrames k0 k1 → HandLacksRoom k1 → MachineTicks k1 k2 → (l : LineView) (d : DriverView) → Ticks l d (record { machine = k0; next = next }) (record { machine = k2; next = next })
+ticks k0 k1 k2 next handles lacks tick l d = record {
+  between = record { machine = k1; next = next };
+  frames = handled_all k0 k1 next handles lacks l d;
+  acts = tick.acts;
+  leads = leads_over l l d k1 k2 next tick.acts (leads_by k1 k2 tick.acts tick.goes l d);
+  tick = λ b past f.
+      let t = tick.tick b l d past f.stands in
+      record { live = t.live; more = t.more; acts_are = t.acts_are; follow = t.follow };
+}
 
 -- a call has failed
 fails : (k : Machine) (l : LineView) (d : DriverView) → Leads (turn_state l d k) (turn_state (with_failure l) d (record k { faulty = true })) []
 unfolding Leads MachineMoves
 fails k l d b past f = fault_goes l (with_failure l) k refl refl refl b d past f
 
-pub loses : (k0 k1 k2 : Machine) (next : ℕ) → HandlesFrames k0 k1 → MachineLoses (record k1 { faulty = true }) k2 → (l : LineView) (d : DriverView) → Loses l d (record { machine = k0; next = next }) (record { machine = k2; next = next })
-unfolding HandlesFrames Leads
-loses k0 k1 k2 next handles loss l d =
-    let h = handles l d in
+pub loses : (k0 k1 k2 : Machine) (next : ℕ) → HandlesFrames k0 k1 → HandLacksRoom k1 → MachineLoses (record k1 { faulty = true }) k2 → (l : LineView) (d : DriverView) → Loses l d (record { machine = k0; next = next }) (record { machine = k2; next = next })
+unfolding Leads
+loses k0 k1 k2 next handles lacks loss l d =
     let m = with_failure l in
     let faulty : Machine = record k1 { faulty = true } in
-    let later = leads_on (turn_state l d k1) (turn_state m d faulty) (turn_state m d k2) [] loss.acts (fails k1 l d) (leads_by faulty k2 loss.acts loss.goes m d) in
     record {
-      frames = h.acts;
+      between = record { machine = k1; next = next };
+      frames = handled_all k0 k1 next handles lacks l d;
       acts = loss.acts;
-      leads = leads_over l m d k0 k2 next (h.acts ++ loss.acts) (leads_on (turn_state l d k0) (turn_state l d k1) (turn_state m d k2) h.acts loss.acts h.leads later);
-      may = λ b past f waiting. h.may waiting b past f.stands;
+      leads = leads_over l m d k1 k2 next loss.acts (leads_on (turn_state l d k1) (turn_state m d faulty) (turn_state m d k2) [] loss.acts (fails k1 l d) (leads_by faulty k2 loss.acts loss.goes m d));
       loss = λ b past f.
-          let g = fails k1 l d b (after past h.acts) (h.leads b past f.stands) in
-          let t = loss.loses b m d (after past h.acts) g in
-          let a = loss.adds b m d (after past h.acts) g in
+          let g = fails k1 l d b past f.stands in
+          let t = loss.loses b m d past g in
+          let a = loss.adds b m d past g in
           record { live = t.live; gone = t.gone; before = t.before; told = t.told; acts_are = t.acts_are; may = a.may; none_got = a.none_got; none_in_hand = t.none_in_hand };
     }
 

@@ -10,8 +10,8 @@ use Rattle.modem_history.specs.Acts.{Act, after}
 use Rattle.modem_history.specs.Sessions.{Beginning, LineView}
 use Rattle.modem_history.specs.Turns.{HoldsWhereRoom, may_act}
 use Rattle.modem_history.proofs.calls.StatesAfterActs.{after_both}
-use Rattle.modem_driver.specs.EndpointSteps.{GivesOut, MachineIsDrained, Passes, TakesFrom, with_received, with_sent}
-use Rattle.modem_driver.specs.Endpoints.{GivesOctets, HoldsNothingBack, LeadsOver, TakesOctets}
+use Rattle.modem_driver.specs.EndpointSteps.{GivesOut, HandLacksRoom, HandlesFrames, MachineIsDrained, Passes, TakesFrom, with_received, with_sent}
+use Rattle.modem_driver.specs.Endpoints.{GivesOctets, HandlesAll, HandlesAlone, HoldsNothingBack, LeadsOver, TakesOctets}
 use Rattle.modem_driver.specs.SessionStates.{Machine}
 use Rattle.modem_driver.specs.TurnSteps.{TurnState, StandingFits, AddsAll, Checks, ChecksPart, Leads, turn_state, view_of}
 use Rattle.modem_driver.specs.declared.endpoint.Blocked.{Blocked}
@@ -24,6 +24,25 @@ pub leads_over : (l m : LineView) (d : DriverView) (k0 k1 : Machine) (next : ℕ
     → LeadsOver l m d d (record { machine = k0; next = next }) (record { machine = k1; next = next }) acts
 unfolding Leads LeadsOver
 leads_over l m d k0 k1 next acts leads b past f = record { stands = leads b past f.stands; numbers = f.numbers }
+
+-- ## Frames at hand
+
+pub handled_alone : (k0 k1 : Machine) (next : ℕ) → HandlesFrames k0 k1 → (l : LineView) (d : DriverView)
+    → HandlesAlone l d (record { machine = k0; next = next }) (record { machine = k1; next = next })
+unfolding HandlesFrames
+handled_alone k0 k1 next handles l d =
+    let h = handles l d in
+    record {
+      acts = h.acts;
+      leads = leads_over l l d k0 k1 next h.acts h.leads;
+      may = λ b past f waiting. h.may waiting b past f.stands;
+    }
+
+pub handled_all : (k0 k1 : Machine) (next : ℕ) → HandlesFrames k0 k1 → HandLacksRoom k1 → (l : LineView) (d : DriverView)
+    → HandlesAll l d (record { machine = k0; next = next }) (record { machine = k1; next = next })
+handled_all k0 k1 next handles lacks l d = record { alone = handled_alone k0 k1 next handles l d; lacks = lacks }
+
+-- ## Octets for the line
 
 pub gives_octets : (k0 k1 : Machine) (next : ℕ) (octets : List ℕ) → GivesOut k0 k1 octets → (l : LineView) (d : DriverView)
     → GivesOctets l d (record { machine = k0; next = next }) (record { machine = k1; next = next }) octets

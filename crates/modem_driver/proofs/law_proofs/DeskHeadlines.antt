@@ -28,6 +28,7 @@ use Rattle.modem_history.proofs.requests.UntoldRequests.{all_answer, hand_is}
 use Rattle.modem_driver.specs.DeskHeadline.{AnnouncedOver, DeskRun, Follow, HoldsOver, IsDeskHeadline, IsDeskSettled, IsSpell, Rest, RestsOf, Spell, SpellHeadline, outcomes_over}
 use Rattle.modem_driver.specs.TurningAway.{line_lost}
 use Rattle.modem_driver.proofs.replays.FullFrames.{turns_are_full}
+use Rattle.modem_driver.proofs.law_proofs.GrownHistories.{fits_in}
 use Rattle.modem_driver.proofs.law_proofs.Headlines.{any_more, answers_own, hears_each, of_its_own, once_taken, order_of, own_answers, subscription_at, while_open}
 use Rattle.modem_driver.proofs.law_proofs.RequestNumbers.{numbered_once}
 use Rattle.modem_driver.proofs.law_proofs.RequestPlaces.{counted_own, is_counted, is_told, many_untold, no_answer, some_answer, told_taken}
@@ -93,7 +94,7 @@ spell_taken kinds callers d s p =
     let f = facts kinds callers d s p in
     f.taken
     ∙ (ap (λ (e : EndView). e.taken ++ f.more) p.finishes.desk_stays
-    ∙ (ap (λ (qs : List Request). qs ++ f.more) p.fits.requests.taken_are
+    ∙ (ap (λ (qs : List Request). qs ++ f.more) (fits_in p.grown).requests.taken_are
     ∙ (ap (λ (e : EndView). ((e.taken ++ taken_requests s.past) ++ option_to_list s.session.aside) ++ f.more) p.begins
     ∙ (append_assoc (d.taken ++ taken_requests s.past) (option_to_list s.session.aside) f.more
     ∙ append_assoc d.taken (taken_requests s.past) (option_to_list s.session.aside ++ f.more)))))
@@ -102,7 +103,7 @@ spell_told : (kinds : List UrcKind) (callers : ℕ) (d : EndView) (s : Spell) (p
     → GivesSome (at_place c d.told) (at_place c s.rest.desk.told) (caller_outcomes c (outcomes s.past) ++ caller_outcomes c (map line_lost (facts kinds callers d s p).lost)) (caller_outcomes c s.rest.unplaced)
 spell_told kinds callers d s p c =
     let f = facts kinds callers d s p in
-    let t = p.fits.told.each c in
+    let t = (fits_in p.grown).told.each c in
     let first : GivesSome (at_place c d.told) (at_place c s.session.desk.told) (caller_outcomes c (outcomes s.past)) (caller_outcomes c s.session.unplaced) = record {
       given = t.since;
       given_are = t.told_are ∙ ap (λ (e : EndView). at_place c e.told ++ t.since) p.begins;
@@ -121,7 +122,7 @@ record Heard (d : EndView) (s : Spell) (i : ℕ) (k : UrcKind) : Type 0 where
 spell_announced : (kinds : List UrcKind) (callers : ℕ) (d : EndView) (s : Spell) (p : IsSpell kinds callers d s) (i : ℕ) (k : UrcKind) → get_elem? kinds i ≡ some k → Heard d s i k
 spell_announced kinds callers d s p i k at =
     let f = facts kinds callers d s p in
-    let a = p.fits.heard.each i k (ap (λ (ks : List UrcKind). get_elem? ks i) p.kinds_are ∙ at) in
+    let a = (fits_in p.grown).heard.each i k (ap (λ (ks : List UrcKind). get_elem? ks i) p.kinds_are ∙ at) in
     let first : GivesSome (at_place i d.announced) (at_place i s.session.desk.announced) (a.since ++ of_kind k s.session.unannounced) (of_kind k s.session.unannounced) = record {
       given = a.since;
       given_are = a.announced_are ∙ ap (λ (e : EndView). at_place i e.announced ++ a.since) p.begins;
@@ -186,11 +187,11 @@ spell_counts kinds callers d s p r few =
     ∙ (ap (λ (n : ℕ). n + answers r (caller_outcomes c (map line_lost f.lost))) (answers_own_caller r (outcomes s.past)) ∙ ap (λ (n : ℕ). answers r (outcomes s.past) + n) (answers_own_caller r (map line_lost f.lost)))) in
     let lost : answers r (map line_lost f.lost) ≡ many r f.lost = answers_lost r f.lost ∙ many_filtered r f.lost in
     let hand : s.leftovers.in_hand ≡ untold s.past ++ option_to_list s.session.aside
-    = p.finishes.hand_is ∙ ap (λ (qs : List Request). qs ++ option_to_list s.session.aside) (hand_is (driving s.start) s.past p.fits.history.lawful (once_taken s.start s.session s.past p.fits)) in
+    = p.finishes.hand_is ∙ ap (λ (qs : List Request). qs ++ option_to_list s.session.aside) (hand_is (driving s.start) s.past (fits_in p.grown).history.lawful (once_taken s.start s.session s.past (fits_in p.grown))) in
     let places : many r s.rest.in_hand + many r f.lost ≡ many r s.leftovers.in_hand + many r f.more
     = sym (many_append r s.rest.in_hand f.lost) ∙ (ap (many r) f.places ∙ many_append r s.leftovers.in_hand f.more) in
     let in_hand_are : many r s.leftovers.in_hand ≡ many r (untold s.past) + many r (option_to_list s.session.aside) = ap (many r) hand ∙ many_append r (untold s.past) (option_to_list s.session.aside) in
-    let once = counts_once s.start s.session s.past p.fits r (omega (arith, whole, few)) in
+    let once = counts_once s.start s.session s.past (fits_in p.grown) r (omega (arith, whole, few)) in
     omega (arith, whole, told, lost, places, in_hand_are, once)
 
 -- ## Each outcome answers a request that was taken
@@ -254,14 +255,14 @@ spell_own kinds callers d s p c =
     let whole : many r all ≡ many r (taken_requests s.past) + (many r (option_to_list s.session.aside) + many r f.more)
     = many_append r (taken_requests s.past) (later_of kinds callers d s p) ∙ ap (λ (n : ℕ). many r (taken_requests s.past) + n) (many_append r (option_to_list s.session.aside) f.more) in
     let hand : s.leftovers.in_hand ≡ untold s.past ++ option_to_list s.session.aside
-    = p.finishes.hand_is ∙ ap (λ (qs : List Request). qs ++ option_to_list s.session.aside) (hand_is (driving s.start) s.past p.fits.history.lawful (once_taken s.start s.session s.past p.fits)) in
+    = p.finishes.hand_is ∙ ap (λ (qs : List Request). qs ++ option_to_list s.session.aside) (hand_is (driving s.start) s.past (fits_in p.grown).history.lawful (once_taken s.start s.session s.past (fits_in p.grown))) in
     let places : many r s.rest.in_hand + many r f.lost ≡ many r s.leftovers.in_hand + many r f.more
     = sym (many_append r s.rest.in_hand f.lost) ∙ (ap (many r) f.places ∙ many_append r s.leftovers.in_hand f.more) in
     let in_hand_are : many r s.leftovers.in_hand ≡ many r (untold s.past) + many r (option_to_list s.session.aside) = ap (many r) hand ∙ many_append r (untold s.past) (option_to_list s.session.aside) in
     let fewer = few_untold (is_told (outcomes s.past) r) (many r (untold s.past)) (many r (taken_requests s.past)) (many_untold r (outcomes s.past) (taken_requests s.past)) in
     omega (arith, whole, places, in_hand_are, fewer) in
     let told : list_all (answered_in all) (outcomes s.past) ≡ true
-    = all_wider (answered_in (taken_requests s.past)) (answered_in all) (λ o. any_more o (taken_requests s.past) (later_of kinds callers d s p)) (outcomes s.past) (all_answer (driving s.start) s.past p.fits.history.lawful) in
+    = all_wider (answered_in (taken_requests s.past)) (answered_in all) (λ o. any_more o (taken_requests s.past) (later_of kinds callers d s p)) (outcomes s.past) (all_answer (driving s.start) s.past (fits_in p.grown).history.lawful) in
     let one = own_answers c all [] (outcomes s.past) told in
     let other = own_answers c all [] lost (lost_answered all f.lost within) in
     ap (list_all (answered_in (of_caller c all))) (spell_told kinds callers d s p c).rest_are
@@ -383,17 +384,17 @@ spell_headline : (kinds : List UrcKind) (callers : ℕ) (d : EndView) (s : Spell
     → AreSubmitted ((d.taken ++ taken_of kinds callers d s p) ++ more) left cs → SpellHeadline cs s
 spell_headline kinds callers d s p more left cs submitted = record {
   leaves = λ newer older joins n. record {
-    is_prefix = leaves_once (driving s.start) older (lawful_part (driving s.start) newer older (subst (Lawful (driving s.start)) joins p.fits.history.lawful)) n;
+    is_prefix = leaves_once (driving s.start) older (lawful_part (driving s.start) newer older (subst (Lawful (driving s.start)) joins (fits_in p.grown).history.lawful)) n;
     order = λ i c at.
         let own = λ (q : Request). q.caller == c.place.number in
         let later = later_of kinds callers d s p in
-        order_of c.place.number c.submitted (of_caller c.place.number d.taken) ((of_caller c.place.number later ++ of_caller c.place.number more) ++ of_caller c.place.number left) s.start s.session s.past p.fits
+        order_of c.place.number c.submitted (of_caller c.place.number d.taken) ((of_caller c.place.number later ++ of_caller c.place.number more) ++ of_caller c.place.number left) s.start s.session s.past (fits_in p.grown)
         (submitted i c at ∙ parted own d.taken (taken_requests s.past) later more left) newer older joins n;
   };
-  none_after_close = while_open s.start s.past p.fits.history.lawful;
-  full = turns_are_full (driving s.start) s.past p.fits.history.in_turn;
-  answers = answers_own s.start s.session s.past p.fits;
-  hears = hears_each s.start s.session s.past p.fits;
+  none_after_close = while_open s.start s.past (fits_in p.grown).history.lawful;
+  full = turns_are_full (driving s.start) s.past (fits_in p.grown).history.in_turn;
+  answers = answers_own s.start s.session s.past (fits_in p.grown);
+  hears = hears_each s.start s.session s.past (fits_in p.grown);
 }
   where
     parted : (own : Request → Bool) (a b c m l : List Request) → filter own ((a ++ (b ++ c)) ++ m) ++ filter own l ≡ filter own a ++ (filter own b ++ ((filter own c ++ filter own m) ++ filter own l))

@@ -38,6 +38,7 @@ use Rattle.modem_history.proofs.outcomes.SingleOutcomes.{of_its_caller, uses_onc
 use Rattle.modem_history.proofs.requests.UntoldRequests.{all_answer, hand_is}
 use Rattle.modem_driver.specs.Headline.{AnswersOwn, Announces, HasEnd, HasOnePlace, HearsEach, Holds, InSubmittedOrder, IsHeadline, IsSettled, NoneAfterClose, Run, outcomes_of}
 use Rattle.modem_driver.proofs.replays.FullFrames.{turns_are_full}
+use Rattle.modem_driver.proofs.law_proofs.GrownHistories.{fits_in}
 use Rattle.modem_driver.proofs.law_proofs.RequestNumbers.{numbered_once}
 use Rattle.modem_driver.proofs.law_proofs.RequestPlaces.{counted_own, is_counted, one_place}
 use Rattle.modem_driver.proofs.law_proofs.SubmittedOrder.{Stretch, stretch_of}
@@ -62,7 +63,7 @@ submitted_are run s past f i c at =
     ∙ (ap (λ (qs : List Request). qs ++ of_caller n run.settlement.left) (filter-append (λ (q : Request). q.caller == n) (taken_requests past) (aside_of run))
     ∙ append_assoc (of_caller n (taken_requests past)) (of_caller n (aside_of run)) (of_caller n run.settlement.left)))
 
-room_before : (newer older : List Act) → TakesWithRoom (newer ++ older) → TakesWithRoom older
+pub room_before : (newer older : List Act) → TakesWithRoom (newer ++ older) → TakesWithRoom older
 room_before [] older h = h
 room_before (Took r ∷ newer) older h = room_before newer older h.1
 room_before (Got f ∷ newer) older h = room_before newer older h
@@ -75,7 +76,7 @@ room_before (Held d ∷ newer) older h = room_before newer older h
 room_before (Freed d ∷ newer) older h = room_before newer older h
 room_before (Given ∷ newer) older h = room_before newer older h
 
-taken_both : (newer older : List Act) → taken_requests (newer ++ older) ≡ taken_requests older ++ taken_requests newer
+pub taken_both : (newer older : List Act) → taken_requests (newer ++ older) ≡ taken_requests older ++ taken_requests newer
 taken_both [] older = sym (append-nil (taken_requests older))
 taken_both (Took r ∷ newer) older = ap (λ (qs : List Request). qs ++ r ∷ []) (taken_both newer older) ∙ append_assoc (taken_requests older) (taken_requests newer) (r ∷ [])
 taken_both (Got f ∷ newer) older = taken_both newer older
@@ -145,10 +146,10 @@ subscription_at [] i l e = absurd (some-ne-none l (sym e))
 subscription_at (x ∷ xs) zero l e = ap (λ (y : ListenerView). some y.subscription) (some-injective x l e)
 subscription_at (x ∷ xs) (suc i) l e = subscription_at xs i l e
 
-announces_each : (run : Run) (s : IsSettled run) (e : HasEnd run) → Each (Announces run e.past) run.listeners
+announces_each : (run : Run) (s : IsSettled run) (e : HasEnd run) → Each (Announces run run.past) run.listeners
 announces_each run s e i l at =
     let subscription = s.subscribed i l.subscription (subscription_at run.listeners i l at) in
-    let to = e.fits.heard.each l.subscription.place l.subscription.kind (ap (λ (ks : List UrcKind). get_elem? ks l.subscription.place) (sym s.kinds) ∙ subscription.0) in
+    let to = (fits_in e.grown).heard.each l.subscription.place l.subscription.kind (ap (λ (ks : List UrcKind). get_elem? ks l.subscription.place) (sym s.kinds) ∙ subscription.0) in
     let same : l.heard ++ slice_index_or run.settlement.unheard i [] ≡ to.since =
     (s.books.listeners i l at).lines
     ∙ (ap (λ (us : List (List Urc)). slice_index_or us l.subscription.place []) (s.announced ∙ ap (λ (d : session.EndView). d.announced) s.desk)
@@ -159,10 +160,10 @@ announces_each run s e i l at =
 -- ## What each caller holds
 
 -- its outcomes are those of the history
-outcomes_are : (run : Run) (s : IsSettled run) (e : HasEnd run) (i : ℕ) (c : CallerView) → get_elem? run.callers i ≡ some c → outcomes_of run i c ≡ session.caller_outcomes c.place.number (outcomes e.past)
+outcomes_are : (run : Run) (s : IsSettled run) (e : HasEnd run) (i : ℕ) (c : CallerView) → get_elem? run.callers i ≡ some c → outcomes_of run i c ≡ session.caller_outcomes c.place.number (outcomes run.past)
 outcomes_are run s e i c at =
     let n = c.place.number in
-    let to = e.fits.told.each n in
+    let to = (fits_in e.grown).told.each n in
     let same : c.got ++ slice_index_or run.settlement.untaken i [] ≡ to.since =
     (s.books.callers i c at).outcomes
     ∙ (ap (λ (os : List (List Outcome)). slice_index_or os n []) (s.told ∙ ap (λ (d : session.EndView). d.told) s.desk)
@@ -197,20 +198,20 @@ stands_once run s past f i c at r own in_it =
 has_one_place : (run : Run) (s : IsSettled run) (e : HasEnd run) (i : ℕ) (c : CallerView) → get_elem? run.callers i ≡ some c → (r : Request) → Contains c.submitted r → HasOnePlace (outcomes_of run i c) run.leftovers.in_hand run.settlement.left r
 has_one_place run s e i c at r in_it =
     let n = c.place.number in
-    let f = e.fits in
-    let once = once_taken run.start run.session e.past f in
-    let whole : c.submitted ≡ of_caller n (taken_requests e.past ++ (aside_of run ++ run.settlement.left)) =
-    submitted_are run s e.past f i c at
-    ∙ sym (filter-append (λ (q : Request). q.caller == n) (taken_requests e.past) (aside_of run ++ run.settlement.left) ∙ ap (λ (qs : List Request). of_caller n (taken_requests e.past) ++ qs) (filter-append (λ (q : Request). q.caller == n) (aside_of run) run.settlement.left)) in
+    let f = (fits_in e.grown) in
+    let once = once_taken run.start run.session run.past f in
+    let whole : c.submitted ≡ of_caller n (taken_requests run.past ++ (aside_of run ++ run.settlement.left)) =
+    submitted_are run s run.past f i c at
+    ∙ sym (filter-append (λ (q : Request). q.caller == n) (taken_requests run.past) (aside_of run ++ run.settlement.left) ∙ ap (λ (qs : List Request). of_caller n (taken_requests run.past) ++ qs) (filter-append (λ (q : Request). q.caller == n) (aside_of run) run.settlement.left)) in
     let own : r.caller ≡ n =
-    All-contains (λ q. q.caller ≡ n) (of_caller n (taken_requests e.past ++ (aside_of run ++ run.settlement.left))) r (of_its_own n (taken_requests e.past ++ (aside_of run ++ run.settlement.left))) (subst (λ (qs : List Request). Contains qs r) whole in_it) in
-    let answers : length (filter (λ o. is_for r o) (outcomes_of run i c)) ≡ length (filter (λ o. is_for r o) (outcomes e.past)) =
-    ap (λ (os : List Outcome). length (filter (λ o. is_for r o) os)) (outcomes_are run s e i c at ∙ ap (λ (m : ℕ). session.caller_outcomes m (outcomes e.past)) (sym own))
-    ∙ ap (λ (os : List Outcome). length os) (of_its_caller r (outcomes e.past)) in
-    let hand : run.leftovers.in_hand ≡ untold e.past ++ aside_of run = e.finishes.hand_is ∙ ap (λ (qs : List Request). qs ++ aside_of run) (hand_is (driving run.start) e.past f.history.lawful once) in
-    let few = (answers_once (driving run.start) e.past f.history.lawful).once (uses_once (taken_requests e.past) once) r in
-    let place = one_place r (outcomes e.past) (taken_requests e.past) (aside_of run) run.settlement.left few (all_answer (driving run.start) e.past f.history.lawful) (stands_once run s e.past f i c at r own in_it) in
-    let in_hand_are : length (filter (is_same r) run.leftovers.in_hand) ≡ many r (untold e.past ++ aside_of run) = many_filtered r run.leftovers.in_hand ∙ ap (many r) hand in
+    All-contains (λ q. q.caller ≡ n) (of_caller n (taken_requests run.past ++ (aside_of run ++ run.settlement.left))) r (of_its_own n (taken_requests run.past ++ (aside_of run ++ run.settlement.left))) (subst (λ (qs : List Request). Contains qs r) whole in_it) in
+    let answers : length (filter (λ o. is_for r o) (outcomes_of run i c)) ≡ length (filter (λ o. is_for r o) (outcomes run.past)) =
+    ap (λ (os : List Outcome). length (filter (λ o. is_for r o) os)) (outcomes_are run s e i c at ∙ ap (λ (m : ℕ). session.caller_outcomes m (outcomes run.past)) (sym own))
+    ∙ ap (λ (os : List Outcome). length os) (of_its_caller r (outcomes run.past)) in
+    let hand : run.leftovers.in_hand ≡ untold run.past ++ aside_of run = e.finishes.hand_is ∙ ap (λ (qs : List Request). qs ++ aside_of run) (hand_is (driving run.start) run.past f.history.lawful once) in
+    let few = (answers_once (driving run.start) run.past f.history.lawful).once (uses_once (taken_requests run.past) once) r in
+    let place = one_place r (outcomes run.past) (taken_requests run.past) (aside_of run) run.settlement.left few (all_answer (driving run.start) run.past f.history.lawful) (stands_once run s run.past f i c at r own in_it) in
+    let in_hand_are : length (filter (is_same r) run.leftovers.in_hand) ≡ many r (untold run.past ++ aside_of run) = many_filtered r run.leftovers.in_hand ∙ ap (many r) hand in
     let left_are = many_filtered r run.settlement.left in
     omega (arith, answers, place, in_hand_are, left_are)
 
@@ -252,9 +253,9 @@ holds_each run s e i c at =
     record {
       each = has_one_place run s e i c at;
       own =
-          ap (λ (qs : List Request). list_all (λ o. list_any (λ r. is_for r o) qs) (outcomes_of run i c)) (submitted_are run s e.past e.fits i c at)
-          ∙ (ap (list_all (λ o. list_any (λ r. is_for r o) (of_caller n (taken_requests e.past) ++ (of_caller n (aside_of run) ++ of_caller n run.settlement.left)))) (outcomes_are run s e i c at)
-          ∙ own_answers n (taken_requests e.past) (of_caller n (aside_of run) ++ of_caller n run.settlement.left) (outcomes e.past) (all_answer (driving run.start) e.past e.fits.history.lawful));
+          ap (λ (qs : List Request). list_all (λ o. list_any (λ r. is_for r o) qs) (outcomes_of run i c)) (submitted_are run s run.past (fits_in e.grown) i c at)
+          ∙ (ap (list_all (λ o. list_any (λ r. is_for r o) (of_caller n (taken_requests run.past) ++ (of_caller n (aside_of run) ++ of_caller n run.settlement.left)))) (outcomes_are run s e i c at)
+          ∙ own_answers n (taken_requests run.past) (of_caller n (aside_of run) ++ of_caller n run.settlement.left) (outcomes run.past) (all_answer (driving run.start) run.past (fits_in e.grown).history.lawful));
     }
 
 -- ## The headline
@@ -264,16 +265,15 @@ unfolding IsHeadline
 headline run s =
     let e = s.history in
     record {
-      past = e.past;
-      fits = e.fits;
+      fits = (fits_in e.grown);
       leaves = λ newer older joins d. record {
-        is_prefix = leaves_once (driving run.start) older (lawful_part (driving run.start) newer older (subst (Lawful (driving run.start)) joins e.fits.history.lawful)) d;
-        order = λ i c at. order_of c.place.number c.submitted [] (of_caller c.place.number (aside_of run) ++ of_caller c.place.number run.settlement.left) run.start run.session e.past e.fits (submitted_are run s e.past e.fits i c at) newer older joins d;
+        is_prefix = leaves_once (driving run.start) older (lawful_part (driving run.start) newer older (subst (Lawful (driving run.start)) joins (fits_in e.grown).history.lawful)) d;
+        order = λ i c at. order_of c.place.number c.submitted [] (of_caller c.place.number (aside_of run) ++ of_caller c.place.number run.settlement.left) run.start run.session run.past (fits_in e.grown) (submitted_are run s run.past (fits_in e.grown) i c at) newer older joins d;
       };
-      none_after_close = while_open run.start e.past e.fits.history.lawful;
-      full = turns_are_full (driving run.start) e.past e.fits.history.in_turn;
-      answers = answers_own run.start run.session e.past e.fits;
-      hears = hears_each run.start run.session e.past e.fits;
+      none_after_close = while_open run.start run.past (fits_in e.grown).history.lawful;
+      full = turns_are_full (driving run.start) run.past (fits_in e.grown).history.in_turn;
+      answers = answers_own run.start run.session run.past (fits_in e.grown);
+      hears = hears_each run.start run.session run.past (fits_in e.grown);
       announces = announces_each run s e;
       holds = holds_each run s e;
     }

@@ -30,3 +30,4 @@ pub mod CallerOffers
 pub mod ListenerOffers
 pub mod DeskOffers
 pub mod Backlogs
+pub mod MemoryNeeds

@@ -1,5 +1,5 @@
 //! Requests that the caller makes.
-ghost use Rattle.std.specs.Prelude.{◌≡◌, IfOk, IfErr, OnErr};
+ghost use Rattle.std.specs.Prelude.{◌≡◌, ◌↔◌, true, IfOk, IfErr, OnErr};
 ghost use Rattle.modem_driver.specs.Endpoints.{IsFull, Numbers, Refuses};
 ghost use Rattle.modem_driver.specs.declared.endpoint.error.RequestError.TheVariants as why;
 ghost use Rattle.modem_desk.specs.declared.request.Ask.TheVariants as Ask;
@@ -19,15 +19,16 @@ impl Endpoint {
     fn request(&mut self, ask: Ask) -> Result<u64, RequestRefused>
         ensures takes { IfOk result (λ n. Numbers self.old self.new ask n) }
         ensures refused { OnErr result (Refuses self.old self.new) }
-        ensures full { IfErr result (λ e. e.why ≡ why.Full → IsFull self.new) }
+        ensures full { IfErr result (λ e. (e.why ≡ why.Full) ↔ IsFull self.new) }
         ensures back { IfErr result (λ e. e.ask ≡ ask) }
     {
-        if self.machine.handle_frames().is_err() {
-            return Err(RequestRefused::new(RequestError::NoMemory, ask));
-        }
+        let handled = self.machine.handle_frames();
         if self.next == u64::MAX || self.machine.is_full() {
             return Err(RequestRefused::new(RequestError::Full, ask));
         }
+        let Ok(()) = handled else {
+            return Err(RequestRefused::new(RequestError::NoMemory, ask));
+        };
         let number = self.next;
         let request = Request {
             caller: CALLER,
@@ -43,14 +44,21 @@ impl Endpoint {
 }
 
 impl Endpoint {
+    /// Whether a request would be refused as Full: 128 requests are in hand or told and not polled, or all numbers are used up.
+    pub fn is_full(&self) -> bool
+        ensures { (result ≡ true) ↔ IsFull self.now }
+    {
+        self.next == u64::MAX || self.machine.is_full()
+    }
+
     /// Asks for a connection to be opened, and says the request's number. What comes of it is an
-    /// outcome of that number. It tries the frame at hand first. Refusals, after which nothing but the
+    /// outcome of that number. It handles the frames at hand first. Refusals, after which nothing but the
     /// frames at hand has changed and the number is still the next: 2 Full where 128 requests are in
-    /// hand or told and not polled, or all numbers are used up; 1 NoMemory.
+    /// hand or told and not polled, or all numbers are used up; 1 NoMemory, where it isn't full.
     pub fn open(&mut self, dlci: Dlci) -> Result<u64, RequestError>
         ensures takes { IfOk result (λ n. Numbers self.old self.new (Ask.OpenChannel dlci) n) }
         ensures refused { OnErr result (Refuses self.old self.new) }
-        ensures full { IfErr result (λ e. e ≡ why.Full → IsFull self.new) }
+        ensures full { IfErr result (λ e. (e ≡ why.Full) ↔ IsFull self.new) }
     {
         match self.request(Ask::OpenChannel(dlci)) {
             Ok(number) => Ok(number),
@@ -62,7 +70,7 @@ impl Endpoint {
     pub fn close(&mut self, dlci: Dlci) -> Result<u64, RequestError>
         ensures takes { IfOk result (λ n. Numbers self.old self.new (Ask.CloseChannel dlci) n) }
         ensures refused { OnErr result (Refuses self.old self.new) }
-        ensures full { IfErr result (λ e. e ≡ why.Full → IsFull self.new) }
+        ensures full { IfErr result (λ e. (e ≡ why.Full) ↔ IsFull self.new) }
     {
         match self.request(Ask::CloseChannel(dlci)) {
             Ok(number) => Ok(number),
@@ -75,7 +83,7 @@ impl Endpoint {
     pub fn command(&mut self, dlci: Dlci, line: CommandLine) -> Result<u64, RequestRefused>
         ensures takes { IfOk result (λ n. Numbers self.old self.new (Ask.Command dlci line) n) }
         ensures refused { OnErr result (Refuses self.old self.new) }
-        ensures full { IfErr result (λ e. e.why ≡ why.Full → IsFull self.new) }
+        ensures full { IfErr result (λ e. (e.why ≡ why.Full) ↔ IsFull self.new) }
         ensures back { IfErr result (λ e. e.ask ≡ Ask.Command dlci line) }
     {
         self.request(Ask::Command(dlci, line))
@@ -86,7 +94,7 @@ impl Endpoint {
     pub fn probe(&mut self, octets: ProbeData) -> Result<u64, RequestRefused>
         ensures takes { IfOk result (λ n. Numbers self.old self.new (Ask.Probe octets) n) }
         ensures refused { OnErr result (Refuses self.old self.new) }
-        ensures full { IfErr result (λ e. e.why ≡ why.Full → IsFull self.new) }
+        ensures full { IfErr result (λ e. (e.why ≡ why.Full) ↔ IsFull self.new) }
         ensures back { IfErr result (λ e. e.ask ≡ Ask.Probe octets) }
     {
         self.request(Ask::Probe(octets))
@@ -96,7 +104,7 @@ impl Endpoint {
     pub fn stop(&mut self) -> Result<u64, RequestError>
         ensures takes { IfOk result (λ n. Numbers self.old self.new Ask.Stop n) }
         ensures refused { OnErr result (Refuses self.old self.new) }
-        ensures full { IfErr result (λ e. e ≡ why.Full → IsFull self.new) }
+        ensures full { IfErr result (λ e. (e ≡ why.Full) ↔ IsFull self.new) }
     {
         match self.request(Ask::Stop) {
             Ok(number) => Ok(number),

@@ -1,5 +1,5 @@
 //! Time that passes, and the end of the line.
-ghost use Rattle.std.specs.Prelude.{◌≡◌, ◌≢◌, List, true, OnOk, OnErr};
+ghost use Rattle.std.specs.Prelude.{◌≡◌, ◌≢◌, ◌↔◌, List, true, OnOk, OnErr};
 ghost use Rattle.std.specs.List.{list_any};
 ghost use Rattle.modem_desk.specs.Ends.{DriverView};
 ghost use Rattle.modem_history.specs.Acts.{Act};
@@ -14,16 +14,22 @@ use mux_frame::Dlci;
 
 impl Endpoint {
     /// One T1 has passed (27.010, 5.7.3): SABM and DISC that weren't answered are sent again, and at the
-    /// fourth tick what waits is given up. It tries the frame at hand first. Refusals, after which
-    /// nothing but the frames at hand has changed: 3 Failed where the line was lost; 1 NoMemory.
+    /// fourth tick what waits is given up. It handles the frames at hand first. Refusals, after which
+    /// nothing but the frames at hand has changed: 3 Failed where the line was lost; 1 NoMemory, where
+    /// it wasn't.
     #[tactic(auto, using(crate::proofs::endpoints::Time::ticks, crate::proofs::endpoints::Requests::refuses))]
     pub fn tick(&mut self) -> Result<(), SessionFault>
         ensures ticks { OnOk result ((l : LineView) (d : DriverView) → Ticks l d self.old self.new) }
         ensures refused { OnErr result (Refuses self.old self.new) }
-        ensures failed { result ≡ Err fault.Failed → self.new.machine.core.lost ≡ true }
+        ensures failed { (result ≡ Err fault.Failed) ↔ (self.old.machine.core.lost ≡ true) }
+        ensures lost { result ≡ Err fault.Failed → self.new.machine.core.lost ≡ true }
         ensures not_line { result ≢ Err fault.Line }
     {
-        self.machine.handle_frames()?;
+        let handled = self.machine.handle_frames();
+        if self.machine.core.lost {
+            return Err(SessionFault::Failed);
+        }
+        handled?;
         self.machine.tick()
     }
 
@@ -36,22 +42,25 @@ impl Endpoint {
     }
 
     /// The caller's line has failed or ended: everyone in hand is told LineLost, and nothing is sent any
-    /// more. It tries the frame at hand first. Refusals, after which nothing but the frames at hand has
-    /// changed: 3 Failed where the line was lost before; 1 NoMemory.
+    /// more. It handles the frames at hand first. Refusals, after which nothing but the frames at hand has
+    /// changed: 3 Failed where the line was lost before; 1 NoMemory, where it wasn't.
     #[tactic(auto, using(crate::proofs::endpoints::Time::loses, crate::proofs::endpoints::Time::bare_after, crate::proofs::endpoints::Requests::refuses))]
     pub fn line_lost(&mut self) -> Result<(), SessionFault>
         ensures loses { OnOk result ((l : LineView) (d : DriverView) → Loses l d self.old self.new) }
         ensures gone { OnOk result (self.new.machine.core.lost ≡ true) }
         ensures refused { OnErr result (Refuses self.old self.new) }
-        ensures failed { result ≡ Err fault.Failed → self.new.machine.core.lost ≡ true }
+        ensures failed { (result ≡ Err fault.Failed) ↔ (self.old.machine.core.lost ≡ true) }
+        ensures lost { result ≡ Err fault.Failed → self.new.machine.core.lost ≡ true }
         ensures not_line { result ≢ Err fault.Line }
     {
-        self.machine.handle_frames()?;
+        let frames = self.machine.handle_frames();
         if self.machine.core.lost {
             return Err(SessionFault::Failed);
         }
+        frames?;
         self.machine.lose_line()
     }
+
     /// How many ticks in a row have found the same command first in hand on this connection, by every history that the endpoint
     /// fits: for so many ticks its answer hasn't ended. `None` where no command of the connection is in hand. Commands behind
     /// the first aren't counted. The count stops at `u64::MAX`. No command is given up by itself: a caller that finds the count

@@ -3,6 +3,7 @@ ghost use Rattle.std.specs.Prelude.{◌≡◌, IfOk, OnErr};
 ghost use Rattle.modem_history.specs.Sessions.{LineView};
 ghost use Rattle.modem_desk.specs.Ends.{DriverView};
 ghost use Rattle.modem_driver.specs.BacklogChecks.{ChecksOne};
+ghost use Rattle.modem_driver.specs.MemoryNeeds.{OwesFlow};
 ghost use Rattle.modem_driver.specs.TurnSteps.{turn_state, Checks, ChecksPart};
 ghost use Rattle.modem_driver.specs.declared.session.error.SessionFault.TheVariants as fault;
 
@@ -18,6 +19,7 @@ impl Machine {
     fn check_backlog(&mut self, dlci: Dlci) -> Result<bool, SessionFault>
         ensures checks { IfOk result (λ moved. ChecksOne dlci.number self.old self.new moved) }
         ensures err { OnErr result (self.new ≡ self.old) }
+        ensures owes { OnErr result (OwesFlow self.new) }
         ensures no_memory { OnErr result (result ≡ Err fault.NoMemory) }
     {
         if !self.core.checks(dlci) {
@@ -27,7 +29,8 @@ impl Machine {
         match self.core.backlog(dlci, lines) {
             Ok(acts) => Ok(!acts.is_empty()),
             Err(CoreError::NoRoom) => Ok(false),
-            Err(_) => Err(SessionFault::NoMemory),
+            Err(CoreError::NoMemory) => Err(SessionFault::NoMemory),
+            Err(CoreError::BadN1) => Err(SessionFault::NoMemory),
         }
     }
 
@@ -40,6 +43,7 @@ impl Machine {
         ensures part { OnErr result ((l : LineView) (d : DriverView)
             → ChecksPart (turn_state l d self.old) (turn_state l d self.new)) }
         ensures stays { self.new ≡ record self.old { core = self.new.core } }
+        ensures owes { OnErr result (OwesFlow self.new) }
         ensures no_memory { OnErr result (result ≡ Err fault.NoMemory) }
     {
         if self.core.holds_none() && self.waiting.is_few() {

@@ -18,6 +18,7 @@ impl Machine {
         ensures unfed { self.new.unfed ≡ self.old.unfed }
         ensures aside { self.new.aside ≡ self.old.aside }
         ensures unwritten { self.new.unwritten ≡ self.old.unwritten }
+        ensures lost { self.new.core.lost ≡ self.old.core.lost }
         ensures err { OnErr result (self.new ≡ self.old) }
         ensures at_hand { OnErr result (self.old.deframer.next ≢ None) }
         ensures no_memory { OnErr result (result ≡ Err fault.NoMemory) }

@@ -18,6 +18,7 @@ impl Machine {
         ensures at_hand { OnErr result (self.new.deframer.next ≢ None) }
         ensures unfed { self.new.unfed ≡ self.old.unfed }
         ensures aside { self.new.aside ≡ self.old.aside }
+        ensures lost { self.new.core.lost ≡ self.old.core.lost }
         ensures no_memory { OnErr result (result ≡ Err fault.NoMemory) }
     {
         while self.get_one()? {}

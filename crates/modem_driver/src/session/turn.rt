@@ -1,6 +1,7 @@
 //! Turns of a session.
-ghost use Rattle.std.specs.Prelude.{◌≡◌, true, Err, IfOk, IfErr, OnErr};
+ghost use Rattle.std.specs.Prelude.{◌≡◌, ◌≢◌, true, false, None, Err, IfOk, IfErr, OnErr};
 ghost use Rattle.modem_driver.specs.SessionStates.{has_lost_line, line_by, TakesMore};
+ghost use Rattle.modem_driver.specs.MemoryNeeds.{IsShortOfMemory, OwesFlow};
 ghost use Rattle.modem_driver.specs.TurnSteps.{Places, Checks, ChecksPart, SendsOn, Writes, Gets, ReadsOn, TakesOne, KeepsAside};
 ghost use Rattle.modem_driver.specs.SessionTurns.{standing_of, turn_answer, fault_of, Answers, HasNoPlace, HasTurned, LeavesLost, LosesOr, TakesTurn, Faults};
 ghost use Rattle.modem_driver.specs.declared.session.error.SessionFault.TheVariants as fault;
@@ -66,6 +67,7 @@ impl<L: SerialLine, R: Wait + Drop> Session<L, R> {
         ensures part { OnErr result (ChecksPart
             (standing_of (line_by L.received L.sent L.calls L.failures L.empty_reads L.stalled_writes) self.old)
             (standing_of (line_by L.received L.sent L.calls L.failures L.empty_reads L.stalled_writes) self.new)) }
+        ensures owes { OnErr result (OwesFlow self.new.machine) }
         ensures no_memory { OnErr result (result ≡ Err fault.NoMemory) }
         ensures line { self.new.line ≡ self.old.line }
     {
@@ -99,6 +101,7 @@ impl<L: SerialLine, R: Wait + Drop> Session<L, R> {
             (standing_of (line_by L.received L.sent L.calls L.failures L.empty_reads L.stalled_writes) self.old)
             (standing_of (line_by L.received L.sent L.calls L.failures L.empty_reads L.stalled_writes) self.new) moved) }
         ensures err { OnErr result (self.new ≡ self.old) }
+        ensures at_hand { OnErr result (self.new.machine.deframer.next ≢ None) }
         ensures no_memory { OnErr result (result ≡ Err fault.NoMemory) }
         ensures line { self.new.line ≡ self.old.line }
     {
@@ -137,6 +140,8 @@ impl<L: SerialLine, R: Wait + Drop> Session<L, R> {
         ensures line { self.new.line ≡ self.old.line }
         ensures loses { LosesOr result (standing_of (line_by L.received L.sent L.calls L.failures L.empty_reads L.stalled_writes) self.old)
             (standing_of (line_by L.received L.sent L.calls L.failures L.empty_reads L.stalled_writes) self.new) }
+        ensures memory { result ≡ fault.NoMemory
+            → (self.new.machine.faulty ≡ true) × (self.new.machine.core.lost ≡ false) }
     {
         if self.machine.core.lost {
             return SessionFault::Failed;
@@ -152,9 +157,10 @@ impl<L: SerialLine, R: Wait + Drop> Session<L, R> {
     /// into the output; writes; handles the frame at hand; where no octets wait to be fed, reads, and
     /// feeds the deframer; takes a request, where those in hand and the outcomes that wait are fewer
     /// than 128. Faults, which end the turn: 1 NoMemory, after which what was done stands and the next
-    /// turn goes on; 2 Line, where a call on the line failed in this turn, or in an earlier one since
+    /// turn goes on with what needed memory; 2 Line, where a call on the line failed in this turn, or in an earlier one since
     /// which every turn answered NoMemory; 3 Failed in every turn after that, which still offers to the
     /// desk what waits.
+    #[tactic(auto, using(crate::proofs::sessions::steps::MemoryNeeds::short_of_loss))]
     pub fn turn(&mut self) -> Result<Turn, SessionFault>
         ensures turns { IfOk result (λ says. TakesTurn (line_by L.received L.sent L.calls L.failures L.empty_reads L.stalled_writes)
             self.old self.new (turn_answer says)) }
@@ -164,6 +170,8 @@ impl<L: SerialLine, R: Wait + Drop> Session<L, R> {
             (standing_of (line_by L.received L.sent L.calls L.failures L.empty_reads L.stalled_writes) self.new) }
         ensures lost { IfErr result (λ why. LeavesLost why self.new) }
         ensures failed { has_lost_line self.old ≡ true → result ≡ Err fault.Failed }
+        ensures memory { result ≡ Err fault.NoMemory → IsShortOfMemory
+            (standing_of (line_by L.received L.sent L.calls L.failures L.empty_reads L.stalled_writes) self.new) }
         ensures takes { TakesMore self.old.driver self.new.driver }
         ensures full { IfOk result (λ says. HasNoPlace self.new.driver (turn_answer says)) }
         ensures beyond { L.other_side self.new.line ≡ L.other_side self.old.line }

@@ -95,7 +95,7 @@ module _ {X : Type 0} (look : X → LineView) where
   not_so true e = cc
 
   -- where it has ended, every history says so
-  has_ended_says : (s : SessionState X) → has_ended s.machine ≡ true → (b : Beginning) (past : List Act) → FitsAll b look s past → HasEnded b (session_view look s) past
+  pub has_ended_says : (s : SessionState X) → has_ended s.machine ≡ true → (b : Beginning) (past : List Act) → FitsAll b look s past → HasEnded b (session_view look s) past
   has_ended_says s e b past f =
       let k = s.machine in
       let p1 = and_parts (is_stopped k.course) (not k.core.lost && ((length k.unwritten == 0) && ((length k.core.station.queue == 0) && (length k.unplaced == 0)))) e in

@@ -44,7 +44,7 @@ use Rattle.modem_driver.proofs.sessions.steps.ListenedLines.{calls_hear}
 use Rattle.modem_driver.proofs.sessions.steps.WaitingDeliveries.{received_part, sent_part}
 use Rattle.modem_driver.proofs.sessions.polls.StopsInHand.{ends, none_ends}
 
-may_ask : (b : Beginning) (l : LineView) (d : DriverView) (k : Machine) (past : List Act) → FitsMachine b l d k past → MayAsk (driving b) k.core past
+pub may_ask : (b : Beginning) (l : LineView) (d : DriverView) (k : Machine) (past : List Act) → FitsMachine b l d k past → MayAsk (driving b) k.core past
 may_ask b l d k past f = record { setting = f.inside.setting; fits = f.inside.fits; holds = f.inside.holds; run = is_run b l d k past f }
 
 flow_bare : (n : ℕ) (go : Bool) (past : List Act) → IsBare (flow_act n go) past

@@ -6,6 +6,7 @@ use Rattle.modem_driver.specs.BacklogChecks.{ChecksOne}
 use Rattle.modem_driver.specs.LineQueues.{AreFewOnEach}
 use Rattle.modem_driver.specs.SessionStates.{Machine}
 use Rattle.modem_driver.proofs.sessions.steps.Backlogs.{checks_few, checks_first, checks_more, checks_all, checks_part, same_number}
+use Rattle.modem_driver.proofs.sessions.steps.MemoryNeeds.{still_owes}
 use Rattle.modem_driver.proofs.machine.Machine.check_backlogs.Goals as goal
 
 pub loop-number-init : goal.loop-number-init
@@ -40,3 +41,6 @@ returns-then-is_few-clause-checks c =
     let few : AreFewOnEach k.unannounced = subst (λ (x : Machine). AreFewOnEach x.unannounced) c.self.view_is (c.is_few.ensures c.if-is_few.true) in
     let free : CallsForNothing k.core = subst (λ (x : Machine). CallsForNothing x.core) c.self.view_is (c.holds_none.ensures c.if-holds_none.true) in
     checks_all k k 62 false refl (checks_few k 61 (omega arith) few free)
+
+pub returns-in_err-moved-clause-owes : goal.returns-in_err-moved-clause-owes
+returns-in_err-moved-clause-owes c = still_owes c.check_backlog.new.self c.from_residual.result c.in_err-moved.ensures.owes

@@ -8,6 +8,7 @@ invariant-loop l = record {
   handles : HandlesFrames l.initial.self l.self;
   unfed : l.self.unfed ≡ l.initial.self.unfed;
   aside : l.self.aside ≡ l.initial.self.aside;
+  lost : l.self.core.lost ≡ l.initial.self.core.lost;
 }
 
 abbrev pub decreases-loop : goal.decreases-loop

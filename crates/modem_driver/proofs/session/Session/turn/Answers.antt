@@ -7,6 +7,7 @@ use Rattle.modem_driver.specs.SessionTurns.{Answers, TakesTurn, Faults, standing
 use Rattle.modem_driver.proofs.sessions.meanings.TurnMeanings.{goes_turn}
 use Rattle.modem_driver.proofs.sessions.meanings.TurnEnds.{all_turned, failed_before, lost_at_first, faulty_at_first, lost_first, lost_writing, lost_reading, checks_in_vain, gets_in_vain, takes_in_vain, all_or}
 use Rattle.modem_driver.proofs.sessions.meanings.FullRings.{none_free}
+use Rattle.modem_driver.proofs.sessions.steps.MemoryNeeds.{short_aside, short_at_hand, short_of_flow}
 use Rattle.modem_driver.proofs.sessions.steps.TakenRequests.{kept_one, lost_driver, part_driver, read_driver, took_none, took_one, wrote_driver}
 use Rattle.modem_driver.proofs.session.Session.turn.Goals as goal
 
@@ -205,3 +206,18 @@ returns-in_default-take_one-clause-beyond g c = ap g.L.SerialLine.other_side c.t
 
 pub returns-clause-beyond : goal.returns-clause-beyond
 returns-clause-beyond g c = ap g.L.SerialLine.other_side c.take_one.ensures.line ∙ (c.read_on-read.ensures.beyond ∙ (ap g.L.SerialLine.other_side c.get_one.ensures.line ∙ (c.write_on-wrote.ensures.beyond ∙ (ap g.L.SerialLine.other_side c.send_on-sent.ensures.line ∙ (ap g.L.SerialLine.other_side c.check_backlogs.ensures.line ∙ ap g.L.SerialLine.other_side c.place-placed.ensures.line)))))
+
+pub returns-in_default-clause-memory : goal.returns-in_default-clause-memory
+returns-in_default-clause-memory g c _ =
+    let look = line_by g.L.SerialLine.received g.L.SerialLine.sent g.L.SerialLine.calls g.L.SerialLine.failures g.L.SerialLine.empty_reads g.L.SerialLine.stalled_writes in
+    short_of_flow (standing_of look c.check_backlogs.new.self) c.in_default.ensures.owes
+
+pub returns-in_default-get_one-clause-memory : goal.returns-in_default-get_one-clause-memory
+returns-in_default-get_one-clause-memory g c _ =
+    let look = line_by g.L.SerialLine.received g.L.SerialLine.sent g.L.SerialLine.calls g.L.SerialLine.failures g.L.SerialLine.empty_reads g.L.SerialLine.stalled_writes in
+    short_at_hand (standing_of look c.get_one.new.self) c.in_default-get_one.ensures.at_hand
+
+pub returns-in_default-take_one-clause-memory : goal.returns-in_default-take_one-clause-memory
+returns-in_default-take_one-clause-memory g c _ =
+    let look = line_by g.L.SerialLine.received g.L.SerialLine.sent g.L.SerialLine.calls g.L.SerialLine.failures g.L.SerialLine.empty_reads g.L.SerialLine.stalled_writes in
+    short_aside (standing_of look c.take_one.new.self) c.in_default-take_one.ensures.keeps.one_aside.0
