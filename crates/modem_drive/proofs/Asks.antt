@@ -1,14 +1,19 @@
 -- What the lines of the input ask is submitted.
-use Rattle.std.specs.Prelude.{◌≡◌, ℕ, ◌+◌, Bool, true, false, List, [], ◌∷◌, ◌++◌, length, Option, None, Some, Result, Ok, Err, IfSome, OnErr, OnOk, refl}
+use Rattle.std.specs.Prelude.{◌≡◌, ℕ, ◌+◌, Bool, true, false, List, [], ◌∷◌, ◌++◌, filter, length, map, Option, None, Some, Result, Ok, Err, IfSome, OnErr, OnOk, refl, if◌then◌else◌}
 use Rattle.std.proofs.Common.{ap, arith, sym, subst, append-nil, ◌∙◌}
+use Rattle.std.proofs.lemmas.List.{map-append}
+use Rattle.std.proofs.lemmas.List.Elements.{filter-append}
 use Rattle.std.specs.Io.KnownBytes.{Consumes, IsAtEnd}
 use Rattle.modem_desk.specs.declared.request.Ask.{Ask}
 use Rattle.modem_desk.specs.declared.request.Request.{Request}
 use Rattle.modem_texts.specs.Input.{input_lines}
-use Rattle.modem_drive.specs.Asking.{AsksOn, HasAsked, IsThrough, LinesAsk, PlanView, NamesRead, ReadsAll, ReadsLine, StopsOn, asks_of}
+use Rattle.modem_drive.specs.Asking.{AsksOn, HasAsked, IsThrough, LinesAsk, PlanView, NamesRead, ReadsAll, ReadsLine, StopsOn, asks_of, is_command}
 use Rattle.modem_drive.specs.Input.{HasRead, LinesView, Reads}
+use Rattle.modem_drive.specs.Plans.{after_asking}
 use Rattle.modem_drive.specs.Running.{plan_begun}
 use Rattle.modem_drive.specs.Saying.{NamesBad}
+use Rattle.modem_drive.specs.declared.users.Control.{Control}
+use Rattle.modem_drive.specs.declared.users.Control.TheVariants as control
 use Rattle.modem_drive.proofs.Said.{names_at, names_none}
 
 apart : true ≡ false → ⊥
@@ -37,10 +42,18 @@ pub stops_either : {T E : Type 0} (r : Result T E) (p q : PlanView) (a b : List 
 stops_either (Ok x) p q a b u v asks stops = stops_here p q a b u v asks
 stops_either (Err why) p q a b u v asks stops = stops
 
--- nothing was asked
-pub asks_same : (p q : PlanView) (a b : List Request) (said : Option (List ℕ)) → q ≡ p → b ≡ a → AsksOn p q a b said said
-asks_same p q a b said plan submitted =
-    subst (λ (x : PlanView × List Request). AsksOn p x.0 a x.1 said said) (λ i. (sym plan i, sym submitted i)) (asks_none p a said)
+-- no line was asked
+pub asks_same : (p q : PlanView) (a b : List Request) (said : Option (List ℕ)) → q ≡ p → asks_of b ≡ asks_of a → AsksOn p q a b said said
+asks_same p q a b said plan submitted = subst (λ (x : PlanView). AsksOn p x a b said said) (sym plan) (record {
+  on = λ first silent h. record {
+    lines = h.lines;
+    read = h.read;
+    counted = h.counted;
+    asked = subst (λ (l : List Ask). LinesAsk h.lines (l ++ p.next)) (sym submitted) h.asked;
+    named = h.named;
+    through = h.through;
+  };
+})
 
 length_more : (lines : List (List ℕ)) (line : List ℕ) → length (lines ++ line ∷ []) ≡ length lines + 1
 length_more [] line = refl
@@ -83,12 +96,17 @@ asks_waits old new rs said going reads stays = record {
   };
 }
 
-asks_append : (rs : List Request) (r : Request) → asks_of (rs ++ r ∷ []) ≡ asks_of rs ++ r.ask ∷ []
-asks_append [] r = refl
-asks_append (q ∷ rs) r = ap (λ (l : List Ask). q.ask ∷ l) (asks_append rs r)
+asks_append : (rs : List Request) (r : Request) (b : Bool) → is_command r.ask ≡ b → asks_of (rs ++ r ∷ []) ≡ asks_of rs ++ (if b then r.ask ∷ [] else [])
+asks_append rs r b is =
+    ap (filter is_command) (map-append (λ (q : Request). q.ask) rs (r ∷ []))
+    ∙ filter-append is_command (map (λ (q : Request). q.ask) rs) (r.ask ∷ [])
+    ∙ ap (λ (c : Bool). asks_of rs ++ (if c then r.ask ∷ [] else [])) is
 
-pub asks_more : (new old : List Request) (r : Request) → new ≡ old ++ r ∷ [] → asks_of new ≡ asks_of old ++ r.ask ∷ []
-asks_more new old r e = ap asks_of e ∙ asks_append old r
+pub asks_command : (new old : List Request) (r : Request) → new ≡ old ++ r ∷ [] → is_command r.ask ≡ true → asks_of new ≡ asks_of old ++ r.ask ∷ []
+asks_command new old r e is = ap asks_of e ∙ asks_append old r true is
+
+pub asks_other : (new old : List Request) (r : Request) → new ≡ old ++ r ∷ [] → is_command r.ask ≡ false → asks_of new ≡ asks_of old
+asks_other new old r e is = ap asks_of e ∙ asks_append old r false is ∙ append-nil (asks_of old)
 
 -- of the same plan
 pub asks_from : (view old new : PlanView) (a b : List Request) (said more : Option (List ℕ)) → view ≡ old → AsksOn view new a b said more → AsksOn old new a b said more
@@ -108,13 +126,13 @@ asks_submitted old new a b said same more = subst (λ (p : PlanView). AsksOn old
 })
 
 -- a Stop was asked
-pub asks_stops : (old new : PlanView) (rs : List Request) (said : Option (List ℕ)) → IsThrough old → new ≡ record old { stopping = true } → AsksOn old new rs rs said said
-asks_stops old new rs said through same = subst (λ (p : PlanView). AsksOn old p rs rs said said) (sym same) (record {
+pub asks_stops : (old new : PlanView) (a b : List Request) (said : Option (List ℕ)) → IsThrough old → new ≡ record old { stopping = true } → asks_of b ≡ asks_of a → AsksOn old new a b said said
+asks_stops old new a b said through same none = subst (λ (p : PlanView). AsksOn old p a b said said) (sym same) (record {
   on = λ first silent h. record {
     lines = h.lines;
     read = h.read;
     counted = h.counted;
-    asked = h.asked;
+    asked = subst (λ (l : List Ask). LinesAsk h.lines (l ++ old.next)) (sym none) h.asked;
     named = h.named;
     through = λ e. record { ended = through.ended; no_text = through.no_text; no_next = through.no_next };
   };
@@ -181,3 +199,10 @@ pub names_stopped : (input : Option (List ℕ)) (p : PlanView) (begun : List Req
 names_stopped input p begun silent said same none stops =
     let h : StopsOn (plan_begun input) begun silent said = subst (λ (q : PlanView). StopsOn q begun silent said) same stops in
     names_read input h.last h.submitted silent said (has_asked input h.last begun h.submitted silent said none h.asks)
+
+-- ## Something is asked beside the lines
+
+pub asks_after : (a : Control) (old new : PlanView) (rs ss : List Request) (said : Option (List ℕ)) → (a ≡ control.Stop → IsThrough old) → new ≡ after_asking a old → asks_of ss ≡ asks_of rs → AsksOn old new rs ss said said
+asks_after control.Stop old new rs ss said through same none = asks_stops old new rs ss said (through refl) same none
+asks_after (control.Open d) old new rs ss said through same none = asks_same old new rs ss said same none
+asks_after (control.Close d) old new rs ss said through same none = asks_same old new rs ss said same none

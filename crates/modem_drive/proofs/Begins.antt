@@ -1,6 +1,7 @@
 -- How a drive begins.
-use Rattle.std.specs.Prelude.{◌≡◌, ◌+◌, ◌<◌, ℕ, All, Bool, zero, suc, List, [], ◌∷◌, ◌++◌, Option, None, Some, drop, get_or, length, map, refl, replicate, slice_index_or, take, Result, Ok, Err, IfOk, OnErr}
-use mathlib.Core.Option.{some}
+use Rattle.std.specs.Prelude.{◌≡◌, ◌+◌, ◌<◌, ℕ, All, Bool, true, false, zero, suc, List, [], ◌∷◌, ◌++◌, Option, None, Some, get_or, length, map, refl, replicate, slice_index_or, Result, Ok, Err, IfOk, OnErr}
+use mathlib.Core.Option.{some, some-ne-none}
+use Rattle.std.proofs.lemmas.Bool.{false≢true}
 use lib.ListN.{get_elem?}
 use Rattle.std.specs.Io.KnownBytes.{Appends}
 use Rattle.std.proofs.lemmas.List.Elements.{All-nil}
@@ -14,26 +15,30 @@ use Rattle.modem_history.specs.Sessions.{LineView}
 use Rattle.modem_driver.specs.SessionStates.{FitsAll, SessionState, beginning_by}
 use Rattle.modem_drive.specs.declared.users.UnderWay.{UnderWay}
 use Rattle.modem_drive.specs.declared.users.Users.{Users}
-use Rattle.modem_drive.specs.Asking.{AsksOn, HasAsked, NamesRead, PlanView, StopsOn}
+use Rattle.modem_drive.specs.Asking.{AsksOn, HasAsked, NamesRead, PlanView, StopsOn, asks_of}
+use Rattle.modem_drive.specs.Channels.{KeepsOrder, told_at}
+use Rattle.modem_drive.specs.declared.channels.ChannelState.{ChannelState}
+use Rattle.modem_drive.specs.declared.channels.ChannelState.TheVariants as state
 use Rattle.modem_drive.specs.Running.{Begins, DrivesInput, Drove, HasEntered, IsNewDesk, kinds_by, plan_begun}
 use Rattle.modem_drive.specs.Ending.{HasDriven, HasEndedBy}
 use Rattle.modem_drive.specs.declared.fault.DriveFault.{DriveFault}
 use Rattle.modem_drive.specs.declared.running.Driven.{Driven}
 use Rattle.modem_drive.proofs.Asks.{all_asked, asks_same, asks_then, has_asked, names_read, names_stopped}
 use Rattle.modem_desk.specs.declared.settling.Settled.{Settled}
-use Rattle.modem_drive.specs.Showing.{HasShown, IsLine, IsRightPiece, count_on}
+use Rattle.modem_drive.specs.Showing.{HasShown, IsAsked, IsLine, IsRightPiece, count_asked, count_on}
 
 pub begins : {X : Type 0} (look : X → LineView) (rules : Rules) (n1 : ℕ) (line : X) (d : DriverView) (s : SessionState X) (users : Users)
-    → FitsAll (beginning_by (dialect_of rules) n1 (look line) d) look s [] → (s.line ≡ line) × (s.driver ≡ d) → IsNewDesk rules d → IsWhole d.desk (map place_of (users.lines ∷ users.control ∷ []))
-    → AreSubscribed d.desk (map subscription_of users.listeners.items) → ((out : Option (List ℕ)) → HasShown out out users) → users.lines.submitted ≡ [] → users.dialect ≡ rules → Begins look rules n1 line s users
-begins look rules n1 line d s users fits same new whole subscribed shown none_asked dialect = record {
+    → FitsAll (beginning_by (dialect_of rules) n1 (look line) d) look s [] → (s.line ≡ line) × (s.driver ≡ d) → IsNewDesk rules d → IsWhole d.desk (map place_of (users.caller ∷ []))
+    → AreSubscribed d.desk (map subscription_of users.listeners.items) → ((out : Option (List ℕ)) → HasShown out out users) → users.caller.submitted ≡ [] → KeepsOrder users.channels users.caller → users.dialect ≡ rules → Begins look rules n1 line s users
+begins look rules n1 line d s users fits same new whole subscribed shown none_asked order dialect = record {
   new = subst (IsNewDesk rules) (sym same.1) new;
   at_line = same.0;
   fits = subst (λ (x : DriverView). FitsAll (beginning_by (dialect_of rules) n1 (look line) x) look s []) (sym same.1) fits;
-  whole = subst (λ (x : DriverView). IsWhole x.desk (map place_of (users.lines ∷ users.control ∷ []))) (sym same.1) whole;
+  whole = subst (λ (x : DriverView). IsWhole x.desk (map place_of (users.caller ∷ []))) (sym same.1) whole;
   subscribed = subst (λ (x : DriverView). AreSubscribed x.desk (map subscription_of users.listeners.items)) (sym same.1) subscribed;
   shown = shown;
   none_asked = none_asked;
+  order = order;
   dialect = dialect;
 }
 
@@ -42,10 +47,12 @@ pub drove : {X : Type 0} (look : X → LineView) (rules : Rules) (text : List �
     → HasEntered text (look first) (look line) → Begins look rules n1 line s users → HasDriven look s users (plan_begun input) p before after silent said end left last → was_bad ≡ p.was_bad
     → Drove look rules text n1 first last input before after silent said end was_bad left
 drove {X} look rules text n1 first line last s users input before after silent said p end was_bad left entered b driven bad =
-    let asks : AsksOn (plan_begun input) p users.lines.submitted driven.ends.ended.lines.submitted silent said =
-    asks_then _ p p users.lines.submitted driven.mid.lines.submitted driven.ends.ended.lines.submitted silent said said driven.asks
-    (asks_same p p driven.mid.lines.submitted driven.ends.ended.lines.submitted said refl driven.ends.submits_none) in
-    let asked : HasAsked input p driven.ends.ended.lines.submitted silent said = has_asked input p users.lines.submitted driven.ends.ended.lines.submitted silent said b.none_asked asks in
+    let asks : AsksOn (plan_begun input) p users.caller.submitted driven.ends.ended.caller.submitted silent said =
+    asks_then _ p p users.caller.submitted driven.mid.caller.submitted driven.ends.ended.caller.submitted silent said said driven.asks
+    (asks_same p p driven.mid.caller.submitted driven.ends.ended.caller.submitted said refl (ap asks_of driven.ends.submits_none)) in
+    let asked : HasAsked input p driven.ends.ended.caller.submitted silent said = has_asked input p users.caller.submitted driven.ends.ended.caller.submitted silent said b.none_asked asks in
+    let shown : HasShown before driven.between driven.mid = driven.goes.shows before (b.shown before) in
+    let order : KeepsOrder driven.ends.ended.channels driven.ends.ended.caller = driven.ends.goes.orders before shown (driven.goes.orders before (b.shown before) b.order) in
     record {
       session = s;
       entered = subst (λ (x : X). HasEntered text (look first) (look x)) (sym b.at_line) entered;
@@ -58,22 +65,25 @@ drove {X} look rules text n1 first line last s users input before after silent s
         subscribed = b.subscribed;
         shown = b.shown;
         none_asked = b.none_asked;
+        order = b.order;
         dialect = b.dialect;
       };
       through = p;
       driven = driven;
       read = asked;
+      opens_first = order.opens_first;
+      stops_last = order.stops_last;
       bad_is = bad;
       asked = λ e.
           let by : HasEndedBy driven.stopped.machine.course p None = subst (HasEndedBy driven.stopped.machine.course p) e driven.by in
-          all_asked input p driven.ends.ended.lines.submitted silent said was_bad asked bad by.1 by.2;
+          all_asked input p driven.ends.ended.caller.submitted silent said was_bad asked bad by.1 by.2;
     }
 
 -- what it named
 pub named_by : {X : Type 0} (look : X → LineView) (rules : Rules) (text : List ℕ) (n1 : ℕ) (line last : X) (input before after silent said : Option (List ℕ)) (end : Option DriveFault) (was_bad : Bool) (left : Settled)
     → Drove look rules text n1 line last input before after silent said end was_bad left → NamesRead input silent said
 named_by look rules text n1 line last input before after silent said end was_bad left h =
-    names_read input h.through h.driven.ends.ended.lines.submitted silent said h.read
+    names_read input h.through h.driven.ends.ended.caller.submitted silent said h.read
 
 -- the same of what a drive that has begun came to
 pub drove_if : {X : Type 0} (look : X → LineView) (rules : Rules) (text : List ℕ) (n1 : ℕ) (first line : X) (s : SessionState X) (users : Users) (input before after silent said : Option (List ℕ)) (r : Result (X × Driven) DriveFault)
@@ -84,17 +94,14 @@ drove_if look rules text n1 first line s users input before after silent said (O
 drove_if look rules text n1 first line s users input before after silent said (Err why) entered b h = tt
 
 pub named_if : {X : Type 0} (look : X → LineView) (rules : Rules) (text : List ℕ) (n1 : ℕ) (first : X) (users : Users) (input before after silent said : Option (List ℕ)) (r : Result (X × Driven) DriveFault)
-    → IfOk r (λ r. Drove look rules text n1 first r.0 input before after silent said r.1.fault r.1.was_bad r.1.left) → users.lines.submitted ≡ [] → OnErr r (StopsOn (plan_begun input) users.lines.submitted silent said)
+    → IfOk r (λ r. Drove look rules text n1 first r.0 input before after silent said r.1.fault r.1.was_bad r.1.left) → users.caller.submitted ≡ [] → OnErr r (StopsOn (plan_begun input) users.caller.submitted silent said)
     → NamesRead input silent said
 named_if look rules text n1 first users input before after silent said (Ok x) h none stops =
     named_by look rules text n1 first x.0 input before after silent said x.1.fault x.1.was_bad x.1.left h
 named_if look rules text n1 first users input before after silent said (Err why) h none stops =
-    names_stopped input (plan_begun input) users.lines.submitted silent said refl none stops
+    names_stopped input (plan_begun input) users.caller.submitted silent said refl none stops
 
 -- ## The desk that is opened
-
-plus_none : (n : ℕ) → n + 0 ≡ n
-plus_none n = omega arith
 
 at_place : {A : Type 0} (xs : List A) (i : ℕ) (x : A) → i < length xs → get_elem? xs i ≡ some (get_or xs i x)
 at_place [] i x h = absurd (omega (arith, h))
@@ -114,59 +121,77 @@ prints_none : (out : Option (List ℕ)) → Appends out out []
 prints_none None = tt
 prints_none (Some xs) = sym (append-nil xs)
 
--- the two callers that were taken out of the list, the last one first
-pub record AreBoth (cs rest : List CallerView) (lines control : CallerView) : Type 0 where
-  pub two : length cs ≡ 2
-  pub control_is : control ≡ slice_index_or cs 1 control
-  pub rest_is : rest ≡ take 1 cs ++ drop 2 cs
-  pub lines_is : lines ≡ slice_index_or rest 0 lines
-
-pub both_are : (cs rest : List CallerView) (lines control : CallerView) → AreBoth cs rest lines control → cs ≡ lines ∷ control ∷ []
-both_are [] rest lines control h = absurd (let two = h.two in omega (arith, two))
-both_are (a ∷ []) rest lines control h = absurd (let two = h.two in omega (arith, two))
-both_are (a ∷ b ∷ []) rest lines control h =
-    let first : lines ≡ a = h.lines_is ∙ ap (λ (xs : List CallerView). slice_index_or xs 0 lines) h.rest_is in
-    subst (λ (x : CallerView × CallerView). a ∷ b ∷ [] ≡ x.0 ∷ x.1 ∷ []) (λ i. (sym first i, sym h.control_is i)) refl
-both_are (a ∷ b ∷ c ∷ cs) rest lines control h = absurd (let two = h.two in omega (arith, two))
+-- the only caller
+pub one_is : (cs : List CallerView) (c : CallerView) → length cs ≡ 1 → c ≡ slice_index_or cs 0 c → cs ≡ c ∷ []
+one_is [] c one is = absurd (omega (arith, one))
+one_is (a ∷ []) c one is = ap (λ (x : CallerView). x ∷ []) (sym is)
+one_is (a ∷ b ∷ cs) c one is = absurd (omega (arith, one))
 
 -- those who use the desk as it was opened
 pub record AreUsers (kinds : List UrcKind) (d : DriverView) (cs : List CallerView) (ls : List ListenerView) (u : Users) : Type 0 where
-  pub opened : Opened 2 kinds 1 d cs ls
-  pub callers : cs ≡ u.lines ∷ u.control ∷ []
+  pub opened : Opened 1 kinds 1 d cs ls
+  pub callers : cs ≡ u.caller ∷ []
   pub listeners : u.listeners.items ≡ ls
   pub none : u.under_way.items ≡ []
+  pub asked : u.asked ≡ None
+  pub channels : u.channels ≡ replicate 62 state.Untold
   pub counts : u.counts ≡ replicate 62 0
 
-pub whole_users : (kinds : List UrcKind) (d : DriverView) (cs : List CallerView) (ls : List ListenerView) (u : Users) → AreUsers kinds d cs ls u → IsWhole d.desk (map place_of (u.lines ∷ u.control ∷ []))
+pub whole_users : (kinds : List UrcKind) (d : DriverView) (cs : List CallerView) (ls : List ListenerView) (u : Users) → AreUsers kinds d cs ls u → IsWhole d.desk (map place_of (u.caller ∷ []))
 whole_users kinds d cs ls u h = subst (λ (x : List CallerView). IsWhole d.desk (map place_of x)) h.callers h.opened.whole
 
 pub subscribed_users : (kinds : List UrcKind) (d : DriverView) (cs : List CallerView) (ls : List ListenerView) (u : Users) → AreUsers kinds d cs ls u → AreSubscribed d.desk (map subscription_of u.listeners.items)
 subscribed_users kinds d cs ls u h = subst (λ (x : List ListenerView). AreSubscribed d.desk (map subscription_of x)) (sym h.listeners) h.opened.subscribed
 
-pub none_submitted : (kinds : List UrcKind) (d : DriverView) (cs : List CallerView) (ls : List ListenerView) (u : Users) → AreUsers kinds d cs ls u → u.lines.submitted ≡ []
-none_submitted kinds d cs ls u h = (h.opened.callers.1 0 u.lines (ap (λ (x : List CallerView). get_elem? x 0) h.callers)).3.0
+pub none_submitted : (kinds : List UrcKind) (d : DriverView) (cs : List CallerView) (ls : List ListenerView) (u : Users) → AreUsers kinds d cs ls u → u.caller.submitted ≡ []
+none_submitted kinds d cs ls u h = (h.opened.callers.1 0 u.caller (ap (λ (x : List CallerView). get_elem? x 0) h.callers)).3.0
 
 pub new_users : (kinds : List UrcKind) (d : DriverView) (cs : List CallerView) (ls : List ListenerView) (u : Users) → AreUsers kinds d cs ls u → (out : Option (List ℕ)) → HasShown out out u
 new_users kinds d cs ls u h out =
-    let fresh = h.opened.callers.1 0 u.lines (ap (λ (x : List CallerView). get_elem? x 0) h.callers) in
-    let submitted : u.lines.submitted ≡ [] = fresh.3.0 in
-    let got : u.lines.got ≡ [] = fresh.3.1 in
+    let fresh = h.opened.callers.1 0 u.caller (ap (λ (x : List CallerView). get_elem? x 0) h.callers) in
+    let submitted : u.caller.submitted ≡ [] = fresh.3.0 in
+    let got : u.caller.got ≡ [] = fresh.3.1 in
     record {
       shown = [];
       printed = prints_none out;
       outcomes_are = sym got;
-      right = All-nil (IsRightPiece u.lines.place.first u.lines.submitted);
+      right = All-nil (IsRightPiece u.caller.place.first u.caller.submitted);
       lines_are = λ i l few.
           let within : i < length ls = subst (λ (x : List ListenerView). i < length x) h.listeners few in
           let heard = h.opened.listeners.1 i (get_or ls i l) (at_place ls i l within) in
           sym (ap (λ (x : List ListenerView). (get_or x i l).heard) h.listeners ∙ heard.2);
-      under_way = subst (λ (x : List UnderWay). All (λ (v : UnderWay). IsLine u.lines.place.first u.lines.submitted v.number v.dlci.number v.place) x) (sym h.none) (All-nil (λ (v : UnderWay). IsLine u.lines.place.first u.lines.submitted v.number v.dlci.number v.place));
-      rest = ap (length {A = Request}) submitted ∙ sym (ap (length {A = Outcome}) got) ∙ sym (plus_none (length u.lines.got)) ∙ ap (λ (x : List UnderWay). length u.lines.got + length x) (sym h.none);
+      under_way = subst (λ (x : List UnderWay). All (λ (v : UnderWay). IsLine u.caller.place.first u.caller.submitted v.number v.dlci.number v.place) x) (sym h.none) (All-nil (λ (v : UnderWay). IsLine u.caller.place.first u.caller.submitted v.number v.dlci.number v.place));
+      asked = subst (IsAsked u.caller.place.first u.caller.submitted) (sym h.asked) tt;
+      rest =
+          let none : length u.caller.submitted ≡ 0 = ap (length {A = Request}) submitted in
+          let taken : length u.caller.got ≡ 0 = ap (length {A = Outcome}) got in
+          let way : length u.under_way.items ≡ 0 = ap (length {A = UnderWay}) h.none in
+          let beside : count_asked u.asked ≡ 0 = ap count_asked h.asked in
+          omega arith;
       long = ap (length {A = ℕ}) h.counts;
       counted = λ e few. ap (λ (x : List ℕ). slice_index_or x e 0) h.counts ∙ none_counted 62 e ∙ ap (count_on e) (sym submitted);
     }
 
-pub new_desk : (rules : Rules) (kinds : List UrcKind) (d : DriverView) (cs : List CallerView) (ls : List ListenerView) → kinds ≡ kinds_by rules → Opened 2 kinds 1 d cs ls → IsNewDesk rules d
+none_told : (n e : ℕ) → told_at (replicate n state.Untold) e ≡ false
+none_told zero zero = refl
+none_told zero (suc e) = refl
+none_told (suc n) zero = refl
+none_told (suc n) (suc e) = none_told n e
+
+pub new_order : (kinds : List UrcKind) (d : DriverView) (cs : List CallerView) (ls : List ListenerView) (u : Users) → AreUsers kinds d cs ls u → KeepsOrder u.channels u.caller
+new_order kinds d cs ls u h =
+    let fresh = h.opened.callers.1 0 u.caller (ap (λ (x : List CallerView). get_elem? x 0) h.callers) in
+    let submitted : u.caller.submitted ≡ [] = fresh.3.0 in
+    let none = λ (i : ℕ) (r : Request) (at : get_elem? u.caller.submitted i ≡ some r). some-ne-none r (sym (ap (λ (x : List Request). get_elem? x i) (sym submitted) ∙ at)) in
+    record {
+      one_each = ap (length {A = ℕ}) fresh.3.4 ∙ sym (ap (length {A = Request}) submitted);
+      long = ap (length {A = ChannelState}) h.channels;
+      told = λ e is. absurd (false≢true (sym (none_told 62 e) ∙ ap (λ (states : List ChannelState). told_at states e) (sym h.channels) ∙ is));
+      opens_first = λ i r at. absurd (none i r at);
+      stops_last = λ i r at. absurd (none i r at);
+    }
+
+pub new_desk : (rules : Rules) (kinds : List UrcKind) (d : DriverView) (cs : List CallerView) (ls : List ListenerView) → kinds ≡ kinds_by rules → Opened 1 kinds 1 d cs ls → IsNewDesk rules d
 new_desk rules kinds d cs ls are h = record {
   kinds_are = h.kinds ∙ are;
   none_taken = h.taken;

@@ -49,9 +49,9 @@ rests_idle o p d e says pass idle =
 
 -- ## The same desk
 
-pub still_whole : (d e : DeskId) (old new : Users) → e ≡ d → KeepPlaces old new → IsWhole d (map place_of (old.lines ∷ old.control ∷ [])) → IsWhole e (map place_of (new.lines ∷ new.control ∷ []))
+pub still_whole : (d e : DeskId) (old new : Users) → e ≡ d → KeepPlaces old new → IsWhole d (map place_of (old.caller ∷ [])) → IsWhole e (map place_of (new.caller ∷ []))
 still_whole d e old new desk keep h =
-    subst (λ (x : DeskId × Place × Place). IsWhole x.0 (x.1 ∷ x.2 ∷ [])) (λ i. (sym desk i, sym keep.lines i, sym keep.control i)) h
+    subst (λ (x : DeskId × Place). IsWhole x.0 (x.1 ∷ [])) (λ i. (sym desk i, sym keep.caller i)) h
 
 pub still_subscribed : (d e : DeskId) (old new : Users) → e ≡ d → KeepPlaces old new → AreSubscribed d (map subscription_of old.listeners.items) → AreSubscribed e (map subscription_of new.listeners.items)
 still_subscribed d e old new desk keep h =
@@ -95,8 +95,8 @@ heard_then t (Err why) k = tt
 pub ends_drive : {X : Type 0} (look : X → LineView) (s : SessionState X) (users ended : Users) (given away : DriverView) (f : Leftovers) (before after : Option (List ℕ)) (t : Settled)
     → given ≡ s.driver → SessionEnds look s f → f.desk ≡ end_of given → TurnsLeft (offline_from f.in_hand f.unplaced f.unannounced) given away → GoOn before after users ended
     → ended.under_way.items ≡ []
-    → ended.lines.submitted ≡ users.lines.submitted → AllHeard t
-    → DeskBooks away (ended.lines ∷ ended.control ∷ []) ended.listeners.items t.left.items (map vec_items t.untaken.items) (map vec_items t.unheard.items)
+    → ended.caller.submitted ≡ users.caller.submitted → AllHeard t
+    → DeskBooks away (ended.caller ∷ []) ended.listeners.items t.left.items (map vec_items t.untaken.items) (map vec_items t.unheard.items)
     → EndsDrive look s users before after t
 ends_drive look s users ended given away f before after t same left desk turns goes none asked heard books = record {
   leftovers = f;
@@ -115,7 +115,7 @@ ends_drive look s users ended given away f before after t same left desk turns g
 }
 
 pub has_driven : {X : Type 0} (look : X → LineView) (s t u : SessionState X) (users mid kept : Users) (p q : PlanView) (before between after said more : Option (List ℕ)) (end : Option DriveFault) (left : Settled) (last : X)
-    → DrivesOn look s t → GoOn before between users mid → AsksOn p q users.lines.submitted mid.lines.submitted said more → HasEndedBy t.machine.course q end
+    → DrivesOn look s t → GoOn before between users mid → AsksOn p q users.caller.submitted mid.caller.submitted said more → HasEndedBy t.machine.course q end
     → u ≡ t → kept ≡ mid → EndsDrive look u kept between after left → last ≡ u.line → HasDriven look s users p q before after said more end left last
 has_driven {X} look s t u users mid kept p q before between after said more end left last drives goes asks by same stays ends line = record {
   stopped = t;

@@ -4,9 +4,12 @@ pub mod OneNaming
 pub mod SayingRowFacts
 pub mod Asks
 pub mod Judges
+pub mod Orders
 pub mod Lines
+pub mod Besides
 pub mod Drives
 pub mod Ends
 pub mod Begins
 pub mod Captured
 pub mod OnDevice
+pub mod DeskRuns

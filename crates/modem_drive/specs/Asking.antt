@@ -1,5 +1,5 @@
 -- What a drive asks: the commands that the lines of its input are, in order.
-use Rattle.std.specs.Prelude.{◌≡◌, ℕ, ◌+◌, Bool, true, List, [], ◌∷◌, ◌++◌, length, map, Option, IfSome}
+use Rattle.std.specs.Prelude.{◌≡◌, ℕ, ◌+◌, ◌==◌, Bool, true, false, List, [], ◌∷◌, ◌++◌, filter, length, map, Option, IfSome}
 use Rattle.modem_desk.specs.declared.request.Ask.{Ask}
 use Rattle.modem_desk.specs.declared.request.Ask.TheVariants as ask
 use Rattle.modem_desk.specs.declared.request.Request.{Request}
@@ -20,8 +20,27 @@ pub data LinesAsk : (lines : List (List ℕ)) → (asks : List Ask) → Type 0 w
   ask_next : (lines : List (List ℕ)) (asks : List Ask) (line : List ℕ) (said : List Ask) → LinesAsk lines asks → LineAsks line said
       → LinesAsk (lines ++ line ∷ []) (asks ++ said)
 
+abbrev pub is_command : Ask → Bool
+is_command (ask.Command d line) = true
+is_command _ = false
+
+-- it is a command on d
+abbrev pub is_on : ℕ → Ask → Bool
+is_on d (ask.Command e line) = e.number == d
+is_on d _ = false
+
+-- the commands among these requests
 abbrev pub asks_of : List Request → List Ask
-asks_of requests = map (λ (r : Request). r.ask) requests
+asks_of requests = filter is_command (map (λ (r : Request). r.ask) requests)
+
+-- where the first request has this number, the request of that number asks this
+pub record IsAskedAs (first : ℕ) (submitted : List Request) (number : ℕ) (what : Ask) : Type 0 where
+  pub before : List Request
+  pub request : Request
+  pub later : List Request
+  pub submitted_are : submitted ≡ before ++ request ∷ later
+  pub number_is : number ≡ first + length before
+  pub ask_is : request.ask ≡ what
 
 -- how far the asking has come: the rest of the input, how many of its lines were given and whether one of them was bad, the command
 -- that is read and not yet submitted, and whether all were told and the multiplexer is to end

@@ -64,11 +64,11 @@ pub record EndsDrive {X : Type 0} (look : X → LineView) (s : SessionState X) (
   pub turned : TurnsSome (offline_from leftovers.in_hand leftovers.unplaced leftovers.unannounced) offline s.driver driver
   pub ended : Users
   pub goes : GoOn before after users ended
-  pub submits_none : ended.lines.submitted ≡ users.lines.submitted
+  pub submits_none : ended.caller.submitted ≡ users.caller.submitted
   pub none : ended.under_way.items ≡ []
   pub placed : NoneWaits offline
   pub none_unheard : AllHeard settled
-  pub books : DeskBooks driver (ended.lines ∷ ended.control ∷ []) ended.listeners.items settled.left.items
+  pub books : DeskBooks driver (ended.caller ∷ []) ended.listeners.items settled.left.items
       (map vec_items settled.untaken.items) (map vec_items settled.unheard.items)
 
 -- an end that a poll gave is kept, but for want of memory, which is none
@@ -105,6 +105,6 @@ pub record HasDriven {X : Type 0} (look : X → LineView) (s : SessionState X) (
   pub mid : Users
   pub between : Option (List ℕ)
   pub goes : GoOn before between users mid
-  pub asks : AsksOn p q users.lines.submitted mid.lines.submitted said more
+  pub asks : AsksOn p q users.caller.submitted mid.caller.submitted said more
   pub by : HasEndedBy stopped.machine.course q end
   pub ends : EndsDrive look stopped mid between after settled

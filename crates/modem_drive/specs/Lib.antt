@@ -5,9 +5,11 @@ pub mod Entry
 pub mod Input
 pub mod Asking
 pub mod Plans
+pub mod Channels
 pub mod Showing
 pub mod Driving
 pub mod Ending
 pub mod Running
 pub mod CapturedLine
 pub mod OnDevice
+pub mod DeskRun

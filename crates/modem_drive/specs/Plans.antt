@@ -3,8 +3,8 @@ use Rattle.std.specs.Prelude.{Bool, true, false, List, [], ◌∷◌, Option, No
 use Rattle.modem_desk.specs.declared.request.Ask.{Ask}
 use Rattle.modem_desk.specs.declared.request.Ask.TheVariants as ask
 use Rattle.modem_drive.specs.Asking.{PlanView}
-use Rattle.modem_drive.specs.declared.plan.Control.{Control}
-use Rattle.modem_drive.specs.declared.plan.Control.TheVariants as control
+use Rattle.modem_drive.specs.declared.users.Control.{Control}
+use Rattle.modem_drive.specs.declared.users.Control.TheVariants as control
 use Rattle.modem_drive.specs.declared.plan.Next.{Next}
 use Rattle.modem_drive.specs.declared.plan.Phase.{Phase}
 use Rattle.modem_drive.specs.declared.plan.Phase.TheVariants as phase

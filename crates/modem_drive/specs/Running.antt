@@ -11,6 +11,7 @@ use Rattle.modem_driver.specs.DialectReplays.{own_kinds}
 use Rattle.modem_driver.specs.EntryTries.{IsRepliedTo}
 use Rattle.modem_driver.specs.SessionStates.{FitsAll, SessionState, beginning_by}
 use Rattle.modem_drive.specs.Asking.{HasAsked, PlanView, ReadsAll}
+use Rattle.modem_drive.specs.Channels.{KeepsOrder, OpensFirst, StopsLast}
 use Rattle.modem_drive.specs.Ending.{HasDriven}
 use Rattle.modem_drive.specs.declared.fault.DriveFault.{DriveFault}
 use Rattle.modem_drive.specs.Showing.{HasShown}
@@ -20,11 +21,11 @@ use Rattle.modem_drive.specs.declared.users.Users.{Users}
 abbrev pub kinds_by : Rules → List UrcKind
 kinds_by rules = standard_kinds ++ own_kinds (length rules.urcs)
 
--- a desk of two callers and a listener for each kind of lines by these rules, which has done nothing yet
+-- a desk of one caller and a listener for each kind of lines by these rules, which has done nothing yet
 pub record IsNewDesk (rules : Rules) (d : DriverView) : Type 0 where
   pub kinds_are : d.desk.kinds ≡ kinds_by rules
   pub none_taken : d.taken ≡ []
-  pub none_told : d.told ≡ replicate 2 []
+  pub none_told : d.told ≡ replicate 1 []
   pub none_announced : d.announced ≡ replicate (length (kinds_by rules)) []
 
 -- a session over this line, at a modem with the codes of these rules beside the standards', on a desk that has done nothing yet, of
@@ -34,10 +35,11 @@ pub record Begins {X : Type 0} (look : X → LineView) (rules : Rules) (n1 : ℕ
   pub new : IsNewDesk rules s.driver
   pub at_line : s.line ≡ line
   pub fits : FitsAll (beginning_by (dialect_of rules) n1 (look line) s.driver) look s []
-  pub whole : IsWhole s.driver.desk (map place_of (users.lines ∷ users.control ∷ []))
+  pub whole : IsWhole s.driver.desk (map place_of (users.caller ∷ []))
   pub subscribed : AreSubscribed s.driver.desk (map subscription_of users.listeners.items)
   pub shown : (out : Option (List ℕ)) → HasShown out out users
-  pub none_asked : users.lines.submitted ≡ []
+  pub none_asked : users.caller.submitted ≡ []
+  pub order : KeepsOrder users.channels users.caller
   pub dialect : users.dialect ≡ rules
 
 -- the multiplexer was entered by this text, at the first try or at the second
@@ -64,7 +66,8 @@ pub record DrivesInput {X : Type 0} (look : X → LineView) (s : SessionState X)
 -- The multiplexer was entered by this text, a session with this N1 and the codes of these rules began on the line, went on, and
 -- ended, and all that came for its users was printed. The commands that were submitted, and told before the end, are those that the
 -- lines are which were read, but for one that was next, and the bad ones of those lines were named: was_bad says whether there was
--- any. Without a fault all lines of the input were read. The line is as it is last.
+-- any. Before each of them the caller had taken what an opening of its connection was told, and before a Stop all outcomes. Without a
+-- fault all lines of the input were read. The line is as it is last.
 pub record Drove {X : Type 0} (look : X → LineView) (rules : Rules) (text : List ℕ) (n1 : ℕ) (line last : X)
     (input before after silent said : Option (List ℕ)) (end : Option DriveFault) (was_bad : Bool) (left : Settled) : Type 0 where
   pub session : SessionState X
@@ -73,6 +76,8 @@ pub record Drove {X : Type 0} (look : X → LineView) (rules : Rules) (text : Li
   pub begins : Begins look rules n1 session.line session users
   pub through : PlanView
   pub driven : HasDriven look session users (plan_begun input) through before after silent said end left last
-  pub read : HasAsked input through driven.ends.ended.lines.submitted silent said
+  pub read : HasAsked input through driven.ends.ended.caller.submitted silent said
+  pub opens_first : OpensFirst driven.ends.ended.caller
+  pub stops_last : StopsLast driven.ends.ended.caller
   pub bad_is : was_bad ≡ through.was_bad
-  pub asked : end ≡ None → ReadsAll input driven.ends.ended.lines.submitted was_bad silent said
+  pub asked : end ≡ None → ReadsAll input driven.ends.ended.caller.submitted was_bad silent said

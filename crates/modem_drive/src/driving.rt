@@ -1,15 +1,18 @@
 //! The loop of a drive: it asks, polls the session, prints what came, and waits.
-ghost use Rattle.std.specs.Prelude.{◌≡◌, IfOk, OnErr, OnOk, Option};
+ghost use Rattle.std.specs.Prelude.{◌≡◌, ◌≢◌, true, false, IfOk, OnErr, OnOk, Option, None, Some};
+ghost use Rattle.std.specs.Duration.{as_nanos};
 ghost use Rattle.modem_driver.specs.SessionStates.{line_by};
 ghost use Rattle.modem_drive.specs.Asking.{AsksOn, StopsOn};
-ghost use Rattle.modem_drive.specs.Driving.{DrivesOn};
+ghost use Rattle.modem_drive.specs.Driving.{DrivesOn, IsDue, IsNotDue};
 ghost use Rattle.modem_drive.specs.Ending.{HasEndedBy, KeepsGiven, SaysBy};
 ghost use Rattle.modem_drive.specs.declared.driving.Went.TheVariants as went;
 ghost use Rattle.modem_drive.specs.declared.fault.DriveFault.{DriveFault};
+ghost use Rattle.modem_drive.specs.declared.fault.DriveFault.TheVariants as fault;
 ghost use Rattle.modem_drive.specs.Showing.{GoOn};
 
 use crate::fault::{DriveFault, GiveUp};
 use crate::plan::Plan;
+use crate::showing::Told;
 use crate::users::Users;
 use bell::Bell;
 use modem_driver::{Ended, Progress, Session, SessionFault};
@@ -32,12 +35,19 @@ pub struct Ticks {
 
 impl Ticks {
     /// A tick each `period`.
-    pub fn new(period: Duration) -> Ticks {
+    pub fn new(period: Duration) -> Ticks
+        ensures { result ≡ record { period = period; last = None } }
+    {
         Ticks { period, last: None }
     }
 
     /// Whether one is due now. The first is due a period after they were first wanted.
-    fn are_due<K: Clock>(&mut self, clock: &K, wanted: bool) -> bool {
+    fn are_due<K: Clock>(&mut self, clock: &K, wanted: bool) -> bool
+        ensures period { self.new.period ≡ self.old.period }
+        ensures wanted { result ≡ true → wanted ≡ true }
+        ensures due { result ≡ true → IsDue (as_nanos self.old.period) self.old.last self.new.last }
+        ensures not_due { result ≡ false → IsNotDue self.old.last self.new.last }
+    {
         if !wanted {
             self.last = None;
             return false;
@@ -45,17 +55,18 @@ impl Ticks {
         let Ok(now) = Instant::now(clock) else {
             return false;
         };
-        match self.last {
-            Some(last) if now.saturating_duration_since(last) < self.period => false,
-            Some(_) => {
-                self.last = Some(now);
-                true
-            }
-            None => {
-                self.last = Some(now);
-                false
-            }
+        let Some(last) = self.last else {
+            self.last = Some(now);
+            return false;
+        };
+        let left = self
+            .period
+            .saturating_sub(now.saturating_duration_since(last));
+        if !left.is_zero() {
+            return false;
         }
+        self.last = Some(now);
+        true
     }
 
     /// How long it is to the next.
@@ -96,7 +107,14 @@ fn poll<L: SerialLine, R: Wait + Drop, K: Clock>(
     session.advance()
 }
 
-/// Prints all that came, and says whether anything did.
+/// What was printed: whether anything came, and the fault by which the drive ends, if what was told says so.
+#[derive(Clone, Copy)]
+pub struct Shown {
+    pub any: bool,
+    pub fault: Option<DriveFault>,
+}
+
+/// Prints a line of each listener that heard one, and an outcome, if one came.
 #[tactic(auto, using(crate::proofs::Lines::goes_then))]
 pub fn show<I: Read, W: Write, K: Clock>(
     clock: &K,
@@ -104,18 +122,26 @@ pub fn show<I: Read, W: Write, K: Clock>(
     users: &mut Users,
     plan: &mut Plan<I>,
     output: &mut W,
-) -> Result<bool, DriveFault>
+) -> Result<Shown, DriveFault>
     ensures goes { OnOk result (GoOn (W.contents output.old) (W.contents output.new) users.old users.new) }
     ensures same { plan.new ≡ plan.old }
-    ensures submits_none { OnOk result (users.new.lines.submitted ≡ users.old.lines.submitted) }
+    ensures submits_none { OnOk result (users.new.caller.submitted ≡ users.old.caller.submitted) }
+    ensures why { IfOk result (λ shown. shown.fault ≢ Some fault.HungUp) }
 {
     let lines = users.show_lines(alloc, output)?;
-    match users.show_outcome(alloc, output)? {
-        Some((line, outcome)) => {
-            plan.note_told(clock, line, &outcome);
-            Ok(true)
-        }
-        None => Ok(lines),
+    match users.show_outcome(clock, alloc, output)? {
+        Some(Told::Asked(control, answer)) => Ok(Shown {
+            any: true,
+            fault: plan.judge(control, &answer),
+        }),
+        Some(Told::Line) => Ok(Shown {
+            any: true,
+            fault: None,
+        }),
+        None => Ok(Shown {
+            any: lines,
+            fault: None,
+        }),
     }
 }
 
@@ -162,20 +188,20 @@ fn answer<R: Wait + Clock, I: Read, W: Write, E: Write>(
     faults: &mut E,
 ) -> Result<Went, DriveFault>
     ensures goes { OnOk result (GoOn (W.contents output.old) (W.contents output.new) users.old users.new) }
-    ensures asks { OnOk result (AsksOn plan.old plan.new users.old.lines.submitted users.new.lines.submitted
+    ensures asks { OnOk result (AsksOn plan.old plan.new users.old.caller.submitted users.new.caller.submitted
         (E.contents faults.old) (E.contents faults.new)) }
-    ensures stops { OnErr result (StopsOn plan.old users.old.lines.submitted (E.contents faults.old) (E.contents faults.new)) }
+    ensures stops { OnErr result (StopsOn plan.old users.old.caller.submitted (E.contents faults.old) (E.contents faults.new)) }
     ensures ends { IfOk result (λ w. (end : Option DriveFault) → w ≡ went.Ends end → SaysBy said plan.new end) }
 {
     let shown = show(rt, alloc, users, plan, output)?;
-    if let Some(fault) = plan.take_told(users) {
+    if let Some(fault) = shown.fault {
         return Ok(Went::Ends(Some(fault)));
     }
     if matches!(said, Progress::Ended(_)) {
-        return Ok(judge(said, plan, shown));
+        return Ok(judge(said, plan, shown.any));
     }
     let asked = plan.go_on(rt, alloc, users, faults)?;
-    Ok(judge(said, plan, asked || shown))
+    Ok(judge(said, plan, asked || shown.any))
 }
 
 /// One round: it polls the session, prints what came, and asks what can be asked then.
@@ -191,9 +217,9 @@ fn round<L: SerialLine, R: Wait + Clock + Drop, I: Read, W: Write, E: Write>(
 ) -> Result<Went, DriveFault>
     ensures drives { DrivesOn (line_by L.received L.sent L.calls L.failures L.empty_reads L.stalled_writes) session.old session.new }
     ensures goes { OnOk result (GoOn (W.contents output.old) (W.contents output.new) users.old users.new) }
-    ensures asks { OnOk result (AsksOn plan.old plan.new users.old.lines.submitted users.new.lines.submitted
+    ensures asks { OnOk result (AsksOn plan.old plan.new users.old.caller.submitted users.new.caller.submitted
         (E.contents faults.old) (E.contents faults.new)) }
-    ensures stops { OnErr result (StopsOn plan.old users.old.lines.submitted (E.contents faults.old) (E.contents faults.new)) }
+    ensures stops { OnErr result (StopsOn plan.old users.old.caller.submitted (E.contents faults.old) (E.contents faults.new)) }
     ensures ends { IfOk result (λ w. (end : Option DriveFault) → w ≡ went.Ends end → HasEndedBy session.new.machine.course plan.new end) }
 {
     let said = poll(rt, session, ticks);
@@ -201,14 +227,14 @@ fn round<L: SerialLine, R: Wait + Clock + Drop, I: Read, W: Write, E: Write>(
 }
 
 /// Waits until the bell is rung, or there may be something to do.
-fn rest<L: SerialLine, R: Wait + Clock + Drop, I: Read>(
+fn rest<L: SerialLine, R: Wait + Clock + Drop>(
     rt: &R,
     bell: &Bell,
     session: &Session<L, R>,
     ticks: &Ticks,
-    plan: &Plan<I>,
+    users: &Users,
 ) {
-    let most = plan.time_left(rt, Duration::from_secs(LOOK_SECONDS));
+    let most = users.time_left(rt, Duration::from_secs(LOOK_SECONDS));
     bell.wait(rt, ticks.time_left(rt, session.wants_tick(), most));
 }
 
@@ -228,16 +254,16 @@ pub fn drive_on<L: SerialLine, R: Wait + Clock + Drop, I: Read, W: Write, E: Wri
 ) -> Result<Option<DriveFault>, DriveFault>
     ensures drives { DrivesOn (line_by L.received L.sent L.calls L.failures L.empty_reads L.stalled_writes) session.old session.new }
     ensures goes { OnOk result (GoOn (W.contents output.old) (W.contents output.new) users.old users.new) }
-    ensures asks { OnOk result (AsksOn plan.old plan.new users.old.lines.submitted users.new.lines.submitted
+    ensures asks { OnOk result (AsksOn plan.old plan.new users.old.caller.submitted users.new.caller.submitted
         (E.contents faults.old) (E.contents faults.new)) }
-    ensures stops { OnErr result (StopsOn plan.old users.old.lines.submitted (E.contents faults.old) (E.contents faults.new)) }
+    ensures stops { OnErr result (StopsOn plan.old users.old.caller.submitted (E.contents faults.old) (E.contents faults.new)) }
     ensures ends { IfOk result (HasEndedBy session.new.machine.course plan.new) }
 {
     for _ in rt.forever() {
         match round(rt, alloc, session, ticks, users, plan, output, faults)? {
             Went::More => {}
             Went::Ends(end) => return Ok(end),
-            Went::Rests => rest(rt, bell, session, ticks, plan),
+            Went::Rests => rest(rt, bell, session, ticks, users),
         }
     }
     unreachable!()

@@ -39,13 +39,12 @@ fn turn_away<R: Wait + Clock, I: Read, W: Write>(
     ensures none { OnOk result (users.new.under_way.items ≡ []) }
     ensures placed { OnOk result (NoneWaits offline.new) }
     ensures same { plan.new ≡ plan.old }
-    ensures submits_none { OnOk result (users.new.lines.submitted ≡ users.old.lines.submitted) }
+    ensures submits_none { OnOk result (users.new.caller.submitted ≡ users.old.caller.submitted) }
 {
     for _ in 0..PASSES {
         let said = offline.turn_away(rt, driver);
-        let _ = plan.take_told(users);
         let shown = show(rt, alloc, users, plan, output)?;
-        if said == Turn::Idle && !shown && users.under_way.is_empty() {
+        if said == Turn::Idle && !shown.any && users.under_way.is_empty() {
             return Ok(());
         }
     }
@@ -90,7 +89,7 @@ fn turn_left_away<R: Wait + Clock, I: Read, W: Write>(
     ensures goes { OnOk result (GoOn (W.contents output.old) (W.contents output.new) users.old users.new) }
     ensures none { OnOk result (users.new.under_way.items ≡ []) }
     ensures same { plan.new ≡ plan.old }
-    ensures submits_none { OnOk result (users.new.lines.submitted ≡ users.old.lines.submitted) }
+    ensures submits_none { OnOk result (users.new.caller.submitted ≡ users.old.caller.submitted) }
 {
     let mut offline = make_offline(alloc, left)?;
     turn_away(rt, alloc, &mut offline, driver, users, plan, output)
@@ -103,23 +102,19 @@ fn settle_all<R: Wait>(
     driver: DriverEnd,
     users: Users,
 ) -> Result<Settled, DriveFault>
-    requires whole { IsWhole driver.desk (map place_of (users.lines ∷ users.control ∷ [])) }
+    requires whole { IsWhole driver.desk (map place_of (users.caller ∷ [])) }
     requires subscribed { AreSubscribed driver.desk (map subscription_of users.listeners.items) }
-    ensures { IfOk result (λ s. DeskBooks driver (users.lines ∷ users.control ∷ []) users.listeners.items s.left.items
+    ensures { IfOk result (λ s. DeskBooks driver (users.caller ∷ []) users.listeners.items s.left.items
         (map vec_items s.untaken.items) (map vec_items s.unheard.items)) }
 {
-    let (callers, (driver, users)) = beside(Vec::with_capacity(alloc, 2), (driver, users))?;
+    let (callers, (driver, users)) = beside(Vec::with_capacity(alloc, 1), (driver, users))?;
     let mut callers = callers;
     let Users {
-        lines,
-        control,
+        caller,
         listeners,
-        under_way: _,
-        counts: _,
-        dialect: _,
+        ..
     } = users;
-    callers.push_reserved(lines);
-    callers.push_reserved(control);
+    callers.push_reserved(caller);
     match settle(rt, alloc, driver, callers, listeners) {
         Ok(settled) => Ok(settled),
         Err(_) => Err(DriveFault::NoMemory),
@@ -152,10 +147,10 @@ fn settle_turned<R: Wait>(
     driver: DriverEnd,
     users: Users,
 ) -> Result<Settled, DriveFault>
-    requires whole { OnOk turned (IsWhole driver.desk (map place_of (users.lines ∷ users.control ∷ []))) }
+    requires whole { OnOk turned (IsWhole driver.desk (map place_of (users.caller ∷ []))) }
     requires subscribed { OnOk turned (AreSubscribed driver.desk (map subscription_of users.listeners.items)) }
     ensures turned { OnOk result (IsOk turned) }
-    ensures books { IfOk result (λ s. DeskBooks driver (users.lines ∷ users.control ∷ []) users.listeners.items s.left.items
+    ensures books { IfOk result (λ s. DeskBooks driver (users.caller ∷ []) users.listeners.items s.left.items
         (map vec_items s.untaken.items) (map vec_items s.unheard.items)) }
     ensures heard { IfOk result AllHeard }
 {
@@ -174,7 +169,7 @@ pub fn end_drive<L: SerialLine + Drop, R: Wait + Clock + Drop, I: Read, W: Write
     plan: &mut Plan<I>,
     output: &mut W,
 ) -> Result<(L, Settled), DriveFault>
-    requires whole { IsWhole session.driver.desk (map place_of (users.lines ∷ users.control ∷ [])) }
+    requires whole { IsWhole session.driver.desk (map place_of (users.caller ∷ [])) }
     requires subscribed { AreSubscribed session.driver.desk (map subscription_of users.listeners.items) }
     ensures ends { IfOk result (λ r. EndsDrive (line_by L.received L.sent L.calls L.failures L.empty_reads L.stalled_writes)
         session users (W.contents output.old) (W.contents output.new) r.1) }

@@ -1,5 +1,7 @@
 //! Laws of the definitions, as contracts of functions that do nothing.
 ghost use Rattle.std.specs.Prelude.{◌≡◌, ℕ, List};
+ghost use Rattle.modem_history.specs.Sessions.{LineView};
+ghost use Rattle.modem_drive.specs.DeskRun.{DrivesSettle};
 ghost use Rattle.modem_drive.specs.Saying.{AreBad, BadLine};
 ghost use Rattle.modem_drive.specs.SayingRows.{AreNotTaken, AreRefused, AreTaken, AreWorked};
 
@@ -16,4 +18,10 @@ pub fn worked_inputs()
     ensures refused { AreRefused }
     ensures taken { AreTaken }
     ensures not_taken { AreNotTaken }
+{}
+
+/// Each drive is a settled run of its desk, over one history that grew with its polls and ticks, and so has the headline.
+#[tactic(auto, using(crate::proofs::DeskRuns::drives_settle))]
+pub fn desk_runs()
+    ensures { DrivesSettle (λ (l : LineView). l) }
 {}

@@ -2,18 +2,19 @@
 ghost use Rattle.std.specs.Prelude.{◌≡◌, ◌≢◌, ℕ, [], List, Option, Some, true, IfSome, OnErr, OnOk};
 ghost use Rattle.modem_desk.specs.declared.request.Request.{Request};
 ghost use Rattle.modem_drive.specs.Asking.{AsksOn, IsThrough, ReadsLine, StopsOn};
+ghost use Rattle.modem_drive.specs.Channels.{IsToldNext};
 ghost use Rattle.modem_drive.specs.Plans.{after_asking};
 ghost use Rattle.modem_drive.specs.Showing.{GoOn};
 ghost use Rattle.modem_drive.specs.declared.fault.DriveFault.TheVariants as fault;
-ghost use Rattle.modem_drive.specs.declared.plan.Control.TheVariants as control;
+ghost use Rattle.modem_drive.specs.declared.users.Control.TheVariants as control;
 
-use crate::channels::{ChannelState, Channels};
+use crate::channels::ChannelState;
 use crate::fault::{DriveFault, GiveUp};
 use crate::input::Lines;
 use crate::saying::name_bad;
-use crate::users::{UnderWay, Users};
+use crate::users::{Control, Users};
 use at_text::CommandLine;
-use modem_desk::{Answer, Ask, Outcome};
+use modem_desk::Answer;
 use modem_texts::{Refusal, command_of};
 use mux_frame::Dlci;
 use std::alloc::Global;
@@ -21,18 +22,9 @@ use std::io::{Read, Write};
 use std::marker::Model;
 use std::rt::Clock;
 use std::sync::Wait;
-use std::time::Duration;
 
 /// How many steps are made before the session is polled.
 const STEPS: u32 = 16;
-
-/// What is asked beside commands, one at a time.
-#[derive(Clone, Copy)]
-enum Control {
-    Open(Dlci),
-    Close(Dlci),
-    Stop,
-}
 
 /// How far a drive has come.
 #[derive(Clone, Copy)]
@@ -53,13 +45,11 @@ struct Next {
     tried: bool,
 }
 
-/// What is to be asked: the rest of the input, and what is known of the connections.
+/// What is to be asked: the next line and the rest of the input.
 #[derive(Drop)]
 pub struct Plan<I: Read> {
     input: Lines<I>,
     next: Option<Next>,
-    channels: Channels,
-    asked: Option<Control>,
     phase: Phase,
     number: u64,
     bad: bool,
@@ -83,15 +73,13 @@ impl<I: Read> Model for Plan<I> {
 impl<I: Read> Plan<I> {
     ghost use Rattle.std.specs.Prelude.{◌≡◌, [], false, true};
 
-    /// To open connection 0, and then what this input says. A connection whose commands wait for longer than that is closed.
-    pub fn new(input: Lines<I>, quiet_for: Option<Duration>) -> Plan<I>
+    /// To open connection 0, and then what this input says.
+    pub fn new(input: Lines<I>) -> Plan<I>
         ensures { result ≡ record { input = input; count = 0; was_bad = false; next = []; stopping = false } }
     {
         Plan {
             input,
             next: None,
-            channels: Channels::new(quiet_for),
-            asked: None,
             phase: Phase::Opening,
             number: 0,
             bad: false,
@@ -117,14 +105,6 @@ impl<I: Read> Plan<I> {
         ensures { result ≡ self.now.input.failed }
     {
         self.input.has_failed()
-    }
-
-    /// The least time until a connection has to be closed, where a close can be asked.
-    pub fn time_left<K: Clock>(&self, clock: &K, most: Duration) -> Duration {
-        if self.asked.is_some() {
-            return most;
-        }
-        self.channels.time_left(clock, most)
     }
 
     /// What a line of the input says. One that is bad is named, and passed over. Refused with NoMemory, and with GaveUp where 2^64 - 1
@@ -191,11 +171,11 @@ impl<I: Read> Plan<I> {
             Phase::Stopping => return None,
             Phase::Going => {}
         }
-        if let Some(dlci) = self.channels.find_quiet(clock) {
+        if let Some(dlci) = users.channels.find_quiet(clock) {
             return Some(Control::Close(dlci));
         }
         match &self.next {
-            Some(next) if !next.tried && !self.channels.is_open(next.dlci) => {
+            Some(next) if !next.tried && users.channels.state(next.dlci) != ChannelState::Open => {
                 Some(Control::Open(next.dlci))
             }
             None if self.input.has_ended() && users.under_way.is_empty() => Some(Control::Stop),
@@ -207,36 +187,27 @@ impl<I: Read> Plan<I> {
     fn note_asked(&mut self, control: Control)
         ensures { self.new ≡ after_asking control self.old }
     {
-        self.asked = Some(control);
         match control {
             Control::Open(dlci) => match &mut self.next {
                 Some(next) if next.dlci == dlci => next.tried = true,
                 _ => {}
             },
-            Control::Close(dlci) => self.channels.set(dlci, ChannelState::Shut),
+            Control::Close(_) => {}
             Control::Stop => self.phase = Phase::Stopping,
         }
     }
 
     /// Asks what is to be asked beside commands, where nothing such is under way, and says whether it asked.
-    #[tactic(auto, using(crate::proofs::Lines::stays, crate::proofs::Lines::controls_alone))]
+    #[tactic(auto, using(crate::proofs::Lines::stays))]
     fn ask_on<R: Wait + Clock>(&mut self, rt: &R, users: &mut Users) -> bool
         ensures goes { (out : Option (List ℕ)) → GoOn out out users.old users.new }
         ensures asks { (said : Option (List ℕ))
-            → AsksOn self.old self.new users.old.lines.submitted users.new.lines.submitted said said }
+            → AsksOn self.old self.new users.old.caller.submitted users.new.caller.submitted said said }
     {
-        if self.asked.is_some() {
-            return false;
-        }
         let Some(control) = self.control(rt, users) else {
             return false;
         };
-        let ask = match control {
-            Control::Open(dlci) => Ask::OpenChannel(dlci),
-            Control::Close(dlci) => Ask::CloseChannel(dlci),
-            Control::Stop => Ask::Stop,
-        };
-        if users.control.submit(rt, ask).is_err() {
+        if !users.ask(rt, control) {
             return false;
         }
         self.note_asked(control);
@@ -244,11 +215,15 @@ impl<I: Read> Plan<I> {
     }
 
     /// Whether the next line may be submitted: its connection is open, or couldn't be opened.
-    fn is_next_ready(&self) -> bool {
+    fn is_next_ready(&self, users: &Users) -> bool
+        ensures { result ≡ true → IsToldNext self.now.next users.now.channels }
+    {
         match &self.next {
-            Some(next) => {
-                self.channels.is_open(next.dlci) || (next.tried && self.asked.is_none())
-            }
+            Some(next) => match users.channels.state(next.dlci) {
+                ChannelState::Open => true,
+                ChannelState::Shut => next.tried && users.asked.is_none(),
+                ChannelState::Untold => false,
+            },
             None => false,
         }
     }
@@ -258,9 +233,9 @@ impl<I: Read> Plan<I> {
     fn submit_on<R: Wait + Clock>(&mut self, rt: &R, users: &mut Users) -> Result<bool, DriveFault>
         ensures goes { OnOk result ((out : Option (List ℕ)) → GoOn out out users.old users.new) }
         ensures asks { OnOk result ((said : Option (List ℕ))
-            → AsksOn self.old self.new users.old.lines.submitted users.new.lines.submitted said said) }
+            → AsksOn self.old self.new users.old.caller.submitted users.new.caller.submitted said said) }
     {
-        if !self.is_next_ready() {
+        if !self.is_next_ready(users) {
             return Ok(false);
         }
         let Some(next) = self.next.take() else {
@@ -272,10 +247,7 @@ impl<I: Read> Plan<I> {
                 self.next = Some(Next { dlci, line, tried });
                 Ok(false)
             }
-            None => {
-                self.channels.note_submitted(rt, dlci);
-                Ok(true)
-            }
+            None => Ok(true),
         }
     }
 
@@ -289,9 +261,9 @@ impl<I: Read> Plan<I> {
         faults: &mut E,
     ) -> Result<bool, DriveFault>
         ensures goes { OnOk result ((out : Option (List ℕ)) → GoOn out out users.old users.new) }
-        ensures asks { OnOk result (AsksOn self.old self.new users.old.lines.submitted users.new.lines.submitted
+        ensures asks { OnOk result (AsksOn self.old self.new users.old.caller.submitted users.new.caller.submitted
             (E.contents faults.old) (E.contents faults.new)) }
-        ensures stops { OnErr result (StopsOn self.old users.old.lines.submitted (E.contents faults.old) (E.contents faults.new)) }
+        ensures stops { OnErr result (StopsOn self.old users.old.caller.submitted (E.contents faults.old) (E.contents faults.new)) }
     {
         let mut any = false;
         for _ in 0..STEPS {
@@ -306,13 +278,6 @@ impl<I: Read> Plan<I> {
         Ok(any)
     }
 
-    /// Notes what a line was told.
-    pub fn note_told<K: Clock>(&mut self, clock: &K, line: UnderWay, outcome: &Outcome)
-        ensures { self.new ≡ self.old }
-    {
-        self.channels.note_told(clock, line.dlci, &outcome.answer);
-    }
-
     /// What an opening was told: the fault by which the drive ends, if it does.
     fn judge_opening(&mut self, dlci: Dlci, answer: &Answer) -> Option<DriveFault>
         ensures same { self.new ≡ self.old }
@@ -320,7 +285,6 @@ impl<I: Read> Plan<I> {
     {
         match answer {
             Answer::Opened | Answer::AlreadyOpen => {
-                self.channels.set(dlci, ChannelState::Open);
                 if self.phase == Phase::Opening {
                     self.phase = Phase::Going;
                 }
@@ -334,7 +298,7 @@ impl<I: Read> Plan<I> {
     }
 
     /// What was asked beside commands was told this: the fault by which the drive ends, if it does.
-    fn judge(&mut self, control: Control, answer: &Answer) -> Option<DriveFault>
+    pub fn judge(&mut self, control: Control, answer: &Answer) -> Option<DriveFault>
         ensures same { self.new ≡ self.old }
         ensures why { result ≢ Some fault.HungUp }
     {
@@ -343,18 +307,5 @@ impl<I: Read> Plan<I> {
             Control::Stop if matches!(answer, Answer::NotOpen) => Some(DriveFault::Closed),
             Control::Stop | Control::Close(_) => None,
         }
-    }
-
-    /// Takes what the caller that opens, closes and stops was told, if anything: the fault by which the drive ends, if it does.
-    #[tactic(auto, using(crate::proofs::Lines::controls_alone))]
-    pub fn take_told(&mut self, users: &mut Users) -> Option<DriveFault>
-        ensures goes { (out : Option (List ℕ)) → GoOn out out users.old users.new }
-        ensures same { self.new ≡ self.old }
-        ensures submits_none { users.new.lines.submitted ≡ users.old.lines.submitted }
-        ensures why { result ≢ Some fault.HungUp }
-    {
-        let outcome = users.control.take()?;
-        let control = self.asked.take()?;
-        self.judge(control, &outcome.answer)
     }
 }

@@ -4,11 +4,13 @@ ghost use Rattle.modem_desk.specs.Ends.{AreSubscribed, IsWhole, place_of, subscr
 ghost use Rattle.at_text.specs.Rules.{dialect_of};
 ghost use Rattle.modem_driver.specs.SessionStates.{FitsAll, beginning_by, line_by};
 ghost use Rattle.modem_drive.specs.Asking.{NamesRead, StopsOn};
+ghost use Rattle.modem_drive.specs.Channels.{KeepsOrder};
 ghost use Rattle.modem_drive.specs.Ending.{HasDriven};
 ghost use Rattle.modem_drive.specs.Entry.{entry_for, given_text};
 ghost use Rattle.modem_drive.specs.Running.{Begins, DrivesInput, Drove, HasEntered, IsNewDesk, kinds_by, plan_begun};
 ghost use Rattle.modem_drive.specs.Showing.{HasShown};
 
+use crate::channels::Channels;
 use crate::driving::{Ticks, drive_on};
 use crate::ending::end_drive;
 use crate::fault::DriveFault;
@@ -82,27 +84,33 @@ fn copy_of(dialect: &Dialect) -> Result<Dialect, DriveFault>
     }
 }
 
-/// A desk of two callers and a listener for each kind of line of a modem with these codes.
-fn open_desk(alloc: Global, dialect: &Dialect) -> Result<(DriverEnd, Users), DriveFault>
+/// A desk of one caller and a listener for each kind of line of a modem with these codes. A connection whose commands wait for longer
+/// than that is closed.
+fn open_desk(
+    alloc: Global,
+    dialect: &Dialect,
+    quiet_for: Option<Duration>,
+) -> Result<(DriverEnd, Users), DriveFault>
     ensures new { IfOk result (λ r. IsNewDesk dialect.now r.0) }
-    ensures whole { IfOk result (λ r. IsWhole r.0.desk (map place_of (r.1.lines ∷ r.1.control ∷ []))) }
+    ensures whole { IfOk result (λ r. IsWhole r.0.desk (map place_of (r.1.caller ∷ []))) }
     ensures subscribed { IfOk result (λ r. AreSubscribed r.0.desk (map subscription_of r.1.listeners.items)) }
     ensures shown { IfOk result (λ r. (out : Option (List ℕ)) → HasShown out out r.1) }
-    ensures none_asked { IfOk result (λ r. r.1.lines.submitted ≡ []) }
+    ensures none_asked { IfOk result (λ r. r.1.caller.submitted ≡ []) }
+    ensures order { IfOk result (λ r. KeepsOrder r.1.channels r.1.caller) }
     ensures dialect { IfOk result (λ r. r.1.dialect ≡ dialect.now) }
 {
     let kinds = kinds_of(alloc, dialect)?;
     let dialect = copy_of(dialect)?;
-    let Ok((driver, mut callers, listeners)) = Desk::open(alloc, 2, kinds.as_slice()) else {
+    let Ok((driver, mut callers, listeners)) = Desk::open(alloc, 1, kinds.as_slice()) else {
         return Err(DriveFault::NoMemory);
     };
-    let control = callers.remove(1);
-    let lines = callers.remove(0);
+    let caller = callers.remove(0);
     let users = Users {
-        lines,
-        control,
+        caller,
         listeners,
         under_way: Vec::new(alloc),
+        asked: None,
+        channels: Channels::new(quiet_for),
         counts: [0; Dlci::COUNT],
         dialect,
     };
@@ -129,19 +137,18 @@ fn make_session<L: SerialLine + Drop, R: Wait + Drop>(
     }
 }
 
-/// A session over this line, at a modem with these codes, and those who use its desk.
+/// A session over this line, as it is driven by these settings, and those who use its desk.
 fn begin<L: SerialLine + Drop, R: Wait + Drop>(
     rt: R,
     alloc: Global,
     line: L,
-    n1: u16,
-    dialect: &Dialect,
+    settings: &Settings<'_>,
 ) -> Result<(Session<L, R>, Users), DriveFault>
     ensures { IfOk result (λ r.
-        Begins (line_by L.received L.sent L.calls L.failures L.empty_reads L.stalled_writes) dialect.now n1 line r.0 r.1) }
+        Begins (line_by L.received L.sent L.calls L.failures L.empty_reads L.stalled_writes) settings.now.dialect.now settings.now.n1 line r.0 r.1) }
 {
-    let (driver, users) = open_desk(alloc, dialect)?;
-    match make_session(rt, alloc, line, driver, n1, dialect) {
+    let (driver, users) = open_desk(alloc, settings.dialect, settings.quiet_for)?;
+    match make_session(rt, alloc, line, driver, settings.n1, settings.dialect) {
         Ok(session) => Ok((session, users)),
         Err(fault) => Err(fault),
     }
@@ -165,12 +172,12 @@ where
     I: Read,
     W: Write,
     E: Write,
-    requires whole { IsWhole session.driver.desk (map place_of (users.lines ∷ users.control ∷ [])) }
+    requires whole { IsWhole session.driver.desk (map place_of (users.caller ∷ [])) }
     requires subscribed { AreSubscribed session.driver.desk (map subscription_of users.listeners.items) }
     ensures driven { IfOk result (λ r. HasDriven (line_by L.received L.sent L.calls L.failures L.empty_reads L.stalled_writes)
         session users plan.old plan.new (W.contents output.old) (W.contents output.new) (E.contents faults.old)
         (E.contents faults.new) r.1 r.0.1 r.0.0) }
-    ensures stops { OnErr result (StopsOn plan.old users.lines.submitted (E.contents faults.old) (E.contents faults.new)) }
+    ensures stops { OnErr result (StopsOn plan.old users.caller.submitted (E.contents faults.old) (E.contents faults.new)) }
 {
     let mut session = session;
     let mut users = users;
@@ -216,15 +223,15 @@ where
     I: Read + Drop,
     W: Write,
     E: Write,
-    requires whole { IsWhole session.driver.desk (map place_of (users.lines ∷ users.control ∷ [])) }
+    requires whole { IsWhole session.driver.desk (map place_of (users.caller ∷ [])) }
     requires subscribed { AreSubscribed session.driver.desk (map subscription_of users.listeners.items) }
     ensures driven { IfOk result (λ r. DrivesInput (line_by L.received L.sent L.calls L.failures L.empty_reads L.stalled_writes)
         session users (I.remaining input) (W.contents output.old) (W.contents output.new) (E.contents faults.old)
         (E.contents faults.new) r.1.fault r.1.was_bad r.1.left r.0) }
-    ensures stops { OnErr result (StopsOn (plan_begun (I.remaining input)) users.lines.submitted (E.contents faults.old)
+    ensures stops { OnErr result (StopsOn (plan_begun (I.remaining input)) users.caller.submitted (E.contents faults.old)
         (E.contents faults.new)) }
 {
-    let mut plan = Plan::new(Lines::new(alloc, input), settings.quiet_for);
+    let mut plan = Plan::new(Lines::new(alloc, input));
     let mut ticks = Ticks::new(settings.tick);
     let ran = run_session(
         rt, alloc, bell, session, users, &mut ticks, &mut plan, output, faults,
@@ -259,7 +266,7 @@ fn enter<L: SerialLine, R: Wait + Clock>(
 }
 
 /// Drives a modem on a line on which no call waits. It enters the multiplexer, opens connection 0, and opens each other connection when
-/// a line of the input first names it. It submits the lines `D TEXT` as they come, at most 16 at a time. It prints the outcome of each
+/// a line of the input first names it. It submits the lines `D TEXT` as they come, at most 15 at a time. It prints the outcome of each
 /// as `D i answer` and each announced line as `heard KIND D TEXT`, as they come; a kind of the dialect's own has its name. A connection
 /// whose command has had no answer for as long as the settings say is closed, and opened again for the next line. At the end of the
 /// input it waits for what is under way, and ends the multiplexer. `bell` is rung where octets of the line or of the input may have
@@ -292,7 +299,7 @@ where
 {
     let mut line = line;
     enter(rt, alloc, bell, &mut line, &settings)?;
-    let (session, users) = begin(*rt, alloc, line, settings.n1, settings.dialect)?;
+    let (session, users) = begin(*rt, alloc, line, &settings)?;
     drive_begun(
         rt, alloc, bell, session, users, input, output, faults, settings,
     )

@@ -1,16 +1,24 @@
-//! Those who use the desk of a drive: a caller whose requests are the lines of the input, a caller that opens, closes and stops, and
-//! a listener for each kind of line.
-ghost use Rattle.std.specs.Prelude.{◌≡◌, ◌<◌, ◌++◌, ◌∷◌, [], ℕ, List, Option, get_or, length, IfOk, IfSome, MatchOption, OnOk};
+//! Those who use the desk of a drive: a caller, whose requests are the lines of the input and what they need, and a listener for each
+//! kind of line.
+ghost use Rattle.std.specs.Prelude.{◌≡◌, ◌<◌, ◌++◌, ◌∷◌, [], ℕ, List, Option, Some, true, get_or, length, IfOk, IfSome, MatchOption, OnOk};
 ghost use Rattle.modem_desk.specs.declared.request.Ask.TheVariants as ask;
 ghost use Rattle.modem_drive.specs.Asking.{asks_of};
-ghost use Rattle.modem_drive.specs.Showing.{GoOn, TakesLine};
+ghost use Rattle.modem_drive.specs.Channels.{told_at};
+ghost use Rattle.modem_drive.specs.Showing.{GoOn, TakesLine, control_ask, shut_for};
+ghost use Rattle.modem_drive.specs.declared.users.Control.TheVariants.{Stop};
 ghost use Rattle.modem_drive.specs.declared.users.UnderWay.{UnderWay};
 
+use crate::channels::Channels;
 use crate::fault::{DriveFault, GiveUp};
 use at_text::{CommandLine, Dialect};
 use modem_desk::{Ask, Caller, Listener};
 use mux_frame::Dlci;
+use std::rt::Clock;
 use std::sync::Wait;
+use std::time::Duration;
+
+/// How many lines are under way at most. A caller may leave 16 outcomes untaken, so that one request beside them has a place.
+const LINES: usize = 15;
 
 /// A line that waits for its outcome: its request's number, its connection, and its place among that connection's lines, from 1.
 #[derive(Clone, Copy)]
@@ -20,37 +28,71 @@ pub struct UnderWay {
     pub place: u64,
 }
 
-/// Those who use the desk, the lines under way, how many lines of each connection were submitted, and the dialect by which a line that is
-/// heard is named.
+/// What is asked beside commands, one at a time.
+#[derive(Clone, Copy)]
+pub enum Control {
+    Open(Dlci),
+    Close(Dlci),
+    Stop,
+}
+
+/// What was asked beside commands and waits for its outcome, with its request's number.
+#[derive(Clone, Copy)]
+pub struct Asked {
+    pub number: u64,
+    pub control: Control,
+}
+
+/// Those who use the desk, what of theirs waits for an outcome, what is known of the connections, how many lines of each connection
+/// were submitted, and the dialect by which a line that is heard is named.
 #[derive(Drop)]
 pub struct Users {
-    pub lines: Caller,
-    pub control: Caller,
+    pub caller: Caller,
     pub listeners: Vec<Listener>,
     pub under_way: Vec<UnderWay>,
+    pub asked: Option<Asked>,
+    pub channels: Channels,
     pub counts: [u64; Dlci::COUNT],
     pub dialect: Dialect,
 }
 
+impl Control {
+    /// The request that it is.
+    fn ask(self) -> Ask
+        ensures { result ≡ control_ask self }
+    {
+        match self {
+            Control::Open(dlci) => Ask::OpenChannel(dlci),
+            Control::Close(dlci) => Ask::CloseChannel(dlci),
+            Control::Stop => Ask::Stop,
+        }
+    }
+}
+
 impl Users {
-    /// Submits a line. It is handed back where it can't be now.
-    pub fn submit<R: Wait>(
+    /// Submits a line, on a connection whose opening was told something. It is handed back where it can't be submitted now.
+    #[tactic(auto, using(crate::proofs::Lines::stays))]
+    pub fn submit<R: Wait + Clock>(
         &mut self,
         rt: &R,
         dlci: Dlci,
         line: CommandLine,
     ) -> Result<Option<CommandLine>, DriveFault>
+        requires { told_at self.old.channels dlci.number ≡ true }
         ensures goes { OnOk result ((out : Option (List ℕ)) → GoOn out out self.old self.new) }
         ensures asks { IfOk result (λ back. MatchOption back
-            (asks_of self.new.lines.submitted ≡ asks_of self.old.lines.submitted ++ ask.Command dlci line ∷ [])
-            (λ l. (l ≡ line) × (self.new.lines.submitted ≡ self.old.lines.submitted))) }
+            (asks_of self.new.caller.submitted ≡ asks_of self.old.caller.submitted ++ ask.Command dlci line ∷ [])
+            (λ l. (l ≡ line) × (self.new.caller.submitted ≡ self.old.caller.submitted))) }
     {
+        if self.under_way.len() >= LINES {
+            return Ok(Some(line));
+        }
         let d = usize::from(dlci.number());
         let Some(place) = self.counts[d].checked_add(1) else {
             return Err(DriveFault::GaveUp(GiveUp::Lines));
         };
         self.under_way.try_reserve(1)?;
-        match self.lines.submit(rt, Ask::Command(dlci, line)) {
+        match self.caller.submit(rt, Ask::Command(dlci, line)) {
             Ok(number) => {
                 self.counts[d] = place;
                 self.under_way.push_reserved(UnderWay {
@@ -58,11 +100,48 @@ impl Users {
                     dlci,
                     place,
                 });
+                self.channels.note_submitted(rt, dlci);
                 Ok(None)
             }
             Err((_, Ask::Command(_, back))) => Ok(Some(back)),
             Err(_) => unreachable!(),
         }
+    }
+
+    /// Asks this beside commands, where nothing such waits for its outcome, and says whether it asked. A Stop is asked only with no line
+    /// under way.
+    #[tactic(auto, using(crate::proofs::Lines::stays))]
+    pub fn ask<R: Wait>(&mut self, rt: &R, control: Control) -> bool
+        requires { control ≡ Stop → self.old.under_way.items ≡ [] }
+        ensures goes { (out : Option (List ℕ)) → GoOn out out self.old self.new }
+        ensures asks { asks_of self.new.caller.submitted ≡ asks_of self.old.caller.submitted }
+    {
+        if self.asked.is_some() {
+            return false;
+        }
+        let Ok(number) = self.caller.submit(rt, control.ask()) else {
+            return false;
+        };
+        self.note_asked(Asked { number, control });
+        true
+    }
+
+    /// Notes that this waits for its outcome.
+    fn note_asked(&mut self, asked: Asked)
+        ensures { self.new ≡ record self.old { asked = Some asked; channels = shut_for asked.control self.old.channels } }
+    {
+        self.asked = Some(asked);
+        if let Control::Close(dlci) = asked.control {
+            self.channels.shut(dlci);
+        }
+    }
+
+    /// The least time until a connection has to be closed, where a close can be asked.
+    pub fn time_left<K: Clock>(&self, clock: &K, most: Duration) -> Duration {
+        if self.asked.is_some() {
+            return most;
+        }
+        self.channels.time_left(clock, most)
     }
 
     /// Where the line of this number stands among those under way.

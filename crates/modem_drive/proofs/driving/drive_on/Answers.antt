@@ -6,7 +6,7 @@ use Rattle.modem_drive.proofs.Lines.{goes_then, stays}
 use Rattle.modem_drive.proofs.driving.drive_on.Goals as goal
 
 pub loop-init : goal.loop-init
-loop-init g c = record { drives = drives_none (line_by g.L.SerialLine.received g.L.SerialLine.sent g.L.SerialLine.calls g.L.SerialLine.failures g.L.SerialLine.empty_reads g.L.SerialLine.stalled_writes) c.args.session.now; goes = stays _ c.args.users.now; asks = asks_none c.args.plan.now c.args.users.now.lines.submitted (g.E.Write.contents c.args.faults.now) }
+loop-init g c = record { drives = drives_none (line_by g.L.SerialLine.received g.L.SerialLine.sent g.L.SerialLine.calls g.L.SerialLine.failures g.L.SerialLine.empty_reads g.L.SerialLine.stalled_writes) c.args.session.now; goes = stays _ c.args.users.now; asks = asks_none c.args.plan.now c.args.users.now.caller.submitted (g.E.Write.contents c.args.faults.now) }
 
 pub returns-in_err-round-clause-drives : goal.returns-in_err-round-clause-drives
 returns-in_err-round-clause-drives g c = drives_then (line_by g.L.SerialLine.received g.L.SerialLine.sent g.L.SerialLine.calls g.L.SerialLine.failures g.L.SerialLine.empty_reads g.L.SerialLine.stalled_writes) _ _ _ c.loop.invariant.drives c.round.ensures.drives
@@ -16,6 +16,9 @@ returns-in_err-round-clause-stops g c = stops_if _ _ _ _ _ (stops_then _ _ _ _ _
 
 pub returns-in-Ends-clause-drives : goal.returns-in-Ends-clause-drives
 returns-in-Ends-clause-drives g c = drives_then (line_by g.L.SerialLine.received g.L.SerialLine.sent g.L.SerialLine.calls g.L.SerialLine.failures g.L.SerialLine.empty_reads g.L.SerialLine.stalled_writes) _ _ _ c.loop.invariant.drives c.round.ensures.drives
+
+pub returns-in-Ends-clause-goes : goal.returns-in-Ends-clause-goes
+returns-in-Ends-clause-goes g c = goes_then _ _ _ _ _ _ c.loop.invariant.goes c.in_ok-round.ensures.goes
 
 pub returns-in-Ends-clause-asks : goal.returns-in-Ends-clause-asks
 returns-in-Ends-clause-asks g c = asks_then _ _ _ _ _ _ _ _ _ c.loop.invariant.asks c.in_ok-round.ensures.asks

@@ -15,4 +15,4 @@ invariant-loop g l =
     Gone
     (DrivesOn (line_by g.L.SerialLine.received g.L.SerialLine.sent g.L.SerialLine.calls g.L.SerialLine.failures g.L.SerialLine.empty_reads g.L.SerialLine.stalled_writes) l.initial.session l.session)
     (GoOn (g.W.Write.contents l.initial.output) (g.W.Write.contents l.output) l.initial.users l.users)
-    (AsksOn l.initial.plan l.plan l.initial.users.lines.submitted l.users.lines.submitted (g.E.Write.contents l.initial.faults) (g.E.Write.contents l.faults))
+    (AsksOn l.initial.plan l.plan l.initial.users.caller.submitted l.users.caller.submitted (g.E.Write.contents l.initial.faults) (g.E.Write.contents l.faults))

@@ -1,4 +1,4 @@
--- Both callers are handed in.
+-- The caller is handed in.
 use Rattle.std.specs.Prelude.{◌≡◌, List, [], ◌∷◌, ◌++◌, map}
 use Rattle.std.proofs.Common.{ap, sym, subst, ◌∙◌}
 use Rattle.std.specs.declared.vec.Vec.{Vec}
@@ -14,10 +14,8 @@ settle-requires-clause-callers g c =
     let driver : c.in_ok-callers.driver ≡ c.args.driver = ap (λ (p : DriverView × Users). p.0) kept in
     let users : c.in_ok-callers.users ≡ c.args.users = ap (λ (p : DriverView × Users). p.1) kept in
     let none : c.in_ok-callers.callers.items ≡ [] = known_ok (λ (v : Vec CallerView Global). v.items ≡ []) c.with_capacity.result c.in_ok-callers.callers c.in_ok-callers.ensures.made c.with_capacity.ensures.items in
-    let callers : c.push_reserved-2.new.self.items ≡ c.args.users.lines ∷ c.args.users.control ∷ [] =
-    c.push_reserved-2.ensures.items
-    ∙ ap (λ (l : List CallerView). l ++ c.in_ok-callers.users.control ∷ []) (c.push_reserved.ensures.items ∙ ap (λ (l : List CallerView). l ++ c.in_ok-callers.users.lines ∷ []) none)
-    ∙ ap (λ (u : Users). u.lines ∷ u.control ∷ []) users in
+    let callers : c.push_reserved.new.self.items ≡ c.args.users.caller ∷ [] =
+    c.push_reserved.ensures.items ∙ ap (λ (l : List CallerView). l ++ c.in_ok-callers.users.caller ∷ []) none ∙ ap (λ (u : Users). u.caller ∷ []) users in
     subst (λ (x : DriverView × List CallerView). IsWhole x.0.desk (map place_of x.1)) (λ i. (sym driver i, sym callers i)) c.requires.whole
 
 pub settle-requires-clause-listeners : goal.settle-requires-clause-listeners

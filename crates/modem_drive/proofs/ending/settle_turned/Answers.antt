@@ -10,7 +10,7 @@ use Rattle.modem_drive.proofs.ending.settle_turned.Goals as goal
 
 pub settle_all-requires-clause-whole : goal.settle_all-requires-clause-whole
 settle_all-requires-clause-whole g c =
-    subst (λ (x : DriverView × Users). IsWhole x.0.desk (map place_of (x.1.lines ∷ x.1.control ∷ []))) (sym c.in_ok-driver.ensures.kept) (known_done _ c.args.turned _ c.in_ok-driver.ensures.made c.requires.whole)
+    subst (λ (x : DriverView × Users). IsWhole x.0.desk (map place_of (x.1.caller ∷ []))) (sym c.in_ok-driver.ensures.kept) (known_done _ c.args.turned _ c.in_ok-driver.ensures.made c.requires.whole)
 
 pub settle_all-requires-clause-subscribed : goal.settle_all-requires-clause-subscribed
 settle_all-requires-clause-subscribed g c =
@@ -18,7 +18,7 @@ settle_all-requires-clause-subscribed g c =
 
 pub returns-clause-books : goal.returns-clause-books
 returns-clause-books g c =
-    subst (λ (x : DriverView × Users). IfOk c.unless_unheard.result (λ s. DeskBooks x.0 (x.1.lines ∷ x.1.control ∷ []) x.1.listeners.items s.left.items (map vec_items s.untaken.items) (map vec_items s.unheard.items)))
+    subst (λ (x : DriverView × Users). IfOk c.unless_unheard.result (λ s. DeskBooks x.0 (x.1.caller ∷ []) x.1.listeners.items s.left.items (map vec_items s.untaken.items) (map vec_items s.unheard.items)))
     c.in_ok-driver.ensures.kept
     (same_settled _ c.in_ok-settled.settled c.unless_unheard.result c.in_ok-settled.ensures c.unless_unheard.ensures)
 

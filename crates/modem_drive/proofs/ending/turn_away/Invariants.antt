@@ -15,4 +15,4 @@ invariant-loop g l =
     Passed (TurnsSome l.initial.offline l.offline l.initial.driver l.driver)
     (GoOn (g.W.Write.contents l.initial.output) (g.W.Write.contents l.output) l.initial.users l.users)
     (l.plan ≡ l.initial.plan)
-    (l.users.lines.submitted ≡ l.initial.users.lines.submitted)
+    (l.users.caller.submitted ≡ l.initial.users.caller.submitted)

@@ -26,5 +26,5 @@ pub returns-in_err-last-clause-stops : goal.returns-in_err-last-clause-stops
 returns-in_err-last-clause-stops g c =
     let begun : c.new-plan.result ≡ plan_begun (g.I.Read.remaining c.args.input) = c.new-plan.ensures ∙ ap planned c.new.ensures in
     stops_if _ _ _ _ _
-    (subst (λ (p : PlanView). StopsOn p c.args.users.lines.submitted (g.E.Write.contents c.args.faults.now) (g.E.Write.contents c.run_session-ran.new.faults)) begun
-    (known_err (StopsOn c.new-plan.result c.args.users.lines.submitted (g.E.Write.contents c.args.faults.now) (g.E.Write.contents c.run_session-ran.new.faults)) c.run_session-ran.result _ c.in_err-last.ensures.refused c.run_session-ran.ensures.stops))
+    (subst (λ (p : PlanView). StopsOn p c.args.users.caller.submitted (g.E.Write.contents c.args.faults.now) (g.E.Write.contents c.run_session-ran.new.faults)) begun
+    (known_err (StopsOn c.new-plan.result c.args.users.caller.submitted (g.E.Write.contents c.args.faults.now) (g.E.Write.contents c.run_session-ran.new.faults)) c.run_session-ran.result _ c.in_err-last.ensures.refused c.run_session-ran.ensures.stops))

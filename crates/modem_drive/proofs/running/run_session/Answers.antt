@@ -18,7 +18,7 @@ end_drive-requires-clause-subscribed g c =
 pub returns-in_err-ended-in-Ok-clause-stops : goal.returns-in_err-ended-in-Ok-clause-stops
 returns-in_err-ended-in-Ok-clause-stops g c =
     stops_if _ _ _ _ _
-    (stops_either c.drive_on-went.result c.args.plan.now c.drive_on-went.new.plan c.args.users.lines.submitted c.drive_on-went.new.users.lines.submitted (g.E.Write.contents c.args.faults.now) (g.E.Write.contents c.drive_on-went.new.faults) c.drive_on-went.ensures.asks c.drive_on-went.ensures.stops)
+    (stops_either c.drive_on-went.result c.args.plan.now c.drive_on-went.new.plan c.args.users.caller.submitted c.drive_on-went.new.users.caller.submitted (g.E.Write.contents c.args.faults.now) (g.E.Write.contents c.drive_on-went.new.faults) c.drive_on-went.ensures.asks c.drive_on-went.ensures.stops)
 
 pub returns-in_ok-ended-in-Ok-clause-driven : goal.returns-in_ok-ended-in-Ok-clause-driven
 returns-in_ok-ended-in-Ok-clause-driven g c =
@@ -27,6 +27,6 @@ returns-in_ok-ended-in-Ok-clause-driven g c =
     has_driven (line_by g.L.SerialLine.received g.L.SerialLine.sent g.L.SerialLine.calls g.L.SerialLine.failures g.L.SerialLine.empty_reads g.L.SerialLine.stalled_writes) c.args.session t t c.args.users mid mid
     c.args.plan.now c.end_drive.new.plan (g.W.Write.contents c.args.output.now) (g.W.Write.contents c.drive_on-went.new.output)
     (g.W.Write.contents c.end_drive.new.output) (g.E.Write.contents c.args.faults.now) (g.E.Write.contents c.drive_on-went.new.faults) c.in-Ok.fault c.in_ok-ended-in-Ok.ended.1 c.in_ok-ended-in-Ok.ended.0 c.drive_on-went.ensures.drives c.in-Ok.ensures.goes
-    (subst (λ (p : PlanView). AsksOn c.args.plan.now p c.args.users.lines.submitted mid.lines.submitted (g.E.Write.contents c.args.faults.now) (g.E.Write.contents c.drive_on-went.new.faults)) (sym c.end_drive.ensures.same) c.in-Ok.ensures.asks)
+    (subst (λ (p : PlanView). AsksOn c.args.plan.now p c.args.users.caller.submitted mid.caller.submitted (g.E.Write.contents c.args.faults.now) (g.E.Write.contents c.drive_on-went.new.faults)) (sym c.end_drive.ensures.same) c.in-Ok.ensures.asks)
     (subst (λ (p : PlanView). HasEndedBy t.machine.course p c.in-Ok.fault) (sym c.end_drive.ensures.same) c.in-Ok.ensures.ends)
     refl refl c.in_ok-ended-in-Ok.ensures.ends c.in_ok-ended-in-Ok.ensures.line

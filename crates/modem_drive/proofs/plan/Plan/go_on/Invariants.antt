@@ -11,4 +11,4 @@ pub record Asked (A B : Type 0) : Type 0 where
 abbrev pub invariant-loop : goal.invariant-loop
 invariant-loop g l =
     Asked ((out : Option (List ℕ)) → GoOn out out l.initial.users l.users)
-    (AsksOn l.initial.self l.self l.initial.users.lines.submitted l.users.lines.submitted (g.E.Write.contents l.initial.faults) (g.E.Write.contents l.faults))
+    (AsksOn l.initial.self l.self l.initial.users.caller.submitted l.users.caller.submitted (g.E.Write.contents l.initial.faults) (g.E.Write.contents l.faults))

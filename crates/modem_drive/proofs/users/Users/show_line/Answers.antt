@@ -9,8 +9,9 @@ returns-in_ok-write_line-in-Some-clause-goes g c =
     (record {
       within = c.requires;
       was_is = c.index_mut.ensures.value;
-      lines = refl;
-      control = refl;
+      caller = refl;
+      asked = refl;
+      channels = refl;
       listeners = refl;
       subscription = c.take.ensures.subscription;
       under_way = refl;
@@ -25,8 +26,9 @@ returns-in-None-clause-goes g c =
     (record {
       within = c.requires;
       was_is = c.index_mut.ensures.value;
-      lines = refl;
-      control = refl;
+      caller = refl;
+      asked = refl;
+      channels = refl;
       listeners = refl;
       subscription = c.take.ensures.subscription;
       under_way = refl;

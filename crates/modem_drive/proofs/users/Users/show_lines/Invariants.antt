@@ -14,4 +14,4 @@ invariant-loop-place g l =
     Asked (GoOn (g.W.Write.contents l.initial.output) (g.W.Write.contents l.output) l.initial.self l.self)
     (length l.self.listeners.items ≡ length l.initial.self.listeners.items)
     (l.place-end ≡ length l.initial.self.listeners.items)
-    (l.self.lines.submitted ≡ l.initial.self.lines.submitted)
+    (l.self.caller.submitted ≡ l.initial.self.caller.submitted)

@@ -1,28 +1,21 @@
--- The outcome of a line that was under way is printed.
-use Rattle.std.proofs.Common.{ap, ◌∙◌}
-use Rattle.modem_drive.specs.declared.users.Users.{Users}
-use Rattle.modem_drive.proofs.Lines.{tells}
+-- An outcome was taken, of a line or of something that was asked beside the lines.
+use Rattle.std.proofs.Common.{refl, rules}
+use Rattle.modem_drive.proofs.Besides.{looks, told_noted}
+use Rattle.modem_drive.proofs.Lines.{tells_line}
 use Rattle.modem_drive.proofs.users.Users.show_outcome.Goals as goal
 
-pub returns-clause-submits_none : goal.returns-clause-submits_none
-returns-clause-submits_none g c = ap (λ (u : Users). u.lines.submitted) c.in_ok-line.ensures.stays ∙ c.in-Some.ensures.place.1
+pub returns-in_default-clause-goes : goal.returns-in_default-clause-goes
+returns-in_default-clause-goes g c =
+    looks (g.W.Write.contents c.args.output.now) c.args.self.now c.take.new.self c.args.self.now.under_way (search rules) (search rules) (search rules) (search rules) refl
 
-pub returns-clause-goes : goal.returns-clause-goes
-returns-clause-goes g c =
-    let h = c.in_ok-line.ensures in
-    tells _ _ c.args.self.now c.settle_line.new.self c.in-Some.outcome c.in_ok-line.line
-    (record {
-      at = h.at;
-      within = h.within;
-      line_is = h.line_is;
-      number_is = h.number_is;
-      place = ap (λ (u : Users). u.lines.place) h.stays ∙ c.in-Some.ensures.place.0;
-      submitted = ap (λ (u : Users). u.lines.submitted) h.stays ∙ c.in-Some.ensures.place.1;
-      got = ap (λ (u : Users). u.lines.got) h.stays ∙ c.in-Some.ensures.got;
-      control = ap (λ (u : Users). u.control) h.stays;
-      listeners = ap (λ (u : Users). u.listeners) h.stays;
-      under_way = h.under_way;
-      counts = ap (λ (u : Users). u.counts) h.stays;
-      printed = c.in_ok-write_outcome.ensures;
-      dialect = ap (λ (u : Users). u.dialect) h.stays;
-    })
+pub returns-in-Some-asked-clause-goes : goal.returns-in-Some-asked-clause-goes
+returns-in-Some-asked-clause-goes g c =
+    told_noted (g.W.Write.contents c.args.output.now) c.args.self.now c.take_told.new.self c.take.new.self c.in-Some.outcome c.in-Some-asked.asked
+    (record { place = c.take.ensures.place.0; submitted = c.take.ensures.place.1; before = c.take.ensures.place.2; got = c.in-Some.ensures.got })
+    (search rules) (search rules) c.take_told.ensures
+
+pub returns-in_ok-show_told-in_default-asked-clause-goes : goal.returns-in_ok-show_told-in_default-asked-clause-goes
+returns-in_ok-show_told-in_default-asked-clause-goes g c =
+    tells_line (g.W.Write.contents c.args.output.now) (g.W.Write.contents c.show_told.new.output) c.args.self.now c.show_told.new.self c.take.new.self c.in-Some.outcome
+    (record { place = c.take.ensures.place.0; submitted = c.take.ensures.place.1; before = c.take.ensures.place.2; got = c.in-Some.ensures.got })
+    c.in_ok-show_told-in_default-asked.ensures

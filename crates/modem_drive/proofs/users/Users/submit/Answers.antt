@@ -3,7 +3,7 @@ use Rattle.std.specs.Prelude.{◌≡◌, ℕ, ◌+◌, List, [], ◌∷◌, ◌+
 use Rattle.std.proofs.Common.{ap, arith, ◌∙◌}
 use Rattle.modem_desk.specs.declared.request.Ask.TheVariants as ask
 use Rattle.modem_drive.specs.declared.users.UnderWay.{UnderWay}
-use Rattle.modem_drive.proofs.Asks.{asks_more}
+use Rattle.modem_drive.proofs.Asks.{asks_command}
 use Rattle.modem_drive.proofs.Lines.{submits}
 use Rattle.modem_drive.proofs.users.Users.submit.Goals as goal
 
@@ -15,15 +15,20 @@ returns-in-Ok-clause-goes g c =
     let same : c.from-d.result ≡ c.args.dlci.number = omega (arith, from, number) in
     λ out.
     submits out c.args.self.now _
-    (record { caller = c.args.self.now.lines.place.number; number = c.in-Ok.number; ask = ask.Command c.args.dlci c.args.line })
+    (record { caller = c.args.self.now.caller.place.number; number = c.in-Ok.number; ask = ask.Command c.args.dlci c.args.line })
     line
     (record {
-      place = c.in-Ok.ensures.place.0;
-      got = c.in-Ok.ensures.place.1;
-      submitted = c.in-Ok.ensures.submitted;
+      one = record {
+        place = c.in-Ok.ensures.place.0;
+        submitted = c.in-Ok.ensures.submitted;
+        got = c.in-Ok.ensures.place.1;
+        before = c.in-Ok.ensures.got_before;
+      };
       number = c.in-Ok.ensures.next;
       on = λ d. refl;
-      control = refl;
+      told = c.requires;
+      asked = refl;
+      channels = c.note_submitted.ensures;
       listeners = refl;
       under_way = c.push_reserved.ensures.items ∙ ap (λ (x : List UnderWay). x ++ line ∷ []) c.try_reserve.ensures.items;
       counts = ap (λ (n : ℕ). set c.args.self.now.counts n c.in-Some.place) same;
@@ -34,5 +39,5 @@ returns-in-Ok-clause-goes g c =
 
 pub returns-in-Ok-clause-asks : goal.returns-in-Ok-clause-asks
 returns-in-Ok-clause-asks g c =
-    asks_more c.submit.new.self.submitted c.args.self.now.lines.submitted
-    (record { caller = c.args.self.now.lines.place.number; number = c.in-Ok.number; ask = ask.Command c.args.dlci c.args.line }) c.in-Ok.ensures.submitted
+    asks_command c.submit.new.self.submitted c.args.self.now.caller.submitted
+    (record { caller = c.args.self.now.caller.place.number; number = c.in-Ok.number; ask = ask.Command c.args.dlci c.args.line }) c.in-Ok.ensures.submitted refl
