@@ -149,8 +149,8 @@ fn request_in(n1: N1, command: &[u8]) -> Option<MuxRequest>
 /// So many octets are kept of a line; one that is as long is taken for longer.
 const TOO_LONG: usize = 512;
 
-/// What a command line asks of the multiplexer, if its only command asks something, and it isn't too long. Where the line names no N1, it is `n1`. Where a
-/// parameter is out of its range it asks nothing, and is answered as any other line.
+/// What a command line asks of the multiplexer, if its only command asks something and it isn't too long. Where the line names no N1,
+/// it is `n1`. Where a parameter is out of its range it asks nothing, and is answered as any other line.
 pub fn mux_request(alloc: Global, n1: N1, line: &[u8]) -> Result<Option<MuxRequest>, AllocError>
     ensures { IfOk result (λ asked. option_map asked_of asked ≡ mux_request n1.octets line.now) }
 {
