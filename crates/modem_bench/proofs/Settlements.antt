@@ -1,5 +1,5 @@
 -- The run of a bench: its session begins, goes on and is finished, and then its desk is settled.
-use Rattle.std.specs.Prelude.{◌≡◌, ℕ, zero, suc, replicate, true, List, [], ◌++◌, drop, length, map, nat_lt, refl, vec_items, slice_index_or}
+use Rattle.std.specs.Prelude.{◌≡◌, ℕ, zero, suc, replicate, true, List, [], ◌∷◌, ◌++◌, Ok, drop, length, map, nat_lt, refl, vec_items, slice_index_or}
 use Rattle.std.specs.List.{list_all}
 use Rattle.std.proofs.Common.{ap, ◌∙◌, sym, subst}
 use Rattle.std.proofs.lemmas.List.{length-map}
@@ -10,14 +10,19 @@ use Rattle.modem_desk.specs.declared.request.Outcome.{Outcome}
 use Rattle.modem_desk.specs.declared.request.Request.{Request}
 use Rattle.modem_desk.specs.declared.settling.Settled.{Settled}
 use Rattle.modem_desk.specs.Ends.{AreSubscribed, CallerView, DeskId, DriverView, IsWhole, ListenerView, Opened, subscription_of, place_of}
-use Rattle.modem_history.specs.Acts.{after}
 use Rattle.modem_history.specs.Sessions.{EndView, LineView, at_place, taken_since}
+use Rattle.modem_history.specs.Turns.{TurnAnswer}
 use Rattle.modem_driver.specs.Headline.{IsHeadline, IsSettled, Run}
-use Rattle.modem_driver.specs.Polls.{SessionGoesOn}
+use Rattle.modem_driver.specs.OneSession.{CallKind, HasCalls, HasOne, LivedGrows, OneSession, call_of, none_called, poll_called, seen_by_calls, turn_called}
+use Rattle.modem_driver.specs.declared.session.ending.Ended.TheVariants.{Stopped}
+use Rattle.modem_driver.specs.declared.session.polling.Progress.{Progress}
+use Rattle.modem_driver.specs.declared.session.polling.Progress.TheVariants as progress
 use Rattle.modem_driver.specs.SessionStates.{FitsAll, SessionState, beginning_of, end_of, session_view}
+use Rattle.modem_driver.proofs.law_proofs.GrownHistories.{lived_grows}
 use Rattle.modem_driver.proofs.law_proofs.Headlines.{headline}
+use Rattle.modem_driver.proofs.law_proofs.OneSessions.{one_session}
 use Rattle.modem_sim.specs.Sims.{Sight, SimState}
-use Rattle.modem_bench.specs.Driving.{Continues, IsBegun, IsOver}
+use Rattle.modem_bench.specs.Driving.{Continues, Goes, GoesByStandard, IsBegun, IsOver, MakesPolls, MovesAndPolls, moves, no_poll, one_more, stays}
 use Rattle.modem_bench.specs.Running.{AreCalled, RanFor}
 use Rattle.modem_bench.specs.Simulating.{IsSimulated}
 use Rattle.modem_bench.specs.declared.calling.Worked.{Worked}
@@ -33,10 +38,12 @@ none_at (suc n) (suc i) = none_at n i
 module _ {X : Type 0} (look : X → LineView) where
   -- ## It begins, and goes on
 
-  pub begins : (n1 : ℕ) (l : LineView) (count : ℕ) (kinds : List UrcKind) (first : ℕ) (d : DriverView) (cs : List CallerView) (ls : List ListenerView) (s : SessionState X)
-      → Opened count kinds first d cs ls → FitsAll (beginning_of n1 l d) look s [] → s.driver ≡ d → IsBegun look s
-  begins n1 l count kinds first d cs ls s o fits same = record {
-    start = beginning_of n1 l d;
+  pub begins : (l : LineView) (count : ℕ) (kinds : List UrcKind) (first : ℕ) (d : DriverView) (cs : List CallerView) (ls : List ListenerView) (s : SessionState X)
+      → Opened count kinds first d cs ls → FitsAll (beginning_of 31 l d) look s [] → s.driver ≡ d → IsBegun look s
+  begins l count kinds first d cs ls s o fits same = record {
+    start = beginning_of 31 l d;
+    n1_is = refl;
+    dialect_is = refl;
     fits = fits;
     none_taken = o.taken;
     none_told = λ c. ap (λ xss. slice_index_or xss c []) o.told ∙ none_at count c;
@@ -45,13 +52,53 @@ module _ {X : Type 0} (look : X → LineView) where
     kinds = ap (λ (v : DriverView). v.desk.kinds) same;
   }
 
+  -- ## Its polls, as calls
+
+  -- a turn that moved something, and what was done behind it
+  pub turn_before : (first old new : SessionState X) (given : Progress) → HasCalls look first old → (m : MovesAndPolls look old new given) → HasCalls look first m.mid
+  turn_before first old new given h m = record {
+    calls = call_of look (CallKind.Turned TurnAnswer.Moved) m.mid ∷ h.calls;
+    called = turn_called old m.mid h.calls TurnAnswer.Moved h.called m.turn;
+  }
+
+  pub poll_then : (first old new : SessionState X) (given : Progress) → HasCalls look first old → MovesAndPolls look old new given → HasCalls look first new
+  poll_then first old new given h m =
+      let w = turn_before first old new given h m in
+      record { calls = call_of look CallKind.Polled new ∷ w.calls; called = poll_called m.mid new w.calls given w.called m.polls }
+
+  pub goes_then : (first old new : SessionState X) (quiet later : ℕ) → HasCalls look first old → Goes look old quiet new later → HasCalls look first new
+  goes_then first old new quiet later h (moves after given m none) = poll_then first old after given h m
+  goes_then first old new quiet later h (stays after s) = record {
+    calls = call_of look (CallKind.Turned s.says) after ∷ h.calls;
+    called = turn_called old after h.calls s.says h.called s.turn;
+  }
+
+  pub made_calls : (first last : SessionState X) (count quiet : ℕ) → MakesPolls look first count quiet last → HasCalls look first last
+  made_calls first last count quiet no_poll = record { calls = []; called = none_called }
+  made_calls first last count quiet (one_more before was later mid new made goes) = goes_then first mid new was later (made_calls first mid before was made) goes
+
   -- ## It is over
 
+  -- its calls before the last one
+  abbrev pub before_of : (s0 s1 : SessionState X) (h : Continues look s0 s1) → HasCalls look s0 h.stops.mid
+  before_of s0 s1 h = turn_before s0 h.mid s1 (progress.Ended (Ok Stopped)) (made_calls s0 h.mid h.count h.quiet h.waits) h.stops
+
+  abbrev pub calls_of : (s0 s1 : SessionState X) → Continues look s0 s1 → HasCalls look s0 s1
+  calls_of s0 s1 h =
+      let w = before_of s0 s1 h in
+      record { calls = call_of look CallKind.Polled s1 ∷ w.calls; called = poll_called h.stops.mid s1 w.calls (progress.Ended (Ok Stopped)) w.called h.stops.polls }
+
+  pub one_of : (s0 s1 : SessionState X) (begun : IsBegun look s0) (h : Continues look s0 s1) → HasOne look begun.start s0 s1 (calls_of s0 s1 h).calls
+  unfolding OneSession
+  one_of s0 s1 begun h = one_session look begun.start s0 s1 (calls_of s0 s1 h).calls begun.fits (calls_of s0 s1 h).called
+
   -- the run that it was
-  abbrev pub run_of : (s0 s1 : SessionState X) (cs : List CallerView) (ls : List ListenerView) (settled : Settled) → IsBegun look s0 → IsOver look s1 cs ls settled → Run
-  run_of s0 s1 cs ls settled begun over = record {
+  abbrev pub run_of : (s0 s1 : SessionState X) (cs : List CallerView) (ls : List ListenerView) (settled : Settled) → IsBegun look s0 → Continues look s0 s1 → IsOver look s1 cs ls settled → Run
+  run_of s0 s1 cs ls settled begun h over = record {
     start = begun.start;
     session = session_view look s1;
+    earlier = seen_by_calls (session_view look s0) (before_of s0 s1 h).calls;
+    past = (one_of s0 s1 begun h).past;
     leftovers = over.leftovers;
     driver = s1.driver;
     callers = cs;
@@ -68,9 +115,9 @@ module _ {X : Type 0} (look : X → LineView) where
       ap (list_all (λ (q : Request). nat_lt q.caller (length s1.driver.desk.rings))) since
       ∙ subst (λ (d : DeskId). list_all (λ (q : Request). nat_lt q.caller (length d.rings)) h.takes.more ≡ true) (sym h.takes.desk) h.takes.callers
 
-  pub settles : (s0 s1 : SessionState X) (cs : List CallerView) (ls : List ListenerView) (settled : Settled) (begun : IsBegun look s0) → Continues look s0 s1
-      → IsWhole s1.driver.desk (map place_of cs) → AreSubscribed s1.driver.desk (map subscription_of ls) → (over : IsOver look s1 cs ls settled) → IsSettled (run_of s0 s1 cs ls settled begun over)
-  unfolding SessionGoesOn
+  pub settles : (s0 s1 : SessionState X) (cs : List CallerView) (ls : List ListenerView) (settled : Settled) (begun : IsBegun look s0) (h : Continues look s0 s1)
+      → IsWhole s1.driver.desk (map place_of cs) → AreSubscribed s1.driver.desk (map subscription_of ls) → (over : IsOver look s1 cs ls settled) → IsSettled (run_of s0 s1 cs ls settled begun h over)
+  unfolding LivedGrows
   settles s0 s1 cs ls settled begun h whole subscribed over =
       record {
         none_taken = begun.none_taken;
@@ -78,8 +125,8 @@ module _ {X : Type 0} (look : X → LineView) where
         none_announced = begun.none_announced;
         callers = of_callers s0 s1 begun h;
         history =
-            let fits = h.goes.goes begun.start [] begun.fits in
-            record { past = after [] h.goes.acts; fits = fits.session; finishes = over.ends begun.start (after [] h.goes.acts) fits };
+            let o = one_of s0 s1 begun h in
+            record { grown = lived_grows begun.start (session_view look s0) (calls_of s0 s1 h).calls o.past o.lived; finishes = over.ends begun.start o.past o.fits };
         desk = over.desk;
         taken = ap (λ (e : EndView). e.taken) (sym over.desk);
         told = ap (λ (e : EndView). e.told) (sym over.desk);
@@ -107,11 +154,17 @@ module _ {X : Type 0} (look : X → LineView) where
         stopped = s1;
         driven = on;
         simulated = simulated;
-        run = run_of s0 s1 cs ls settled begun over;
+        calls = calls_of s0 s1 on;
+        run = run_of s0 s1 cs ls settled begun on over;
         start_is = refl;
         session_is = refl;
+        earlier_are = refl;
         driver_is = refl;
         callers_are = callers;
         settled = done;
-        headline = headline (run_of s0 s1 cs ls settled begun over) done;
+        headline = headline (run_of s0 s1 cs ls settled begun on over) done;
       }
+
+pub goes_by_standard : GoesByStandard
+unfolding GoesByStandard
+goes_by_standard s h = (sym h.fits.inside.setting.dialect_is ∙ h.dialect_is, sym h.fits.inside.setting.n1_is ∙ h.n1_is)

@@ -1,5 +1,6 @@
 -- The session of a bench: how it begins, how it goes on in its thread, and how it ends.
 use Rattle.std.specs.Prelude.{◌≡◌, ℕ, ◌+◌, ◌<◌, ◌≤◌, Bool, true, false, List, [], Option, None, Some, Result, Ok, Err, map, slice_index_or, vec_items}
+use Rattle.at_text.specs.Dialects.{standard}
 use Rattle.modem_desk.specs.declared.settling.Settled.{Settled}
 use Rattle.modem_desk.specs.Books.{DeskBooks}
 use Rattle.modem_desk.specs.Ends.{CallerView, ListenerView}
@@ -10,6 +11,7 @@ use Rattle.modem_driver.specs.declared.session.ending.Ended.TheVariants.{Stopped
 use Rattle.modem_driver.specs.declared.session.error.SessionFault.{SessionFault}
 use Rattle.modem_driver.specs.declared.session.polling.Progress.{Progress}
 use Rattle.modem_driver.specs.declared.session.polling.Progress.TheVariants.{Ended, Idle, More}
+use Rattle.modem_driver.specs.Cores.{dialect_in}
 use Rattle.modem_driver.specs.Polls.{Polls, SessionGoesOn, end_in}
 use Rattle.modem_driver.specs.SessionStates.{SessionEnds, FitsAll, SessionState, TakesMore, end_of, session_view}
 use Rattle.modem_driver.specs.SessionTurns.{Faults, TakesTurn, fault_of}
@@ -22,15 +24,23 @@ use Rattle.modem_bench.specs.declared.limit.Limit.{Limit}
 use Rattle.modem_bench.specs.declared.limit.Limits.{Limits}
 use Rattle.modem_bench.specs.declared.signals.Fault.{Fault}
 
--- the session has done nothing yet, and neither has its desk
+-- a session at a modem of the standard's codes, with N1 31, has done nothing yet, and neither has its desk
 pub record IsBegun {X : Type 0} (look : X → LineView) (s : SessionState X) : Type 0 where
   pub start : Beginning
+  pub n1_is : start.n1 ≡ 31
+  pub dialect_is : start.dialect ≡ standard
   pub fits : FitsAll start look s []
   pub none_taken : start.desk.taken ≡ []
   pub none_told : (c : ℕ) → slice_index_or start.desk.told c [] ≡ []
   pub none_announced : (i : ℕ) → slice_index_or start.desk.announced i [] ≡ []
   pub desk : end_of s.driver ≡ start.desk
   pub kinds : s.driver.desk.kinds ≡ start.kinds
+
+-- the core of such a session goes by the standard's codes alone, and by no other N1
+unfoldable pub GoesByStandard : Type 0
+GoesByStandard =
+    (s : SessionState LineView) → IsBegun (λ l. l) s
+    → (dialect_in s.machine.core ≡ standard) × (s.machine.core.station.n1 ≡ 31)
 
 -- ## One poll
 

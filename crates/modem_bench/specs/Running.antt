@@ -6,6 +6,7 @@ use Rattle.modem_desk.specs.declared.request.Ask.{Ask}
 use Rattle.modem_desk.specs.declared.request.Outcome.{Outcome}
 use Rattle.modem_desk.specs.Ends.{CallerView, Each, IsFresh}
 use Rattle.modem_driver.specs.Headline.{Headline, IsSettled, Run}
+use Rattle.modem_driver.specs.OneSession.{HasCalls, seen_by_calls}
 use Rattle.modem_driver.specs.SessionStates.{SessionState, line_by, session_view}
 use Rattle.modem_history.specs.Sessions.{LineView}
 use Rattle.modem_sim.specs.Sims.{Sight, SimState, sight}
@@ -108,10 +109,12 @@ pub record RanFor {X : Type 0} (look : X → LineView) (see : Sight X) (all : Li
   pub begun : IsBegun look session
   pub stopped : SessionState X
   pub driven : Continues look session stopped
+  pub calls : HasCalls look session stopped
   pub simulated : IsSimulated see sim
   pub run : Run
   pub start_is : run.start ≡ begun.start
   pub session_is : run.session ≡ session_view look stopped
+  pub earlier_are : run.session ∷ run.earlier ≡ seen_by_calls (session_view look session) calls.calls
   pub driver_is : run.driver ≡ stopped.driver
   pub callers_are : run.callers ≡ map (λ (w : Worked). w.caller) worked
   pub settled : IsSettled run
@@ -136,8 +139,8 @@ abbrev pub sight_of : Sight EndState
 sight_of = sight (λ l. l.received) (λ l. l.sent) (λ l. l.calls) (λ _. 0) (λ l. l.empty_reads) (λ l. l.stalled_writes)
 
 -- So many callers, which had done nothing before, did what the submissions ask of them, by a session at one end
--- of a new line with this room, at the other end of which stood a simulated modem that had just started, with
--- this script.
+-- of a new line with this room, to its end. A simulated modem that had just started, with this script, began at the
+-- line's other end, and came to its end too. That what each end received is what the other sent isn't said.
 pub record Ran (all : List Submission) (count cut : ℕ) (script : Script) (outcomes : List (List Outcome)) :
     Type 0 where
   pub near : EndState

@@ -1,4 +1,5 @@
 //! Laws of a session and a simulated modem at two lines in memory, as contracts of functions that do nothing.
+ghost use Rattle.modem_bench.specs.Driving.{GoesByStandard};
 ghost use Rattle.modem_bench.specs.OneLine.{BeginsOnOneLine, RightCrossings, WrongCrossings};
 
 /// A session and a simulated modem that were just made with one N1, each at a new line without input, whatever its cuts and its
@@ -13,4 +14,10 @@ pub fn new_lines()
 pub fn worked_crossings()
     ensures right { RightCrossings }
     ensures wrong { WrongCrossings }
+{}
+
+/// The session of a bench goes by the standard's codes alone, with N1 31.
+#[tactic(auto, using(crate::proofs::Settlements::goes_by_standard))]
+pub fn benches()
+    ensures { GoesByStandard }
 {}

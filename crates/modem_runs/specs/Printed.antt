@@ -44,9 +44,9 @@ pub record IsReplayedBy (rules : Rules) (n1 : ℕ) (text shown : List ℕ) : Typ
   pub replays : ReplaysBy rules n1 events acts
   pub printed : shown ≡ acts_text_by rules acts
 
--- a text has what so many callers submit, and this is printed of what they were told for it, each line of a
--- caller for the line of the text at its place, by a driver over a line with room for so many octets each way
--- and a simulated modem that had just started, with this script, at its other end
+-- A text has what so many callers submit, and this is printed of what they were told for it, each line of a
+-- caller for the line of the text at its place, by a driver over a new line with room for so many octets each way.
+-- A simulated modem that had just started, with this script, began at the line's other end, and came to its end.
 pub record IsBenched (callers cut : ℕ) (script : Script) (text shown : List ℕ) : Type 0 where
   pub submissions : List Submission
   pub outcomes : List (List Outcome)

@@ -30,7 +30,7 @@ returns-clause-begun g c =
     known_ok (λ (r : SessionState g.row.L.Denot × SimState g.row.L.Denot). c.make_session-session.result ≡ Ok r.0) c.both.result (s, c.in_ok-session.sim) c.in_ok-session.ensures.made c.both.ensures.first in
     let fits = known_ok (λ (t : SessionState g.row.L.Denot). FitsAll (beginning_of 31 (look c.args.line.0) c.in_ok-driver.driver) look t []) c.make_session-session.result s made c.make_session-session.ensures.begins in
     let same = known_ok (λ (t : SessionState g.row.L.Denot). (t.line ≡ c.args.line.0) × (t.driver ≡ c.in_ok-driver.driver)) c.make_session-session.result s made c.make_session-session.ensures.same in
-    begins look 31 (look c.args.line.0) c.args.callers [] 1 c.in_ok-driver.driver c.in_ok-driver.callers.items c.in_ok-driver.listeners.items s c.in_ok-driver.ensures fits same.1
+    begins look (look c.args.line.0) c.args.callers [] 1 c.in_ok-driver.driver c.in_ok-driver.callers.items c.in_ok-driver.listeners.items s c.in_ok-driver.ensures fits same.1
 
 pub returns-clause-callers : goal.returns-clause-callers
 returns-clause-callers g c =
