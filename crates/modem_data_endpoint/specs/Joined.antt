@@ -1,5 +1,5 @@
 -- What passes between a relay and the endpoint behind it, and commands on a connection that carries data.
-use Rattle.std.specs.Prelude.{◌≡◌, ℕ, ◌<◌, true, List, ◌∷◌, length, Option, None}
+use Rattle.std.specs.Prelude.{◌≡◌, ◌↔◌, ℕ, ◌<◌, true, List, ◌∷◌, length, Option, None}
 use Rattle.mux_frame.specs.declared.dlci.Dlci.{Dlci}
 use Rattle.at_text.specs.declared.command.CommandLine.{CommandLine}
 use Rattle.modem_desk.specs.Ends.{DriverView}
@@ -37,7 +37,7 @@ abbrev pub RefusesCommand : Relay → (e f : EndpointState) → Dlci → Command
 RefusesCommand r e f dlci line (refused.CarriesData back) =
     (back ≡ line) × ((f ≡ e) × OfEachPast r.pipes (λ past. true ≡ is_behind_lines (carries dlci.number past)))
 RefusesCommand r e f dlci line (refused.Request q) =
-    (q.ask ≡ Ask.Command dlci line) × (Refuses e f × (q.why ≡ why.Full → IsFull f))
+    (q.ask ≡ Ask.Command dlci line) × (Refuses e f × ((q.why ≡ why.Full) ↔ IsFull f))
 
 -- each is a step of the two
 unfoldable pub HandsAreSteps : Type 0
