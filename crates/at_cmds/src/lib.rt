@@ -1,5 +1,11 @@
 //! Typed commands and replies of a modem (3GPP TS 27.007, clauses 5 to 10), in the line syntax of ITU-T V.250, clause
 //! 5. `Command::line` writes a command and `Command::read` reads one; `Reply::read` reads an answer.
+//!
+//! # Layout
+//!
+//! - `command`, `writing`, `texts`: commands as lines. `reading`: lines as commands.
+//! - `reply`, `answers`, `registration`, `cells`, `cme`: replies. `params`, `values`: their parameters.
+//! - `error`, `laws`.
 #![tactic(auto)]
 
 mod answers;

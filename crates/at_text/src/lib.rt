@@ -1,6 +1,13 @@
 //! AT commands as text (ITU-T V.250, clause 5; 3GPP TS 27.007, clause 9). `CommandLine` is a line to send, `LineReader`
 //! reads lines from octets, `Window` tells which lines answer a command, and a `Dialect` says which lines are final
 //! codes and which are unsolicited.
+//!
+//! # Layout
+//!
+//! - `command`, `error`: what is sent. `reader`, `text`, `octets`: lines of what comes.
+//! - `finals`, `unsolicited`: the standards' lists. `dialect`, `dialect_error`, `rules`, `heads`, `known_rules`: rules beside them.
+//! - `window`, `answer`: which lines answer a command.
+//! - `laws`, `dialect_laws`.
 #![tactic(auto)]
 
 mod answer;

@@ -1,4 +1,9 @@
 //! Tests of the core, of entries, of endpoints and sessions, and of which calls of the driver and of a simulated modem take no memory.
+//!
+//! # Layout
+//!
+//! - `entries`, `stops`, `waiting`, `ticking`, `reset`: tests, a subject each. `no_memory/`: which calls take none.
+//! - `made`, `callers`: what they begin with.
 #![tactic(auto)]
 
 #[cfg(test)]

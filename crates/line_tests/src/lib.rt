@@ -1,4 +1,9 @@
 //! Tests of lines of octets and of bells.
+//!
+//! # Layout
+//!
+//! - `streams`, `threads`, `devices`, `bells`: tests, a subject each. `no_memory`: which calls take none.
+//! - `made`: what they begin with.
 #![tactic(auto)]
 
 #[cfg(test)]

@@ -1,5 +1,13 @@
 //! A bench: callers, the driver and a simulated modem, in threads of their own (`run_bench`), or a session and a
 //! simulated modem in rounds in one thread (`meet`, `run_in_rounds`).
+//!
+//! # Layout
+//!
+//! - `running`, `threads`, `crew`, `limit`: a bench from its beginning to its end. `ends`, `settling`, `results`: both of these.
+//! - `driving`, `calling`, `simulating`: its threads. `submission`: what is asked. `signals`, `bells`, `ringing_line`: how they wake one
+//!   another. `cause`: why it is given up.
+//! - `meeting`, `rounds`: the same in one thread.
+//! - `laws`.
 #![tactic(auto)]
 
 mod bells;

@@ -1,5 +1,12 @@
 //! A driver of a cellular modem for programs in C. Each call of include/cimbaloty.h calls an endpoint
 //! (`modem_driver::Endpoint`), whose contract it carries through.
+//!
+//! # Layout
+//!
+//! - `driver`, `handle`, `parts`: what C keeps of a driver. `making`, `ending`.
+//! - `requests`, `octets`, `outcomes`, `lines`, `states`, `time`: its calls. `numbers`, `kinds`, `places`: numbers and the caller's room.
+//! - `dialects/`, `entries/`: dialects and entries, each with a handle of its own.
+//! - `laws`.
 #![tactic(auto)]
 
 mod dialects;

@@ -1,4 +1,10 @@
 //! Data on connections of the multiplexer, beside the AT commands on the others.
+//!
+//! # Layout
+//!
+//! - `relay`, `octets`, `passing`, `message`: frames that pass. `pipe_set`: the connections that carry data.
+//! - `pipe`: one of them. Under it `lane` has its data, `switch` where data begins, `watch` whether it may send.
+//! - `error`, `laws`.
 #![tactic(auto)]
 
 mod error;

@@ -20,6 +20,14 @@ use std::alloc::{AllocError, Global};
 use std::marker::Model;
 
 /// A relay: the frames of the line go on to the driver, and those of the driver to the line, but for data.
+///
+/// - `new` names the connections that may carry data. `begin` begins a lane on one, from its opening on or behind the next CONNECT;
+///   `lines` ends it.
+/// - Hand what the line gave to `from_line`. Give the driver what `for_driver` lends, and say by `handed` how much.
+/// - Where `wants_driver` says so, hand the driver's octets to `feed_driver`. While `ready` says so, write what `for_line` lends,
+///   and say by `wrote` how much.
+/// - `give` takes data to be sent, `read` gives what came, and says where the lane has ended.
+/// - `lost` says that the line failed: each lane is over, and what came stays readable.
 #[derive(Drop)]
 pub struct Relay {
     outer: Deframer,

@@ -1,5 +1,10 @@
 //! Data beside AT for programs in C. Each call of include/cimbaloty_data.h calls a relay (`modem_data::Relay`), whose contract it
 //! carries through.
+//!
+//! # Layout
+//!
+//! - `held_data`, `handle`, `parts`: what C keeps of a relay. `making`.
+//! - `lanes`, `octets`: its calls. `numbers`, `places`: numbers and the caller's room.
 #![tactic(auto)]
 
 mod handle;

@@ -16,6 +16,12 @@ use std::sync::Arc;
 const CALLERS: u8 = 8;
 
 /// Where callers, listeners and the driver meet. A desk is open as long as its ends are.
+///
+/// - `open` gives its ends: callers, listeners and the driver's. Each may go to a thread of its own.
+/// - A `Caller` submits requests, and takes one outcome for each. At 16 outcomes untaken it is refused until it takes one.
+/// - A `Listener` takes the lines of its kind.
+/// - The `DriverEnd` goes into a session (`modem_driver::Session`), or is used by a driver of your own: `next`, `tell`, `announce`.
+/// - `settle` takes the driver's end, all callers and the listeners, and says what each asked, took and didn't take.
 pub struct Desk;
 
 impl Desk {

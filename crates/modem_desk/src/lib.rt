@@ -4,6 +4,12 @@
 //! The callers share one queue of 64 requests. Whatever the threads do, the queue keeps a rule: a caller's requests that the driver
 //! took, and then those queued, are those that it submitted. Each caller has a ring of 8 outcomes, each listener a ring of 256
 //! lines. There is no lock around any of them.
+//!
+//! # Layout
+//!
+//! - `desk`, `error`: how one is opened. `request`: what passes.
+//! - `caller`, `listener`, `driver`: its ends. `rule`: what the queue keeps.
+//! - `settling`: how one ends.
 #![tactic(auto)]
 
 mod caller;

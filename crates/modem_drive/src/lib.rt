@@ -3,6 +3,13 @@
 //! The device is read by one thread and written by another, with rings between (`device_line`), and the input is read by a third.
 //! All else is one loop in one thread: it submits lines, polls the session, prints outcomes and lines, and waits on a bell that those
 //! threads ring, or until a tick is due. So nothing is done while nothing comes.
+//!
+//! # Layout
+//!
+//! - `on_device`, `device`, `settings`, `patience`: from a device's path to its status; its threads.
+//! - `running`, `driving`, `ending`, `fault`: a drive over any line. `users`, `plan`, `channels`, `input`: what it asks.
+//! - `showing`, `pieces`, `saying`, `results`: what it prints. `captured_line`: what it captures.
+//! - `laws`.
 #![tactic(auto)]
 
 mod captured_line;

@@ -2,6 +2,17 @@
 //! `enter_by` bring the modem into the multiplexer (3GPP TS 27.007, 5.7). Then a `Session` drives it over a line and a
 //! desk, or an `Endpoint` is fed with octets and requests by its caller. `replay` plays a list of events. `laws` says
 //! what is proved of whole runs.
+//!
+//! # Layout
+//!
+//! - The core: `driver` (`Core`), `took`, `got`, `tick`, `backlog`, `going_out` (what it is called with), `hand`, `lane`, `lanes`, `reports`,
+//!   `joining`, `telling`, `written`, `act_list`, `error` (what it keeps and does).
+//! - `event`, `replaying`, `replaying_by`: replays.
+//! - `machine/`: what session and endpoint share: octets in and out, frames, requests, time, what waits.
+//! - `session/`: turns, polls and ends at a line and a desk; `Offline` at a desk without a line.
+//! - `endpoint/`: the same for a caller who reads and writes the line.
+//! - `entering`, `entry`, `entry_tries`: from plain commands into the multiplexer.
+//! - `laws`: the headline, and of every run.
 #![tactic(auto)]
 
 mod act_list;

@@ -29,6 +29,14 @@ pub use turn::Turn;
 
 /// A driver between its line and the driver's end of its desk. It keeps the right to wait, and the
 /// allocator.
+///
+/// - Begin with `new` or `with_dialect`, at a line whose modem is in the multiplexer (`enter`, `enter_by`).
+/// - Callers ask at the desk, not here; outcomes and lines go to the desk's callers and listeners.
+/// - Poll it: as a future, or by `advance` in a loop of your own, which says whether there may be more to do at once. It waits for
+///   nothing, so wake the loop by the line, the desk's bell or a clock. `turn` is one step of a poll.
+/// - `tick` once in each T1 while `wants_tick` says so.
+/// - It ends with Stopped, once a Stop is told and all is placed, or with a fault; NoMemory is no end. Then `finish` gives line,
+///   desk's end and what is left, and `modem_desk::settle` ends the desk. `Offline` takes its place at the desk where the line failed.
 #[derive(Drop)]
 pub struct Session<L: SerialLine, R: Wait + Drop> {
     rt: R,

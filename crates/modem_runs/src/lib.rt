@@ -1,5 +1,11 @@
 //! What `modemctl` does at each of its words: reads octets as frames, replays a script, and runs a bench of callers in threads
 //! with a simulated modem.
+//!
+//! # Layout
+//!
+//! - `runs`, `stop`, `reasons`, `input`, `writing`: a run over a reader and two writers, and how it ends.
+//! - `dump`, `framing`: `frames`. `script`, `dialect_runs`, `texts`: `replay`. `bench/`, `steps`: `bench`.
+//! - `laws`.
 #![tactic(auto)]
 
 mod bench;

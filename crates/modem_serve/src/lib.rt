@@ -1,5 +1,12 @@
 //! A modem for any client: plain command lines until one enters the multiplexer (27.007, 5.7), then the multiplexer until it is closed
 //! down, by a CLD or by a DISC on 0, then plain lines again.
+//!
+//! # Layout
+//!
+//! - `serving`, `writing`, `fault`: a modem on a reader and a writer. `server`: the same, octets in and octets out.
+//! - `plain`, `requests`: plain lines. `mux`, `held_line`, `history`: in the multiplexer. `first_frame`: where one ends. `steps`: scripts.
+//! - `watching`: captures.
+//! - `laws`.
 #![tactic(auto)]
 
 mod fault;

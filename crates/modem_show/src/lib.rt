@@ -1,5 +1,11 @@
 //! What happened on the line between a driver and its modem, told of the frames that a capture has, and what was wrong there. `Watcher`
 //! takes the frames of both ways in the order in which they passed, and judges each by the tables of 3GPP TS 27.010 (5.4).
+//!
+//! # Layout
+//!
+//! - `watcher`, `faults`, `rule`: judges frames. Under it `end`, `place`, `asks`, `ask`, `deed`, `message`: what is known of each end.
+//! - `talks`, `talk`, `told`: judges lines.
+//! - `laws`.
 #![tactic(auto)]
 
 mod ask;

@@ -1,6 +1,14 @@
 //! A simulated modem, to test its users with. `Modem` answers command lines (3GPP TS 27.007, clauses 5 to 10, in the
 //! line syntax of ITU-T V.250, clause 5). `Sim` puts a modem at the far end of a multiplexed line (3GPP TS 27.010),
 //! with a script of what it does of its own accord.
+//!
+//! # Layout
+//!
+//! - `modem`, `state`, `contexts`, `answers`: the standard's commands. `wording`, `words`, `command_lines`, `activity`, `values`: the second
+//!   table.
+//! - `sim`, `polling`, `error`: a modem at its line. `sim_machine`, `going`: its turns. `sim_core`, `channel`, `replying`, `handing`: its end
+//!   without the line. `script`, `doing`: what it does of its own accord.
+//! - `laws`.
 #![tactic(auto)]
 
 mod activity;

@@ -38,6 +38,12 @@ pub struct SimRefused<L: SerialLine> {
 }
 
 /// A simulated modem at its end of a line.
+///
+/// - `new` takes a line, a `Modem` and a `Script` of what the modem does of its own accord. It is in the multiplexer from the first
+///   octet on.
+/// - Poll it as a future, or by `advance` in a loop of your own; `turn` is one step. It waits for nothing and holds no clock.
+/// - It ends with Ended, behind a CLD, or with a fault; NoMemory is no end.
+/// - `state` shows a connection, `unwritten` what the line hasn't taken. `finish` gives the line and the modem back.
 #[derive(Drop)]
 pub struct Sim<L: SerialLine> {
     line: L,

@@ -1,4 +1,9 @@
 //! Texts that programs read and print: the lines of an input, commands on connections, outcomes, and lines that are announced.
+//!
+//! # Layout
+//!
+//! - `lines`, `words`, `dialects`: texts that are read. `refusal`, `line_fault`: why they aren't.
+//! - `told`, `writing`: texts that are printed.
 #![tactic(auto)]
 
 mod dialects;

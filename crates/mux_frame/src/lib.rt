@@ -1,5 +1,13 @@
 //! Frames of the basic option of 3GPP TS 27.010 (5.2.1). `write_frame` writes a frame, `Deframer` reads frames from
 //! octets as they come, and `laws::read_plain` reads a whole text at once.
+//!
+//! # Layout
+//!
+//! - `frame`, `dlci`, `info`, `probe`, `n1`, `error`: what a frame is.
+//! - `write`, `check`: writes one.
+//! - `deframer`: reads frames. Under it `settling` takes octets in, `judge` tells what a candidate is, `straight` and `slice` lend the
+//!   ring's octets as one slice.
+//! - `laws`: what was written is read back; each text has one reading.
 #![tactic(auto)]
 
 mod check;

@@ -1,6 +1,14 @@
 //! One end of the basic option of 3GPP TS 27.010: `Station` keeps its connections, control messages and flow control.
 //! It takes frames by `got`, its user's calls, and a `tick` for each T1; `next_frame` gives what goes to the line. It
 //! holds no line and no clock.
+//!
+//! # Layout
+//!
+//! - `station`, `role`, `error`: the two ends, and what is kept. `row`: their tables.
+//! - `calls`, `room`: what the user asks. `got`, `answers`, `noted`, `reading`, `message`: what comes. `tick`, `repeats`: time.
+//! - `channel`, `channels`: the connections. `control_queue`, `control_frame`, `control_octets`: connection 0.
+//! - `sending`, `outgoing`, `written`, `write_buffer`: what goes out.
+//! - `laws`: of every history.
 #![tactic(auto)]
 
 mod answers;

@@ -1,6 +1,11 @@
 //! Lines of octets: what a serial line is to its users (`SerialLine`), a line in memory whose cuts and faults are
 //! chosen beforehand (`CutLine`), a line between two threads (`ThreadLine`), and a line over a reader and a writer
 //! (`StreamLine`).
+//!
+//! # Layout
+//!
+//! - `line`, `errors`: the trait. `counting`: its counts. `history`, `read_buffer`, `tape`: octets.
+//! - `cut_line`, `cuts`: a line in memory. `thread_line`: between threads. `stream_line`: over a reader and a writer.
 #![tactic(auto)]
 
 mod counting;

@@ -1,4 +1,9 @@
 //! Tests of dialects, lines and typed commands.
+//!
+//! # Layout
+//!
+//! - `dialects`, `sizes`: tests, a subject each. `no_memory/`: which calls take none.
+//! - `made`: what they begin with.
 #![tactic(auto)]
 
 #[cfg(test)]
