@@ -1,5 +1,6 @@
 //! Lines that two rules have in common.
 ghost use Rattle.std.specs.Prelude.{◌≡◌, ◌≤◌, true, false, length};
+ghost use Rattle.at_text.specs.Deciding.{can_meet};
 ghost use Rattle.at_text.specs.Refusals.{HaveLineInCommon};
 ghost use Rattle.at_text.specs.Rules.{pattern};
 ghost use Rattle.at_text.specs.StandardRules.{standard_form, standard_text};
@@ -70,6 +71,7 @@ pub fn have_line_in_common(
     other_form: Form,
     other_text: &[u8],
 ) -> bool
+    ensures value { result ≡ can_meet (pattern form text.now) (pattern other_form other_text.now) }
     ensures yes { result ≡ true → HaveLineInCommon (pattern form text.now) (pattern other_form other_text.now) }
     ensures no { length text.now ≤ 64 → length other_text.now ≤ 64 → result ≡ false
         → ¬ HaveLineInCommon (pattern form text.now) (pattern other_form other_text.now) }
