@@ -1,5 +1,5 @@
 -- Kinds of unsolicited lines are the same where their places are.
-use Rattle.std.proofs.Common.{ap, sym, arith}
+use Rattle.std.proofs.Common.{ap, arith}
 use Rattle.std.proofs.lemmas.Bool.{eqb-true, eq-eqb}
 use Rattle.std.specs.Prelude.{◌≡◌, ℕ, ◌+◌, nat_eq, ◌<◌, true, refl}
 use Rattle.at_text.specs.declared.unsolicited.UrcKind.{UrcKind}

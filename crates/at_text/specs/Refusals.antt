@@ -40,6 +40,12 @@ pub record TakesCommand (p : Pattern) : Type 0 where
   pub begins : has_at line ≡ true
   pub taken : takes p line ≡ true
 
+-- some line is of both rules
+pub record HaveLineInCommon (p q : Pattern) : Type 0 where
+  pub line : List ℕ
+  pub one : takes p line ≡ true
+  pub other : takes q line ≡ true
+
 -- some line ends an answer and is unsolicited
 pub record IsAmbiguous (d : Dialect) : Type 0 where
   pub line : List ℕ

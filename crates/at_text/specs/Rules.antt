@@ -1,5 +1,5 @@
 -- Rules of lines, as data, and the dialect that they make beside the standard's.
-use Rattle.std.specs.Prelude.{◌≡◌, refl, ℕ, nat_eq, Bool, true, false, ◌&&◌, ◌==◌, List, [], ◌∷◌, ◌++◌, length, drop, Option, Some, None, is_some, not, option_map, if◌then◌else◌}
+use Rattle.std.specs.Prelude.{◌≡◌, refl, ℕ, nat_eq, Bool, true, ◌&&◌, ◌==◌, List, [], ◌∷◌, ◌++◌, length, drop, Option, Some, None, is_some, not, option_map}
 use Rattle.std.specs.List.{starts_with, find, position, position_or_len, slice_get}
 use Rattle.std.specs.Option.{option_or, option_map_or}
 use Rattle.std.specs.Str.{bytes_eq}

@@ -6,8 +6,9 @@ ghost use Rattle.at_text.specs.Rules.{FinalRule, UrcRule, pattern, takes, no_rul
 ghost use Rattle.at_text.specs.Refusals.{IsRefused, HasNoReasonBelow, IsSound, count, is_name, is_visible};
 ghost use Rattle.at_text.specs.Deciding.{lent, can_meet, can_take_command, can_be_ambiguous, text_refusal, room_refusal, rule_refusal, refusal_of};
 ghost use Rattle.at_text.specs.KnownRules.{common, dialling};
-ghost use Rattle.at_text.specs.StandardRules.{standard_finals, standard_urcs};
+ghost use Rattle.at_text.specs.StandardRules.{standard_finals, standard_pattern, standard_urcs};
 
+use crate::clashes::StandardLine;
 use crate::dialect_error::DialectError;
 use crate::finals::{Final, final_of};
 use crate::heads::{HEADS, Span, head, mark, spans_of_finals, spans_of_urcs};
@@ -362,21 +363,27 @@ fn takes_command(rule: PatternRef<'_>) -> bool
 fn meets_standard_final(rule: PatternRef<'_>) -> bool
     ensures { result ≡ list_any (λ r. can_meet (lent rule.entry) r.0) standard_finals }
 {
-    meets_text(rule, Form::Line, b"OK")
-        || meets_text(rule, Form::Line, b"ERROR")
-        || meets_text(rule, Form::Prefix, b"+CME ERROR:")
+    meets_line(rule, StandardLine::Ok)
+        || meets_line(rule, StandardLine::Error)
+        || meets_line(rule, StandardLine::CmeError)
 }
 
 /// Whether a line of the rule is one of the standard's unsolicited lines.
 fn meets_standard_urc(rule: PatternRef<'_>) -> bool
     ensures { result ≡ list_any (λ r. can_meet (lent rule.entry) r.0) standard_urcs }
 {
-    meets_text(rule, Form::Line, b"RING")
-        || meets_text(rule, Form::Prefix, b"+CRING:")
-        || meets_text(rule, Form::Report, b"+CREG:")
-        || meets_text(rule, Form::Report, b"+CGREG:")
-        || meets_text(rule, Form::Prefix, b"+CGEV:")
-        || meets_text(rule, Form::Prefix, b"+CIEV:")
+    meets_line(rule, StandardLine::Ring)
+        || meets_line(rule, StandardLine::Cring)
+        || meets_line(rule, StandardLine::Creg)
+        || meets_line(rule, StandardLine::Cgreg)
+        || meets_line(rule, StandardLine::Cgev)
+        || meets_line(rule, StandardLine::Ciev)
+}
+
+fn meets_line(rule: PatternRef<'_>, line: StandardLine) -> bool
+    ensures { result ≡ can_meet (lent rule.entry) (standard_pattern line) }
+{
+    meets_text(rule, line.form(), line.text().as_bytes())
 }
 
 fn meets_text(rule: PatternRef<'_>, form: Form, text: &[u8]) -> bool

@@ -5,12 +5,14 @@
 //! # Layout
 //!
 //! - `command`, `error`: what is sent. `reader`, `text`, `octets`: lines of what comes.
-//! - `finals`, `unsolicited`: the standards' lists. `dialect`, `dialect_error`, `rules`, `heads`, `known_rules`: rules beside them.
+//! - `finals`, `unsolicited`: the standards' lists. `dialect`, `dialect_error`, `rules`, `heads`, `known_rules`, `clashes`: rules beside
+//!   them.
 //! - `window`, `answer`: which lines answer a command.
 //! - `laws`, `dialect_laws`.
 #![tactic(auto)]
 
 mod answer;
+mod clashes;
 mod command;
 mod dialect;
 mod dialect_error;
@@ -28,6 +30,7 @@ mod unsolicited;
 mod window;
 
 pub use answer::{AnswerLine, AnswerLines};
+pub use clashes::{StandardLine, have_line_in_common};
 pub use command::CommandLine;
 pub use dialect::Dialect;
 pub use dialect_error::DialectError;

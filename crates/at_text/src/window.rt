@@ -16,6 +16,7 @@ use crate::unsolicited::UrcKind;
 use arrayvec::ArrayVec;
 use std::alloc::{AllocError, Global};
 use std::marker::Model;
+use std::mem;
 
 /// What a line is, where its end stands.
 #[derive(Drop, PartialEq, Eq)]
@@ -32,7 +33,7 @@ pub enum Seen {
     Other,
 }
 
-/// A command whose answer isn't whole.
+/// A command, and what has come of its answer.
 #[derive(Drop)]
 struct Open {
     command: ArrayVec<u8, COMMAND_LEN>,
@@ -49,16 +50,32 @@ impl Model for Open {
 }
 
 impl Open {
-    fn begun(alloc: Global, line: &CommandLine) -> Open
-        ensures { result ≡ opened line.now }
-    {
-        let mut command = ArrayVec::new();
-        let _ = command.try_extend_from_slice(line.text());
+    /// No command.
+    fn none(alloc: Global) -> Open {
         Open {
-            command,
+            command: ArrayVec::new(),
             lines: AnswerLines::from(Vec::new(alloc)),
             fresh: true,
         }
+    }
+
+    /// Begins with this command. The list of lines keeps its memory.
+    fn begin(&mut self, line: &CommandLine)
+        ensures { self.new ≡ opened line.now }
+    {
+        self.command.clear();
+        let _ = self.command.try_extend_from_slice(line.text());
+        self.lines.clear();
+        self.fresh = true;
+    }
+
+    /// Takes the lines out.
+    fn take_lines(&mut self, alloc: Global) -> AnswerLines
+        ensures { result ≡ self.old.lines }
+    {
+        let mut lines = AnswerLines::from(Vec::new(alloc));
+        mem::swap(&mut lines, &mut self.lines);
+        lines
     }
 
     fn is_echo(&self, line: &[u8]) -> bool
@@ -77,19 +94,6 @@ impl Open {
         })?;
         self.fresh = false;
         Ok(())
-    }
-
-    /// The same, with none of its lines.
-    fn fork(&self, alloc: Global) -> Open
-        ensures { result ≡ record self.now { lines = [] } }
-    {
-        let mut command = ArrayVec::new();
-        let _ = command.try_extend_from_slice(self.command.as_slice());
-        Open {
-            command,
-            lines: AnswerLines::from(Vec::new(alloc)),
-            fresh: self.fresh,
-        }
     }
 
     /// Becomes the same as another, with none of its lines. The list of its own keeps its memory.
@@ -119,17 +123,19 @@ impl Open {
 /// Tells which lines answer the command under way. Contracts see that command, if there is one.
 #[derive(Drop)]
 pub struct Window {
-    open: Option<Open>,
+    /// Whether a command is under way. If not, what stands in `open` counts for nothing.
+    is_open: bool,
+    open: Open,
     alloc: Global,
 }
 
 impl Model for Window {
     ghost use Rattle.std.specs.Prelude.{Option};
-    ghost use Rattle.at_text.specs.OpenWindow.{OpenWindow};
+    ghost use Rattle.at_text.specs.OpenWindow.{OpenWindow, shown_if};
 
     ghost Value = { Option OpenWindow };
 
-    ghost view = { λ w. w.open };
+    ghost view = { λ w. shown_if w.is_open w.open };
 }
 
 impl Window {
@@ -138,14 +144,18 @@ impl Window {
         ensures none { result ≡ None }
         ensures past { (dialect : Codes) → FitsMarks dialect result [] }
     {
-        Window { open: None, alloc }
+        Window {
+            is_open: false,
+            open: Open::none(alloc),
+            alloc,
+        }
     }
 
     /// Whether no command is under way.
     pub fn idle(&self) -> bool
         ensures { IsTrue result ↔ IsNone self.now }
     {
-        self.open.is_none()
+        !self.is_open
     }
 
     /// Begins the window of a command that has wholly been sent. Requires `idle()`.
@@ -155,7 +165,8 @@ impl Window {
         ensures past { (dialect : Codes) (past : List Mark) → FitsMarks dialect self.old past
             → FitsMarks dialect self.new (past ++ Begun line.now ∷ []) }
     {
-        self.open = Some(Open::begun(self.alloc, line));
+        self.open.begin(line);
+        self.is_open = true;
     }
 
     /// Forgets the command and what has come of its answer.
@@ -163,7 +174,8 @@ impl Window {
         ensures none { self.new ≡ None }
         ensures past { (dialect : Codes) → FitsMarks dialect self.new [] }
     {
-        self.open = None;
+        self.is_open = false;
+        self.open.lines.clear();
     }
 
     /// Says what the next line is, by the standard's codes. Refused with 4 NoMemory, which leaves the window as it was:
@@ -200,11 +212,12 @@ impl Window {
         ensures copy { IfOk result (λ copy. copy ≡ self.now) }
         ensures refused { IfErr result (λ why. why ≡ TextError.NoMemory) }
     {
-        let open = match &self.open {
-            Some(open) => Some(open.copy()?),
-            None => None,
-        };
+        if !self.is_open {
+            return Ok(Window::new(self.alloc));
+        }
+        let open = self.open.copy()?;
         Ok(Window {
+            is_open: true,
             open,
             alloc: self.alloc,
         })
@@ -216,10 +229,11 @@ impl Window {
     pub fn fork_into(&self, fork: &mut Window)
         ensures { fork.new ≡ forked self.now }
     {
-        match (&self.open, &mut fork.open) {
-            (Some(open), Some(there)) => there.fork_from(open),
-            (Some(open), None) => fork.open = Some(open.fork(fork.alloc)),
-            (None, _) => fork.drop_command(),
+        if self.is_open {
+            fork.open.fork_from(&self.open);
+            fork.is_open = true;
+        } else {
+            fork.drop_command();
         }
     }
 
@@ -231,8 +245,8 @@ impl Window {
         ensures err { OnErr result (self.new ≡ self.old) }
         ensures same { OnErr result (lines.new ≡ lines.old) }
     {
-        if let Some(open) = &mut self.open {
-            open.lines.lead(lines)?;
+        if self.is_open {
+            self.open.lines.lead(lines)?;
         }
         Ok(())
     }
@@ -247,8 +261,8 @@ impl Window {
         ensures err { OnErr result (self.new ≡ self.old) }
         ensures same { OnErr result (before.new ≡ before.old) }
     {
-        if let Some(open) = &mut self.open {
-            before.lead(&mut open.lines)?;
+        if self.is_open {
+            before.lead(&mut self.open.lines)?;
         }
         Ok(())
     }
@@ -285,9 +299,10 @@ impl Window {
         ensures after { OnOk result (self.new ≡ after_solicited (dialect_of dialect.now) self.old line.now) }
         ensures err { OnErr result (self.new ≡ self.old) }
     {
-        let Some(open) = &mut self.open else {
+        if !self.is_open {
             return Ok(Seen::Other);
-        };
+        }
+        let open = &mut self.open;
         if open.is_echo(line) {
             open.fresh = false;
             return Ok(Seen::Echo);
@@ -296,9 +311,7 @@ impl Window {
         if !dialect.is_final(line) {
             return Ok(Seen::Kept);
         }
-        match self.open.take() {
-            Some(open) => Ok(Seen::Done(open.lines)),
-            None => unreachable!(),
-        }
+        self.is_open = false;
+        Ok(Seen::Done(self.open.take_lines(self.alloc)))
     }
 }

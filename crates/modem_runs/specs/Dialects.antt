@@ -14,8 +14,10 @@ pub record HasText (rules : Rules) : Type 0 where
 
 -- a line of it is the first bad one, and is so for this reason
 abbrev pub IsDialectFault : (input : Option (List ℕ)) → DialectFault → Type 0
-IsDialectFault input (DialectFault.NoRule place) =
-    IfSome input (λ text. IsDialectRefusal (input_lines text) (DialectRefusal.NoRule place))
+IsDialectFault input (DialectFault.NoRule place wrong) =
+    IfSome input (λ text. IsDialectRefusal (input_lines text) (DialectRefusal.NoRule place wrong))
+IsDialectFault input (DialectFault.Clashes place found) =
+    IfSome input (λ text. IsDialectRefusal (input_lines text) (DialectRefusal.Clashes place found))
 IsDialectFault input (DialectFault.Refused place why) =
     IfSome input (λ text. IsDialectRefusal (input_lines text) (DialectRefusal.Refused place why))
 

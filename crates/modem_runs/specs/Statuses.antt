@@ -1,13 +1,16 @@
 -- Exit statuses of the program, and what it says at each.
-use Rattle.std.specs.Prelude.{ℕ, Bool, List, [], ◌∷◌, ◌++◌, codes, if◌then◌else◌}
+use Rattle.std.specs.Prelude.{ℕ, Bool, List, [], ◌∷◌, ◌++◌, Option, Some, None, codes, if◌then◌else◌}
 use Rattle.std.specs.Fmt.{decimal}
 use Rattle.at_text.specs.declared.dialect_error.DialectError.{DialectError}
+use Rattle.at_text.specs.StandardRules.{standard_text}
 use Rattle.modem_bench.specs.declared.cause.Cause.{Cause}
 use Rattle.modem_bench.specs.declared.signals.Fault.{Fault}
 use Rattle.modem_runs.specs.declared.stop.DialectFault.{DialectFault}
 use Rattle.modem_runs.specs.declared.stop.Stop.{Stop}
 use Rattle.modem_texts.specs.LineFaults.{reason_line}
+use Rattle.modem_texts.specs.declared.clashes.Clash.{Clash}
 use Rattle.modem_texts.specs.declared.dialects.DialectRefusal.{DialectRefusal}
+use Rattle.modem_texts.specs.declared.dialects.RulePart.{RulePart}
 use Rattle.modem_texts.specs.declared.refusal.Refusal.{Refusal}
 
 -- 1 for a fault, 2 for words or a line that are bad.
@@ -27,8 +30,9 @@ status_of (Stop.Dialect fault) = 2
 
 -- the number of a bad line of a dialect, in decimal
 abbrev pub dialect_number : DialectFault → List ℕ
-dialect_number (DialectFault.NoRule place) = decimal place
+dialect_number (DialectFault.NoRule place wrong) = decimal place
 dialect_number (DialectFault.Refused place why) = decimal place
+dialect_number (DialectFault.Clashes place found) = decimal place
 
 -- what is said of it, but for the number of a line
 abbrev pub stop_words : Stop → List ℕ
@@ -77,10 +81,25 @@ rule_words DialectError.Command = codes "a line of the rule could be the echo of
 rule_words DialectError.Ambiguous = codes "some line would both end an answer and be unsolicited"
 rule_words DialectError.NoMemory = codes "no memory"
 
+-- what has to stand in a line that says no rule
+abbrev pub part_words : RulePart → List ℕ
+part_words RulePart.Word = codes "no rule: a line begins with final or unsolicited, and a blank"
+part_words RulePart.Form = codes "no rule: FORM is line, prefix, quoted, report or open-report, and a blank stands behind it"
+part_words RulePart.Name = codes "no rule: behind TEXT stand a blank and NAME"
+
+-- what a rule has a line in common with
+abbrev pub clash_text : Option Clash → List ℕ
+clash_text None = codes "some line would both end an answer and be unsolicited"
+clash_text (Some (Clash.Line number)) =
+    codes "some line would both end an answer and be unsolicited, by this rule and that of line " ++ decimal number
+clash_text (Some (Clash.Standard line)) =
+    codes "some line would both end an answer and be unsolicited, by this rule and the standard's " ++ standard_text line
+
 -- why a line of a dialect is bad
 abbrev pub dialect_reason : DialectFault → List ℕ
-dialect_reason (DialectFault.NoRule place) = codes "no rule"
+dialect_reason (DialectFault.NoRule place wrong) = part_words wrong
 dialect_reason (DialectFault.Refused place why) = rule_words why
+dialect_reason (DialectFault.Clashes place found) = clash_text found
 
 -- why a bench was given up, up to the number of a connection
 abbrev pub cause_words : Cause → List ℕ
@@ -126,7 +145,8 @@ stop_at place Refusal.NoMemory = Stop.NoMemory
 
 -- why a text is none of a dialect, as the cause of a stop
 abbrev pub stop_at_rule : DialectRefusal → Stop
-stop_at_rule (DialectRefusal.NoRule place) = Stop.Dialect (DialectFault.NoRule place)
+stop_at_rule (DialectRefusal.NoRule place wrong) = Stop.Dialect (DialectFault.NoRule place wrong)
+stop_at_rule (DialectRefusal.Clashes place found) = Stop.Dialect (DialectFault.Clashes place found)
 stop_at_rule (DialectRefusal.Refused place why) = Stop.Dialect (DialectFault.Refused place why)
 stop_at_rule DialectRefusal.NoMemory = Stop.NoMemory
 

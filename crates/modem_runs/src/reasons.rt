@@ -1,13 +1,13 @@
 //! The second line of what is said of a run that ends without its output: the reason.
-ghost use Rattle.std.specs.Prelude.{◌≡◌, ◌++◌, ◌∷◌, []};
-ghost use Rattle.modem_runs.specs.Statuses.{cause_number, cause_rest, cause_words, dialect_reason, rule_words, stop_reason_line};
+ghost use Rattle.std.specs.Prelude.{◌≡◌, ◌++◌, ◌∷◌, [], codes};
+ghost use Rattle.modem_runs.specs.Statuses.{cause_number, cause_rest, cause_words, clash_text, dialect_reason, part_words, rule_words, stop_reason_line};
 ghost use Rattle.modem_texts.specs.Writing.{IsBegun};
 
 use crate::stop::{DialectFault, Stop};
 use at_text::DialectError;
 use itoa::Buffer;
 use modem_bench::Cause;
-use modem_texts::say_line;
+use modem_texts::{Clash, RulePart, say_line};
 use std::io::Write;
 
 /// Why a rule is refused.
@@ -26,13 +26,58 @@ fn rule_words(why: DialectError) -> &'static str
     }
 }
 
-/// Why a line of a dialect is bad.
-fn dialect_reason(fault: DialectFault) -> &'static str
-    ensures { result.now ≡ dialect_reason fault }
+/// What has to stand in a line that says no rule.
+fn part_words(part: RulePart) -> &'static str
+    ensures { result.now ≡ part_words part }
+{
+    match part {
+        RulePart::Word => "no rule: a line begins with final or unsolicited, and a blank",
+        RulePart::Form => {
+            "no rule: FORM is line, prefix, quoted, report or open-report, and a blank stands behind it"
+        }
+        RulePart::Name => "no rule: behind TEXT stand a blank and NAME",
+    }
+}
+
+/// Says what a rule has a line in common with.
+fn say_clash<E: Write>(faults: &mut E, found: Option<Clash>)
+    ensures { IsBegun (E.contents faults.old) (E.contents faults.new)
+        (codes "the dialect: " ++ clash_text found ++ 10 ∷ []) }
+{
+    match found {
+        Some(Clash::Line(number)) => {
+            let mut digits = Buffer::new();
+            say_line(
+                faults,
+                "the dialect: some line would both end an answer and be unsolicited, by this rule and that of line ",
+                digits.format(number),
+                "",
+            );
+        }
+        Some(Clash::Standard(line)) => say_line(
+            faults,
+            "the dialect: some line would both end an answer and be unsolicited, by this rule and the standard's ",
+            line.text(),
+            "",
+        ),
+        None => say_line(
+            faults,
+            "the dialect: ",
+            "some line would both end an answer and be unsolicited",
+            "",
+        ),
+    }
+}
+
+/// Says why a line of a dialect is bad.
+fn say_dialect<E: Write>(faults: &mut E, fault: DialectFault)
+    ensures { IsBegun (E.contents faults.old) (E.contents faults.new)
+        (codes "the dialect: " ++ dialect_reason fault ++ 10 ∷ []) }
 {
     match fault {
-        DialectFault::NoRule(_) => "no rule",
-        DialectFault::Refused(_, why) => rule_words(why),
+        DialectFault::NoRule(_, part) => say_line(faults, "the dialect: ", part_words(part), ""),
+        DialectFault::Refused(_, why) => say_line(faults, "the dialect: ", rule_words(why), ""),
+        DialectFault::Clashes(_, found) => say_clash(faults, found),
     }
 }
 
@@ -88,7 +133,7 @@ pub fn say_reason<E: Write>(faults: &mut E, stop: Stop)
 {
     match stop {
         Stop::BadLine(_, why) => say_line(faults, "", "", why.reason()),
-        Stop::Dialect(fault) => say_line(faults, "", "the dialect: ", dialect_reason(fault)),
+        Stop::Dialect(fault) => say_dialect(faults, fault),
         Stop::GaveUp(cause) => say_cause(faults, cause),
         _ => {}
     }

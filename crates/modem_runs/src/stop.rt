@@ -5,7 +5,7 @@ ghost use Rattle.modem_runs.specs.declared.stop.Stop.TheVariants.{NoMemory};
 
 use at_text::DialectError;
 use modem_bench::Cause;
-use modem_texts::{DialectRefusal, LineFault, Refusal};
+use modem_texts::{Clash, DialectRefusal, LineFault, Refusal, RulePart};
 use std::alloc::{AllocError, AllocFailed};
 use std::{error, fmt};
 
@@ -37,10 +37,12 @@ pub enum Stop {
 /// Why a text is none of a dialect.
 #[derive(Clone, Copy, Debug)]
 pub enum DialectFault {
-    /// This line of its text says no rule, counted from 1.
-    NoRule(u64),
+    /// This line of its text says no rule, counted from 1. This part is the first that is wrong.
+    NoRule(u64, RulePart),
     /// The rule of this line of its text is refused, counted from 1.
     Refused(u64, DialectError),
+    /// The rule of this line of its text is refused, counted from 1, since it has a line in common with this.
+    Clashes(u64, Option<Clash>),
 }
 
 impl Stop {
@@ -93,7 +95,11 @@ impl fmt::Display for Stop {
         let words = self.words();
         match self {
             Stop::BadLine(place, _)
-            | Stop::Dialect(DialectFault::NoRule(place) | DialectFault::Refused(place, _)) => {
+            | Stop::Dialect(
+                DialectFault::NoRule(place, _)
+                | DialectFault::Refused(place, _)
+                | DialectFault::Clashes(place, _),
+            ) => {
                 write!(f, "{words}{place}")
             }
             _ => f.write_str(words),
@@ -108,8 +114,13 @@ impl From<DialectRefusal> for Stop {
 
     fn from(refusal: DialectRefusal) -> Stop {
         match refusal {
-            DialectRefusal::NoRule(place) => Stop::Dialect(DialectFault::NoRule(place)),
+            DialectRefusal::NoRule(place, part) => {
+                Stop::Dialect(DialectFault::NoRule(place, part))
+            }
             DialectRefusal::Refused(place, why) => Stop::Dialect(DialectFault::Refused(place, why)),
+            DialectRefusal::Clashes(place, found) => {
+                Stop::Dialect(DialectFault::Clashes(place, found))
+            }
             DialectRefusal::NoMemory => Stop::NoMemory,
         }
     }

@@ -18,9 +18,11 @@ fn number_of(stop: Stop, digits: &mut Buffer) -> &str
 {
     match stop {
         Stop::BadLine(place, _)
-        | Stop::Dialect(DialectFault::NoRule(place) | DialectFault::Refused(place, _)) => {
-            digits.format(place)
-        }
+        | Stop::Dialect(
+            DialectFault::NoRule(place, _)
+            | DialectFault::Refused(place, _)
+            | DialectFault::Clashes(place, _),
+        ) => digits.format(place),
         _ => "",
     }
 }

@@ -1,11 +1,14 @@
 -- The lines of a dialect's text, read one after the other.
-use Rattle.std.specs.Prelude.{◌≡◌, ℕ, ◌+◌, ◌<◌, ◌≤◌, true, false, List, [], ◌∷◌, ◌++◌, length, refl}
-use Rattle.std.proofs.Common.{sym, ap, arith, ◌∙◌}
+use Rattle.std.specs.Prelude.{◌≡◌, ℕ, ◌+◌, ◌-◌, ◌<◌, ◌≤◌, true, false, List, [], ◌∷◌, ◌++◌, length, take, refl}
+use Rattle.std.proofs.Common.{sym, ap, arith, ◌∙◌, subst}
 use Rattle.std.proofs.lemmas.List.{append_assoc, append-nil, length-append}
+use Rattle.std.proofs.Math.Seq.{take-append_seam}
 use Rattle.at_text.specs.declared.dialect_error.DialectError.{DialectError}
 use Rattle.at_text.specs.Refusals.{HasNoReasonBelow, IsRefused}
 use Rattle.at_text.specs.Rules.{Rules, Rule, no_rules, with_rule}
-use Rattle.modem_texts.specs.DialectTexts.{AreLinesOf, HasNoRule, HasRefusedRule, IsDialectRefusal, IsFirstBadRule, Makes, SaysNoRule, SaysRule, adds, ends, is_passed_over, passes, refusal_at}
+use Rattle.modem_texts.specs.DialectTexts.{AreLinesOf, HasNoRule, HasRefusedRule, FindsClash, HasClash, IsDialectRefusal, IsFirstBadRule, Makes, RefusesAt, SaysNone, SaysRule, adds, ends, is_passed_over, passes}
+use Rattle.modem_texts.specs.declared.dialects.DialectRefusal.{DialectRefusal}
+use Rattle.modem_texts.specs.declared.dialects.RulePart.{RulePart}
 use Rattle.modem_texts.specs.Input.{input_lines}
 
 -- so many lines are read, and make these rules
@@ -56,7 +59,8 @@ made_all text left place rules h e =
     let all : input_lines text ≡ h.before = h.split ∙ (ap (λ (l : List ℕ). h.before ++ input_lines l) e ∙ append-nil h.before) in
     rw all h.made
 
-bad_line : (IsBad : Rules → List ℕ → Type 0) (text left line rest : List ℕ) (place : ℕ) (rules : Rules) → IsMade text left place rules → input_lines left ≡ line ∷ input_lines rest → IsBad rules line → IsFirstBadRule IsBad (input_lines text) (place + 1)
+bad_line : (IsBad : List (List ℕ) → Rules → List ℕ → Type 0) (text left line rest : List ℕ) (place : ℕ) (rules : Rules) (h : IsMade text left place rules) → input_lines left ≡ line ∷ input_lines rest → IsBad h.before rules line
+    → IsFirstBadRule IsBad (input_lines text) (place + 1)
 bad_line IsBad text left line rest place rules h cut bad = record {
   before = h.before;
   line = line;
@@ -69,22 +73,29 @@ bad_line IsBad text left line rest place rules h cut bad = record {
 }
 
 -- a line that says no rule
-pub none_there : (text left line rest : List ℕ) (place : ℕ) (rules : Rules) → IsMade text left place rules → input_lines left ≡ line ∷ input_lines rest → is_passed_over line ≡ false → SaysNoRule line
-    → IsFirstBadRule HasNoRule (input_lines text) (place + 1)
-none_there text left line rest place rules h cut p s = bad_line HasNoRule text left line rest place rules h cut (p, s)
+pub none_there : (text left line rest : List ℕ) (place : ℕ) (rules : Rules) (wrong : RulePart) → IsMade text left place rules → input_lines left ≡ line ∷ input_lines rest → is_passed_over line ≡ false → SaysNone wrong line
+    → IsFirstBadRule (HasNoRule wrong) (input_lines text) (place + 1)
+none_there text left line rest place rules wrong h cut p s = bad_line (HasNoRule wrong) text left line rest place rules h cut (record { is_read = p; none = s })
+
+before_is : (text left : List ℕ) (place : ℕ) (rules : Rules) (h : IsMade text left place rules) → take place (input_lines text) ≡ h.before
+before_is text left place rules h = rw (h.split, h.counted) (take-append_seam h.before (input_lines left))
 
 -- a line whose rule is refused
-pub refused_there : (text left line rest : List ℕ) (place : ℕ) (rules : Rules) (rule : Rule) (why : DialectError) → IsMade text left place rules → input_lines left ≡ line ∷ input_lines rest → SaysRule line rule → IsRefused rules rule why
-    → IsDialectRefusal (input_lines text) (refusal_at (place + 1) why)
-refused_there text left line rest place rules rule why h cut s r =
-    by_reason why (bad_line (HasRefusedRule why) text left line rest place rules h cut (record { rule = rule; says = s; refused = r }))
+pub refused_there : (text left line rest : List ℕ) (place : ℕ) (rules : Rules) (rule : Rule) (why : DialectError) (r : DialectRefusal) → IsMade text left place rules → input_lines left ≡ line ∷ input_lines rest → SaysRule line rule → IsRefused rules rule why
+    → RefusesAt rule (take place (input_lines text)) place why r → IsDialectRefusal (input_lines text) r
+refused_there text left line rest place rules rule why r h cut s refused told =
+    by_reason why refused told (λ x. bad_line (HasRefusedRule why) text left line rest place rules h cut (record { rule = rule; says = s; refused = refused }))
   where
-    by_reason : (e : DialectError) → IsFirstBadRule (HasRefusedRule e) (input_lines text) (place + 1) → IsDialectRefusal (input_lines text) (refusal_at (place + 1) e)
-    by_reason DialectError.TooManyRules b = (b, λ same. cc)
-    by_reason DialectError.NoText b = (b, λ same. cc)
-    by_reason DialectError.TextTooLong b = (b, λ same. cc)
-    by_reason DialectError.LineEnd b = (b, λ same. cc)
-    by_reason DialectError.BadName b = (b, λ same. cc)
-    by_reason DialectError.Command b = (b, λ same. cc)
-    by_reason DialectError.Ambiguous b = (b, λ same. cc)
-    by_reason DialectError.NoMemory b = tt
+    by_reason : (e : DialectError) → IsRefused rules rule e → RefusesAt rule (take place (input_lines text)) place e r → (Unit {0} → IsFirstBadRule (HasRefusedRule e) (input_lines text) (place + 1)) → IsDialectRefusal (input_lines text) r
+    by_reason DialectError.TooManyRules i t b = rw t (b tt, λ same. cc, λ same. cc)
+    by_reason DialectError.NoText i t b = rw t (b tt, λ same. cc, λ same. cc)
+    by_reason DialectError.TextTooLong i t b = rw t (b tt, λ same. cc, λ same. cc)
+    by_reason DialectError.LineEnd i t b = rw t (b tt, λ same. cc, λ same. cc)
+    by_reason DialectError.BadName i t b = rw t (b tt, λ same. cc, λ same. cc)
+    by_reason DialectError.Command i t b = rw t (b tt, λ same. cc, λ same. cc)
+    by_reason DialectError.Ambiguous i t b =
+        rw t.named (bad_line (HasClash t.found) text left line rest place rules h cut (record { rule = rule; says = s; refused = i; finds = subst (λ (l : List (List ℕ)). FindsClash rule l t.found) (before_is text left place rules h) t.finds }))
+    by_reason DialectError.NoMemory i t b = rw t tt
+
+pub one_less : (n : ℕ) → (n + 1) - 1 ≡ n
+one_less n = omega arith

@@ -5,3 +5,4 @@ pub mod OneFault
 pub mod RuleLines
 pub mod DialectLines
 pub mod Written
+pub mod CommonLines

@@ -1,30 +1,44 @@
 //! The text of a dialect: a rule a line.
-ghost use Rattle.std.specs.Prelude.{◌≡◌, ◌≢◌, ◌++◌, ◌∷◌, ℕ, List, IfErr, IfOk, MatchOption, MatchResult, OnErr, OnOk, codes};
+ghost use Rattle.std.specs.Prelude.{◌≡◌, ◌≢◌, ◌++◌, ◌∷◌, ◌<◌, ◌-◌, ◌^◌, ℕ, List, IfErr, IfOk, MatchOption, MatchResult, OnErr, OnOk, codes, take};
 ghost use Rattle.at_text.specs.Refusals.{HasNoReasonBelow, IsRefused};
 ghost use Rattle.at_text.specs.Rules.{with_rule};
 ghost use Rattle.modem_texts.specs.DialectNames.{dialect_with_name};
-ghost use Rattle.modem_texts.specs.DialectTexts.{AreLinesOf, IsDialectRefusal, SaysNoRule, SaysRule, form_text, is_passed_over, refusal_at, rule_in};
+ghost use Rattle.modem_texts.specs.DialectTexts.{AreLinesOf, IsDialectRefusal, RefusesAt, SaysNone, SaysRule, form_text, is_passed_over, rule_in};
 ghost use Rattle.modem_texts.specs.Input.{input_lines};
 
+use crate::clashes::{Clash, clash_of};
 use crate::lines::{next_line, split_last, split_once};
 use at_text::octets::skip_blanks;
 use at_text::{Dialect, DialectError, Form};
 use std::alloc::Global;
 
+/// The first part of a line that isn't as a rule has it.
+#[derive(Clone, Copy, Debug)]
+pub enum RulePart {
+    /// The word that it begins with.
+    Word,
+    /// FORM.
+    Form,
+    /// NAME.
+    Name,
+}
+
 /// Why a text isn't that of a dialect.
 #[derive(Clone, Copy, Debug)]
 pub enum DialectRefusal {
-    /// This line, counted from 1, says no rule.
-    NoRule(u64),
-    /// The rule of this line, counted from 1, is refused for this reason, which is never NoMemory.
+    /// This line, counted from 1, says no rule. This part is the first that is wrong.
+    NoRule(u64, RulePart),
+    /// The rule of this line, counted from 1, is refused for this reason, which is neither Ambiguous nor NoMemory.
     Refused(u64, DialectError),
+    /// The rule of this line, counted from 1, is refused as Ambiguous. It has a line in common with this.
+    Clashes(u64, Option<Clash>),
     /// A growth was refused.
     NoMemory,
 }
 
 /// The parts of a line that says a rule.
 #[derive(Clone, Copy)]
-enum RuleText<'a> {
+pub(crate) enum RuleText<'a> {
     Final {
         form: Form,
         text: &'a [u8],
@@ -63,29 +77,35 @@ fn formed(words: &[u8]) -> Option<(Form, &[u8])>
 
 /// The rule of the words behind `final`.
 #[tactic(auto, using(crate::proofs::RuleLines::no_final, crate::proofs::RuleLines::is_final))]
-fn final_text(words: &[u8]) -> Option<RuleText<'_>>
-    ensures { MatchOption result (SaysNoRule (codes "final " ++ words.now))
-        (λ rule. SaysRule (codes "final " ++ words.now) (rule_in rule)) }
+fn final_text(words: &[u8]) -> Result<RuleText<'_>, RulePart>
+    ensures { MatchResult result (λ rule. SaysRule (codes "final " ++ words.now) (rule_in rule))
+        (λ part. SaysNone part (codes "final " ++ words.now)) }
 {
-    let (form, text) = formed(words)?;
-    Some(RuleText::Final { form, text })
+    match formed(words) {
+        Some((form, text)) => Ok(RuleText::Final { form, text }),
+        None => Err(RulePart::Form),
+    }
 }
 
 /// The rule of the words behind `unsolicited`.
 #[tactic(auto, using(crate::proofs::RuleLines::no_unsolicited, crate::proofs::RuleLines::no_name, crate::proofs::RuleLines::is_unsolicited))]
-fn unsolicited_text(words: &[u8]) -> Option<RuleText<'_>>
-    ensures { MatchOption result (SaysNoRule (codes "unsolicited " ++ words.now))
-        (λ rule. SaysRule (codes "unsolicited " ++ words.now) (rule_in rule)) }
+fn unsolicited_text(words: &[u8]) -> Result<RuleText<'_>, RulePart>
+    ensures { MatchResult result (λ rule. SaysRule (codes "unsolicited " ++ words.now) (rule_in rule))
+        (λ part. SaysNone part (codes "unsolicited " ++ words.now)) }
 {
-    let (form, rest) = formed(words)?;
-    let (text, name) = split_last(rest, b' ')?;
-    Some(RuleText::Unsolicited { form, text, name })
+    let Some((form, rest)) = formed(words) else {
+        return Err(RulePart::Form);
+    };
+    match split_last(rest, b' ') {
+        Some((text, name)) => Ok(RuleText::Unsolicited { form, text, name }),
+        None => Err(RulePart::Name),
+    }
 }
 
-/// The rule of a line.
+/// The rule of a line, or its first part that is wrong.
 #[tactic(auto, using(crate::proofs::RuleLines::no_rule))]
-fn rule_of(line: &[u8]) -> Option<RuleText<'_>>
-    ensures { MatchOption result (SaysNoRule line.now) (λ rule. SaysRule line.now (rule_in rule)) }
+pub(crate) fn rule_of(line: &[u8]) -> Result<RuleText<'_>, RulePart>
+    ensures { MatchResult result (λ rule. SaysRule line.now (rule_in rule)) (λ part. SaysNone part line.now) }
 {
     if let Some(words) = line.strip_prefix(b"final ") {
         return final_text(words);
@@ -93,7 +113,7 @@ fn rule_of(line: &[u8]) -> Option<RuleText<'_>>
     if let Some(words) = line.strip_prefix(b"unsolicited ") {
         return unsolicited_text(words);
     }
-    None
+    Err(RulePart::Word)
 }
 
 /// Whether a line is a comment, or has nothing but blanks.
@@ -116,15 +136,15 @@ fn add_rule(dialect: &mut Dialect, rule: RuleText<'_>) -> Result<(), DialectErro
     }
 }
 
-impl DialectRefusal {
-    /// The refusal of the rule at this line, counted from 1.
-    fn at_line(place: u64, why: DialectError) -> DialectRefusal
-        ensures { result ≡ refusal_at place why }
-    {
-        match why {
-            DialectError::NoMemory => DialectRefusal::NoMemory,
-            _ => DialectRefusal::Refused(place, why),
-        }
+/// The refusal of this rule, at the line behind so many of a text's.
+fn refusal_behind(text: &[u8], count: u64, rule: RuleText<'_>, why: DialectError) -> DialectRefusal
+    requires { count < 2 ^ 64 - 1 }
+    ensures { RefusesAt (rule_in rule.entry) (take count (input_lines text.now)) count why result }
+{
+    match why {
+        DialectError::NoMemory => DialectRefusal::NoMemory,
+        DialectError::Ambiguous => DialectRefusal::Clashes(count + 1, clash_of(text, count, rule)),
+        _ => DialectRefusal::Refused(count + 1, why),
     }
 }
 
@@ -144,11 +164,12 @@ pub fn read_dialect(alloc: Global, text: &[u8]) -> Result<Dialect, DialectRefusa
         if is_passed_over(line) {
             continue;
         }
-        let Some(rule) = rule_of(line) else {
-            return Err(DialectRefusal::NoRule(place));
+        let rule = match rule_of(line) {
+            Ok(rule) => rule,
+            Err(part) => return Err(DialectRefusal::NoRule(place, part)),
         };
         if let Err(why) = add_rule(&mut dialect, rule) {
-            return Err(DialectRefusal::at_line(place, why));
+            return Err(refusal_behind(text, place - 1, rule, why));
         }
     }
     Ok(dialect)

@@ -2,10 +2,11 @@
 //!
 //! # Layout
 //!
-//! - `lines`, `words`, `dialects`: texts that are read. `refusal`, `line_fault`: why they aren't.
+//! - `lines`, `words`, `dialects`: texts that are read. `refusal`, `line_fault`, `clashes`: why they aren't.
 //! - `told`, `writing`: texts that are printed.
 #![tactic(auto)]
 
+mod clashes;
 mod dialects;
 mod line_fault;
 mod lines;
@@ -14,7 +15,8 @@ mod told;
 mod words;
 mod writing;
 
-pub use dialects::{DialectRefusal, dialect_named, read_dialect};
+pub use clashes::Clash;
+pub use dialects::{DialectRefusal, RulePart, dialect_named, read_dialect};
 pub use line_fault::{LineFault, say_bad_line};
 pub use lines::{ended_line, first_word, next_line, split_last, split_once};
 pub use refusal::Refusal;

@@ -3,8 +3,8 @@ use Rattle.std.specs.Prelude.{◌≡◌, ℕ, ◌==◌, ◌≤◌, ◌<◌, nat_
 use Rattle.std.specs.List.{starts_with}
 use Rattle.std.specs.Option.{option_map_or}
 use Rattle.std.proofs.Common.{arith, sym, ◌∙◌, ap, inl, inr}
-use Rattle.std.proofs.lemmas.Bool.{and_parts, and_from, or_cases, or_left, or_right, eqb-true, ltb-true, ltb-false}
-use Rattle.std.proofs.lemmas.Bool.Decides.{Decides-eqb}
+use Rattle.std.proofs.lemmas.Bool.{and_parts, and_from, or_cases, or_left, or_right, eqb-true, ltb-true, ltb-false, true≢false}
+use Rattle.std.proofs.lemmas.Bool.Decides.{Decides-eqb, nat_tests}
 use Rattle.std.proofs.lemmas.List.{append_assoc, drop_at}
 use Rattle.std.proofs.lemmas.Slice.Eq.{starts_is}
 use Rattle.at_text.specs.declared.rules.Form.{Form}
@@ -13,7 +13,7 @@ use Rattle.at_text.specs.declared.rules.Pattern.{Pattern}
 use Rattle.at_text.specs.Octets.{is_blank, is_comma, is_digit, is_quote, skip_blanks, begins, after_comma}
 use Rattle.at_text.specs.Unsolicited.{is_without_second}
 use Rattle.at_text.specs.Rules.{goes_on, is_without_number, takes}
-use Rattle.at_text.specs.Refusals.{is_short}
+use Rattle.at_text.specs.Refusals.{HaveLineInCommon, is_short}
 use Rattle.at_text.specs.Deciding.{both_take, longer, can_meet}
 
 -- ## Texts at the front of lines
@@ -186,18 +186,12 @@ meet_shown p q short_p short_q line one other =
     (and_from (is_short p.text) (is_short q.text) short_p short_q)
     (on_longer p q line (nat_lt (length p.text) (length q.text)) refl one other)
 
--- and where they meet there is such a line
-pub record Met (p q : Pattern) : Type 0 where
-  pub line : List ℕ
-  pub one : takes p line ≡ true
-  pub other : takes q line ≡ true
-
-met_at : (p q : Pattern) (line : List ℕ) → both_take p q line ≡ true → Met p q
+met_at : (p q : Pattern) (line : List ℕ) → both_take p q line ≡ true → HaveLineInCommon p q
 met_at p q line h =
     let parts = and_parts (takes p line) (takes q line) h in
     record { line = line; one = parts.0; other = parts.1 }
 
-met_on : (p q : Pattern) (text : List ℕ) → on_three p q text ≡ true → Met p q
+met_on : (p q : Pattern) (text : List ℕ) → on_three p q text ≡ true → HaveLineInCommon p q
 met_on p q text h =
     elim (or_cases (both_take p q (text ++ [])) (both_take p q (text ++ codes "\"") || both_take p q (text ++ codes "0")) h) [
       | inl a ↦ met_at p q (text ++ []) a
@@ -207,8 +201,16 @@ met_on p q text h =
       ]
     ]
 
-pub meet_met : (p q : Pattern) → can_meet p q ≡ true → Met p q
+-- and where they meet there is such a line
+pub meet_met : (p q : Pattern) → can_meet p q ≡ true → HaveLineInCommon p q
 unfolding can_meet
 meet_met p q h =
     met_on p q (longer p.text q.text)
     (and_parts (is_short p.text && is_short q.text) (on_three p q (longer p.text q.text)) h).1
+
+short : (text : List ℕ) → length text ≤ 64 → is_short text ≡ true
+short text less = grind (arith, nat_tests)
+
+-- and where they don't there is none, of short texts
+pub none_in_common : (p q : Pattern) → length p.text ≤ 64 → length q.text ≤ 64 → can_meet p q ≡ false → ¬ HaveLineInCommon p q
+none_in_common p q less_p less_q apart both = true≢false (sym (meet_shown p q (short p.text less_p) (short q.text less_q) both.line both.one both.other) ∙ apart)

@@ -1,9 +1,7 @@
 -- The standard's lists are its rules.
-use Rattle.std.specs.Prelude.{◌≡◌, ℕ, nat_eq, Bool, true, false, ◌&&◌, List, [], ◌∷◌, ◌++◌, length, drop, Option, Some, None, option_map, is_some, refl, if◌then◌else◌, codes}
+use Rattle.std.specs.Prelude.{◌≡◌, ℕ, nat_eq, Bool, true, false, ◌&&◌, List, [], ◌∷◌, ◌++◌, length, drop, Option, Some, None, option_map, refl, if◌then◌else◌, codes}
 use Rattle.std.specs.List.{starts_with, find}
 use Rattle.std.specs.Str.{bytes_eq}
-use Rattle.std.specs.Option.{option_or}
-use mathlib.Core.Path.{fun_ext}
 use Rattle.std.proofs.Common.{sym, ◌∙◌, ap}
 use Rattle.std.proofs.lemmas.Bool.{eqb-true}
 use Rattle.std.proofs.lemmas.Bool.Decides.{Decides-eqb, same_from_decides}
@@ -16,10 +14,9 @@ use Rattle.at_text.specs.declared.unsolicited.UrcKind.TheVariants.{Ring, Cring, 
 use Rattle.at_text.specs.declared.rules.Form.TheVariants.{Line, Prefix, Report}
 use Rattle.at_text.specs.Octets.{number_in, is_digit, skip_blanks, begins, after_comma}
 use Rattle.at_text.specs.declared.rules.Pattern.{Pattern}
-use Rattle.at_text.specs.Finals.{final_of, is_final}
-use Rattle.at_text.specs.Dialects.{standard}
+use Rattle.at_text.specs.Finals.{final_of}
 use Rattle.at_text.specs.Unsolicited.{unsolicited_of, is_report, is_without_second}
-use Rattle.at_text.specs.Rules.{takes, pattern, final_by, kind_by, no_rules, dialect_of}
+use Rattle.at_text.specs.Rules.{takes, pattern}
 use Rattle.at_text.specs.StandardRules.{AreStandard, standard_finals, standard_urcs}
 use Rattle.at_text.proofs.NoRules.{no_rules_standard}
 use Rattle.at_text.proofs.dialects.Meeting.{taken, takes_front}

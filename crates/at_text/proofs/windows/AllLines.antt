@@ -1,6 +1,6 @@
 -- No line is lost or counted twice.
-use Rattle.std.specs.Prelude.{◌≡◌, ℕ, suc, ◌+◌, ◌≤◌, ◌&&◌, not, Bool, true, false, List, [], ◌∷◌, ◌++◌, length, take, map, filter, filter_map, refl, if◌then◌else◌, Option, Some, None, codes, nat_eq}
-use Rattle.std.specs.List.{flat_map, last_or, starts_with}
+use Rattle.std.specs.Prelude.{◌≡◌, ℕ, suc, ◌+◌, ◌≤◌, ◌&&◌, not, Bool, true, false, List, [], ◌∷◌, ◌++◌, length, take, map, filter, filter_map, refl, if◌then◌else◌, Option, Some, None}
+use Rattle.std.specs.List.{flat_map, last_or}
 use Rattle.std.specs.Str.{bytes_eq}
 use Rattle.std.proofs.Common.{ap, sym, subst, ◌∙◌, append_assoc, arith}
 use Rattle.std.proofs.lemmas.List.{append-nil}
@@ -11,7 +11,6 @@ use Rattle.at_text.specs.declared.unsolicited.UrcKind.TheVariants.{Other as Unca
 use Rattle.at_text.specs.declared.window.Seen.{Seen}
 use Rattle.at_text.specs.declared.window.Seen.TheVariants.{Echo, Kept, Done, Unsolicited, Other}
 use Rattle.at_text.specs.Dialects.{Dialect, is_solicited, is_called}
-use Rattle.at_text.specs.Unsolicited.{is_report}
 use Rattle.at_text.specs.Windows.{Mark, Line, Begun, lines_of, has_final, Window, answer_of, windows, is_answered, more_of, open_of, open_window, IsInTurn}
 use Rattle.at_text.specs.Seeing.{answer_lines, is_empty, is_fresh, solicited_in, by_kind, seen_after, seen_from, seen_in}
 use Rattle.at_text.specs.Whole.{is_part, is_repeat, parts, done_lines, announced, unsolicited_in, is_of_kind, NoneLost}

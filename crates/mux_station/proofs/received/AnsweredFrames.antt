@@ -1,6 +1,7 @@
 -- A frame and all that it calls for lead from each past that the station fits to one that it fits.
 use Rattle.std.specs.Prelude.{◌≡◌, ℕ, ◌+◌, ◌*◌, ◌<◌, ◌==◌, ◌&&◌, ◌||◌, not, Bool, true, false, List, [], ◌∷◌, ◌++◌, length, refl, if◌then◌else◌, Option, Some, None, unwrap_or, Result, Ok, Err, OnOk, IfOk}
 use Rattle.std.proofs.Common.{◌∙◌, ap, sym, subst, eqb-true, arith, append-nil, append_assoc}
+use Rattle.std.proofs.lemmas.Bool.{and_parts}
 use Rattle.mux_frame.specs.Frames.{Frame}
 use Rattle.mux_frame.specs.declared.frame.Kind.{Kind}
 use Rattle.mux_frame.specs.declared.frame.Kind.TheVariants.{Sabm, Ua, Dm, Disc, Uih}
@@ -11,7 +12,7 @@ use Rattle.mux_station.specs.declared.row.Turn.TheVariants.{Stays, Opens, Shuts}
 use Rattle.mux_station.specs.declared.noted.Noted.{Noted}
 use Rattle.mux_station.specs.declared.error.StationError.{StationError}
 use Rattle.mux_station.specs.declared.error.StationError.TheVariants.{NoRoom}
-use Rattle.mux_station.specs.Written.{is_on, written, is_data_frame}
+use Rattle.mux_station.specs.Written.{is_kind, is_on, written, is_data_frame}
 use Rattle.mux_station.specs.Messages.{Message, message_of, command_of, is_command, response_of, cld, nsc, test, fcoff, fcon, msc, brings_command}
 use Rattle.mux_station.specs.Acts.{Act, Got, Sent}
 use Rattle.mux_station.specs.States.{State, IsShut, IsOpening, IsOpened, IsClosing, IsStopping, is_opened, at_sent, got_by, state_of}
@@ -23,7 +24,7 @@ use Rattle.mux_station.specs.Stations.{Station, channel_at, setting_of, seen_in}
 use Rattle.mux_station.specs.Fitting.{StationFits, StationHandles, SeesTheFrame}
 use Rattle.mux_station.specs.Ticking.{turned_in}
 use Rattle.mux_station.specs.Noting.{noted_by_table, noted_by_message, noted_of}
-use Rattle.mux_station.specs.Getting.{all_turned_in, turned_by, queued_in, message_calls, message_taken, stops_set, probe_answered, FollowsTable, FrameTaken}
+use Rattle.mux_station.specs.Getting.{all_turned_in, turned_by, queued_in, message_calls, message_taken, stops_set, probe_answered, FollowsTable, FrameTaken, TurnsBy}
 use Rattle.mux_station.proofs.user_calls.CallFrames.{state_sent, state_sent_uih, fits_sent, all_sent, probe_sent}
 use Rattle.mux_station.proofs.user_calls.OpenAndClose.{stop_in_past, seen_state, seen_queued}
 use Rattle.mux_station.proofs.user_calls.ProbeStopFlowOffer.{no_close_down}
@@ -296,6 +297,58 @@ frame_handles old new f false i l n t = table_handles old new f i l n (t.by_tabl
 pub got_handles : (r : Result Noted StationError) (old new : Station) (f : Frame) → f.dlci < 62 → length old.channels ≡ 62 → OnOk r (FrameTaken old new f) → OnOk r (StationHandles old new (Got f))
 got_handles (Ok n) old new f l c t = frame_handles old new f (is_on Uih 0 f) refl l c t
 got_handles (Err why) old new f l c t = tt
+
+-- ## Data
+
+kind_uih : (k : Kind) → is_kind k Uih ≡ true → k ≡ Uih
+kind_uih Sabm e = cc
+kind_uih Ua e = cc
+kind_uih Dm e = cc
+kind_uih Disc e = cc
+kind_uih Uih e = refl
+
+not_zero : (b z : Bool) → not z ≡ true → (b && z) ≡ false
+not_zero true false e = refl
+not_zero false false e = refl
+not_zero b true e = cc
+
+stays_so : (r : Role) (at_zero : Bool) (own : State) → own ≡ got_by r at_zero own Uih
+stays_so Initiator at_zero IsShut = refl
+stays_so Initiator at_zero (IsOpening n) = refl
+stays_so Initiator at_zero IsOpened = refl
+stays_so Initiator at_zero (IsClosing n) = refl
+stays_so Initiator at_zero (IsStopping n) = refl
+stays_so Responder at_zero IsShut = refl
+stays_so Responder at_zero (IsOpening n) = refl
+stays_so Responder at_zero IsOpened = refl
+stays_so Responder at_zero (IsClosing n) = refl
+stays_so Responder at_zero (IsStopping n) = refl
+
+no_turn : (r : Role) (at_zero : Bool) (own : State) → TurnsBy r at_zero own Uih Stays
+no_turn Initiator at_zero own = record { state = stays_so Initiator at_zero own; opens = refl }
+no_turn Responder at_zero own = record { state = stays_so Responder at_zero own; opens = refl }
+
+no_frames : (r : Role) (d : ℕ) (z s : State) → by_table r d z s Uih ≡ []
+no_frames Initiator d z s = refl
+no_frames Responder d z s = refl
+
+data_follows : (v : Station) (d : ℕ) (k : Kind) → k ≡ Uih → FollowsTable v v d k
+data_follows v d k e = record {
+  turn = Stays;
+  turns = subst (λ (x : Kind). TurnsBy v.role ((d == 0) || is_opened (channel_at v 0).state) (channel_at v d).state x Stays) (sym e) (no_turn v.role ((d == 0) || is_opened (channel_at v 0).state) (channel_at v d).state);
+  new_is = ap (λ (fs : List Frame). record v { queue = fs }) (sym (append-nil v.queue))
+      ∙ ap (queued_in v) (sym (ap (by_table v.role d (channel_at v 0).state (channel_at v d).state) e ∙ no_frames v.role d (channel_at v 0).state (channel_at v d).state));
+}
+
+-- a UIH on another connection than 0 leaves the station as it is
+pub data_stays : (v : Station) (f : Frame) → f.dlci < 62 → length v.channels ≡ 62 → is_data_frame f ≡ true → StationHandles v v (Got f)
+data_stays v f l n e =
+    let parts = and_parts (is_kind f.kind Uih) (not (f.dlci == 0)) e in
+    let other : is_on Uih 0 f ≡ false = not_zero (is_kind f.kind Uih) (f.dlci == 0) parts.1 in
+    frame_handles v v f false other l n (record {
+      by_message = λ on. absurd (let x : true ≡ false = sym on ∙ other in cc);
+      by_table = λ _. data_follows v f.dlci f.kind (kind_uih f.kind parts.0);
+    })
 
 -- ## What is noted and refused
 

@@ -5,4 +5,4 @@ use Rattle.at_text.proofs.windows.AnswerWindows.{begins}
 use Rattle.at_text.proofs.window.Window.begin.Goals as goal
 
 pub returns-clause-past : goal.returns-clause-past
-returns-clause-past c = λ dialect past fits. begins dialect c.args.self.now (Some c.begun.result) past c.args.line.now fits c.requires (ap (λ (o : OpenWindow). Some o) c.begun.ensures)
+returns-clause-past c = λ dialect past fits. begins dialect c.args.self.now (Some c.begin.new.self) past c.args.line.now fits c.requires (ap (λ (o : OpenWindow). Some o) c.begin.ensures)

@@ -1,7 +1,7 @@
 -- A dialect with no rules of its own is the standard.
-use Rattle.std.specs.Prelude.{◌≡◌, List, ◌++◌, IfOk, OnOk}
+use Rattle.std.specs.Prelude.{◌≡◌, List, IfOk, OnOk}
 use Rattle.std.proofs.Common.{ap, subst, ◌∙◌}
-use Rattle.at_text.specs.Dialects.{Dialect, standard}
+use Rattle.at_text.specs.Dialects.{Dialect}
 use Rattle.at_text.specs.Rules.{dialect_of}
 use Rattle.at_text.specs.Windows.{Mark}
 use Rattle.at_text.specs.OpenWindow.{FitsMarks, Sees, seen_by, after_line}
