@@ -14,7 +14,7 @@ use Rattle.mux_station.specs.Acts as act
 use Rattle.mux_station.specs.Acts.{Act}
 use Rattle.modem_show.specs.declared.faults.Faults.{Faults}
 use Rattle.modem_show.specs.Ways.{caught, sender, other}
-use Rattle.modem_show.specs.Asking.{Ask, asked_with, answered_by, unanswered_by, excused_by, is_answer, waiting}
+use Rattle.modem_show.specs.Asking.{Ask, asked_with, answered_by, unanswered_by, excused_by, is_answer, is_in_doubt, waiting}
 use Rattle.modem_show.specs.Ends.{End, EndFits, own, come, handled, is_open_at, is_stopped_at}
 use Rattle.modem_show.specs.Judging.{Side, SideFits, Passes, JudgedBy, Watch, WatchFits, faults_of, faults_at}
 use Rattle.modem_show.proofs.Keeping.{open_fits, stopped_fits}
@@ -90,7 +90,7 @@ steps_pass stamp direction f from from1 from2 to to1 to2 taken e1 a1 t1 k t1a r2
 
 -- what is judged by what is kept is judged by the line
 pub judged : (n1 : ℕ) (stamp : Stamp) (direction : Direction) (f : Frame) (from to : Side) → f.dlci < 62
-    → JudgedBy n1 (caught stamp direction f) from to (faults_at n1 from f (is_answer f && is_none (answered_by f to.asks)))
+    → JudgedBy n1 (caught stamp direction f) from to (faults_at n1 from f (is_answer f && is_none (answered_by f to.asks)) (is_in_doubt f.dlci to.asks))
 judged n1 stamp direction f from to l = record {
   says = λ line hf ht.
       let r = sender direction in
@@ -102,14 +102,15 @@ judged n1 stamp direction f from to l = record {
 }
 
 -- the frame is judged after its sender asked with it
-pub steps_judge : (n1 : ℕ) (stamp : Stamp) (direction : Direction) (f : Frame) (from from1 to : Side) (taken : Option Ask) (unasked : Bool) (faults : Faults)
+pub steps_judge : (n1 : ℕ) (stamp : Stamp) (direction : Direction) (f : Frame) (from from1 to : Side) (taken : Option Ask) (unasked in_doubt : Bool) (faults : Faults)
     → f.dlci < 62 → from1.end ≡ from.end → taken ≡ answered_by f to.asks → unasked ≡ (is_answer f && is_none taken)
-    → faults ≡ faults_at n1 from1 f unasked → JudgedBy n1 (caught stamp direction f) from to faults
-steps_judge n1 stamp direction f from from1 to taken unasked faults l e k u j =
+    → in_doubt ≡ is_in_doubt f.dlci to.asks → faults ≡ faults_at n1 from1 f unasked in_doubt → JudgedBy n1 (caught stamp direction f) from to faults
+steps_judge n1 stamp direction f from from1 to taken unasked in_doubt faults l e k u i j =
     subst (λ (x : Faults). JudgedBy n1 (caught stamp direction f) from to x)
     (sym (j
-    ∙ (ap (λ (s : End). faults_at n1 (record { end = s; asks = from1.asks }) f unasked) e
-    ∙ ap (λ (b : Bool). faults_at n1 from f b) (u ∙ ap (λ (o : Option Ask). is_answer f && is_none o) k))))
+    ∙ (ap (λ (s : End). faults_at n1 (record { end = s; asks = from1.asks }) f unasked in_doubt) e
+    ∙ (ap (λ (b : Bool). faults_at n1 from f b in_doubt) (u ∙ ap (λ (o : Option Ask). is_answer f && is_none o) k)
+    ∙ ap (λ (b : Bool). faults_at n1 from f (is_answer f && is_none (answered_by f to.asks)) b) i))))
     (judged n1 stamp direction f from to l)
 
 -- ## Both ways

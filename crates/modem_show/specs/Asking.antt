@@ -1,6 +1,6 @@
 -- Frames that ask for an answer, and their answers (27.010, 5.4.1, 5.4.2 and 5.4.6).
 use Rattle.std.specs.Prelude.{ℕ, ◌==◌, ◌&&◌, ◌||◌, not, Bool, false, List, [], ◌∷◌, ◌++◌, map, Option, None, Some, if◌then◌else◌}
-use Rattle.std.specs.List.{find, position_or_len, remove}
+use Rattle.std.specs.List.{find, list_any, position_or_len, remove}
 use Rattle.std.specs.Str.{bytes_eq}
 use Rattle.mux_frame.specs.Frames.{Frame}
 use Rattle.mux_frame.specs.declared.frame.Kind.TheVariants.{Sabm, Ua, Dm, Disc, Uih}
@@ -63,6 +63,14 @@ pub record Ask : Type 0 where
   pub stamp : Stamp
   pub frame : Frame
   pub is_excused : Bool
+
+-- a SABM or DISC that may have been answered before: another one like it was, so that it was sent again, or was lost
+abbrev pub is_again : Ask → Bool
+is_again a = is_mode_command a.frame && a.is_excused
+
+-- one of d waits
+abbrev pub is_in_doubt : ℕ → List Ask → Bool
+is_in_doubt d asks = list_any (λ a. is_again a && (a.frame.dlci == d)) asks
 
 -- 0 is closed or opened anew by this frame, so that the messages before it needn't be answered any more; one that is closed down by
 -- a CLD has that answered

@@ -2,7 +2,9 @@
 use Rattle.std.specs.Prelude.{◌≡◌, ℕ, ◌<◌, ◌==◌, ◌&&◌, ◌||◌, not, Bool, true, false, List, [], ◌∷◌, ◌++◌, Option, None, Some, if◌then◌else◌, unwrap_or, slice_index_or}
 use Rattle.mux_frame.specs.Frames.{Frame}
 use Rattle.mux_capture.specs.Passing.{Caught}
+use Rattle.mux_frame.specs.declared.frame.Kind.TheVariants.{Dm}
 use Rattle.mux_station.specs.declared.role.Role.{Role}
+use Rattle.mux_station.specs.Written.{is_kind}
 use Rattle.mux_station.specs.Messages.{Message}
 use Rattle.mux_station.specs.Acts as act
 use Rattle.mux_station.specs.Acts.{Act}
@@ -10,19 +12,21 @@ use Rattle.mux_station.specs.Opening.{Standing, standing_after, standings, opens
 use Rattle.mux_station.specs.Stopping.{last_said, got_says, msc_says, flow_says}
 use Rattle.modem_show.specs.declared.place.Place.{Place}
 use Rattle.modem_show.specs.Ways.{other, is_from}
-use Rattle.modem_show.specs.Asking.{Ask, is_ask, answered_by, waiting}
+use Rattle.modem_show.specs.Asking.{Ask, is_ask, is_again, answered_by, waiting}
 
--- the frame that an end has read when it answers it
+-- The frame that an end has read when it answers it. An answer to a SABM or DISC that was sent again is no sign that the end
+-- has read that just now.
 abbrev pub handled : Option Ask → List Act
 handled None = []
-handled (Some a) = act.Got a.frame ∷ []
+handled (Some a) = if is_again a then [] else act.Got a.frame ∷ []
 
--- the acts of an end once a frame came to it: one that asks is read later
+-- The acts of an end once a frame came to it: one that asks is read later. A DM opens nothing, and where nothing asked for it, no frame
+-- shows when it was read.
 abbrev pub come : Frame → List Act → List Act
-come f past = if is_ask f then past else act.Got f ∷ past
+come f past = if is_ask f || is_kind f.kind Dm then past else act.Got f ∷ past
 
 -- The acts of an end, the newest first. A frame that comes to it passed before the end has read it: one that asks counts where it
--- is answered, any other where it passed.
+-- is answered, any other but a DM where it passed.
 abbrev pub own : Role → List Caught → List Act
 own r [] = []
 own r (c ∷ line) =

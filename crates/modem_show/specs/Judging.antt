@@ -1,5 +1,5 @@
 -- What is wrong with a frame, behind the frames that passed before it.
-use Rattle.std.specs.Prelude.{◌≡◌, ℕ, ◌+◌, ◌==◌, ◌&&◌, not, nat_lt, is_none, Bool, false, List, [], ◌∷◌, length, filter, Option, None, Some}
+use Rattle.std.specs.Prelude.{◌≡◌, ℕ, ◌+◌, ◌==◌, ◌&&◌, ◌||◌, not, nat_lt, is_none, Bool, false, List, [], ◌∷◌, length, filter, Option, None, Some}
 use Rattle.mux_frame.specs.Frames.{Frame}
 use Rattle.mux_capture.specs.Passing.{Caught}
 use Rattle.mux_station.specs.declared.role.Role.{Role}
@@ -11,7 +11,7 @@ use Rattle.mux_station.specs.Opening.{is_open}
 use Rattle.mux_station.specs.Stopping.{is_stopped}
 use Rattle.modem_show.specs.declared.faults.Faults.{Faults}
 use Rattle.modem_show.specs.Ways.{sender, other}
-use Rattle.modem_show.specs.Asking.{Ask, is_answer, answered_by, waiting}
+use Rattle.modem_show.specs.Asking.{Ask, is_answer, is_in_doubt, answered_by, waiting}
 use Rattle.modem_show.specs.Ends.{End, EndFits, own, is_open_at, is_stopped_at}
 
 -- an answer that nothing waits for: it came twice, or unasked
@@ -19,10 +19,13 @@ abbrev pub is_unasked : List Caught → Caught → Bool
 is_unasked line c =
     is_answer c.frame && is_none (answered_by c.frame (waiting (other (sender c.direction)) line))
 
--- data on a connection that isn't open for the end that sends it
+-- Data on a connection that isn't open for the end that sends it, nor may be so because a SABM or DISC was sent to it again, whose
+-- answer isn't told from that of another one.
 abbrev pub is_unopened : List Caught → Caught → Bool
 is_unopened line c =
-    let r = sender c.direction in is_data_frame c.frame && not (is_open r c.frame.dlci (own r line))
+    let r = sender c.direction in
+    is_data_frame c.frame
+    && not (is_open r c.frame.dlci (own r line) || is_in_doubt c.frame.dlci (waiting (other r) line))
 
 -- data of an end that has answered what stops it
 abbrev pub is_unstopped : List Caught → Caught → Bool
@@ -74,11 +77,11 @@ pub record SideFits (r : Role) (s : Side) (line : List Caught) : Type 0 where
   pub asks : s.asks ≡ waiting r line
   pub end : EndFits s.end (own r line)
 
--- what is wrong with a frame of an end, by what is kept of it, and whether it is unasked
-abbrev pub faults_at : ℕ → Side → Frame → Bool → Faults
-faults_at n1 s f unasked = record {
+-- what is wrong with a frame of an end, by what is kept of it, and whether it is unasked, or its connection in doubt
+abbrev pub faults_at : ℕ → Side → Frame → (unasked in_doubt : Bool) → Faults
+faults_at n1 s f unasked in_doubt = record {
   unasked = unasked;
-  unopened = is_data_frame f && not (is_open_at s.end f.dlci);
+  unopened = is_data_frame f && not (is_open_at s.end f.dlci || in_doubt);
   unstopped = is_data_frame f && is_stopped_at s.end f.dlci;
   too_long = nat_lt n1 (length f.info);
   astray = is_astray f;

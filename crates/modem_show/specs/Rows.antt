@@ -111,6 +111,24 @@ pub record AreJudged : Type 0 where
       EndsWith unstopped (opened_1 ++ (back Uih 0 (0x63 ∷ 1 ∷ []) ∷ out Uih 0 (0x61 ∷ 1 ∷ []) ∷ [])) (out Uih 1 text)
   pub response_stops_none :
       EndsWith sound (opened_1 ++ (out Uih 0 stop ∷ back Uih 0 stop_back ∷ [])) (out Uih 1 text)
+  -- the driver's data that crosses a DM, for which nothing asked
+  pub crosses_dm :
+      faults_from 31 [] (opened_1 ++ (back Dm 1 [] ∷ out Uih 1 text ∷ []))
+      ≡ map (λ b. sound) opened_1 ++ unasked ∷ sound ∷ []
+  -- a SABM that was sent again crosses a DISC: the second UA answers that SABM, or the DISC; the third shows that both were answered
+  pub crosses_again :
+      EndsWith sound
+      (opened_0 ++ (out Sabm 1 [] ∷ out Sabm 1 [] ∷ back Ua 1 [] ∷ out Disc 1 [] ∷ back Ua 1 [] ∷ []))
+      (back Uih 1 text)
+  pub closed_at_last :
+      EndsWith unopened
+      (opened_0 ++ (out Sabm 1 [] ∷ out Sabm 1 [] ∷ back Ua 1 [] ∷ out Disc 1 [] ∷ back Ua 1 [] ∷ back Ua 1 [] ∷ []))
+      (back Uih 1 text)
+  -- a DISC that was sent again is answered by DM, and the SABM behind it by UA
+  pub closed_again :
+      EndsWith sound
+      (opened_1 ++ (out Disc 1 [] ∷ out Disc 1 [] ∷ back Ua 1 [] ∷ out Sabm 1 [] ∷ back Dm 1 [] ∷ back Ua 1 [] ∷ []))
+      (back Uih 1 text)
   -- as much information as N1 allows, here 31, and one octet more
   pub most : EndsWith sound opened_1 (out Uih 1 (replicate 31 65))
   pub one_more : EndsWith too_long opened_1 (out Uih 1 (replicate 32 65))

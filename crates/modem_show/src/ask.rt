@@ -1,7 +1,7 @@
 //! Frames that ask for an answer, and their answers (27.010, 5.4.1, 5.4.2 and 5.4.6).
 ghost use Rattle.std.specs.Prelude.{◌≡◌, false, IfOk};
 ghost use Rattle.mux_frame.specs.Frames.{frame_of};
-ghost use Rattle.modem_show.specs.Asking.{answers, drops, excuses, excused_by, is_ask, is_answer, is_mode_command, is_mode_answer};
+ghost use Rattle.modem_show.specs.Asking.{answers, drops, excuses, excused_by, is_again, is_ask, is_answer, is_mode_command, is_mode_answer};
 
 use crate::message::{both_respond, closes_down, is_kind, is_mode_frame_on, message_in};
 use mux_capture::Stamp;
@@ -116,6 +116,13 @@ impl Ask {
         ensures { result ≡ self.now.is_excused }
     {
         self.excused
+    }
+
+    /// Whether it is a SABM or DISC that may have been answered before: another one like it was.
+    pub(crate) fn is_again(&self) -> bool
+        ensures { result ≡ is_again self.now }
+    {
+        is_mode_command(self.frame.view()) && self.excused
     }
 
     /// A frame passes, and it may be excused by it.

@@ -1,17 +1,32 @@
 //! The frames of one end that wait for their answer.
 ghost use Rattle.std.specs.Prelude.{◌≡◌, map};
 ghost use Rattle.std.specs.List.{position};
+ghost use Rattle.std.specs.Option.{option_copied};
 ghost use Rattle.mux_frame.specs.Frames.{frame_of};
-ghost use Rattle.modem_show.specs.Asking.{answers, answered_by, unanswered_by, excused_by};
+ghost use Rattle.modem_show.specs.Asking.{answers, answered_by, is_in_doubt, unanswered_by, excused_by};
 
 use crate::ask::{Ask, answers};
-use mux_frame::FrameView;
+use mux_frame::{Dlci, FrameView};
 
 /// The place of the newest that a frame answers.
 fn place_answered(asks: &[Ask], frame: FrameView<'_>) -> Option<usize>
     ensures { result ≡ position (λ a. answers a.frame (frame_of frame.entry)) asks.now }
 {
     asks.iter().position(|ask| answers(ask.frame(), frame))
+}
+
+/// The newest that a frame answers.
+pub(crate) fn answered<'a>(asks: &'a [Ask], frame: FrameView<'_>) -> Option<&'a Ask>
+    ensures { option_copied result ≡ answered_by (frame_of frame.entry) asks.now }
+{
+    asks.iter().find(|ask| answers(ask.frame(), frame))
+}
+
+/// Whether a SABM or DISC of a connection waits that may have been answered before.
+pub(crate) fn is_in_doubt(dlci: Dlci, asks: &[Ask]) -> bool
+    ensures { result ≡ is_in_doubt dlci.number asks.now }
+{
+    asks.iter().any(|ask| ask.is_again() && ask.frame().dlci.number() == dlci.number())
 }
 
 /// Takes out the newest that a frame answers.

@@ -24,6 +24,7 @@ mod watcher;
 
 pub use ask::Ask;
 pub use faults::Faults;
+pub use message::{Message, message_of, msc_dlci, msc_stops};
 pub use rule::Rule;
 pub use talk::Talk;
 pub use talks::Talks;

@@ -16,13 +16,15 @@ use mux_station::written::{CLD, FCOFF, FCON, MSC, MSC_RESPONSE, NSC, NSC_RESPONS
 
 /// A message as read: its type octet and its value.
 #[derive(Clone, Copy)]
-pub(crate) struct Message<'a> {
+pub struct Message<'a> {
+    /// Its type octet, of a command or a response.
     pub octet: u8,
+    /// Its value.
     pub value: &'a [u8],
 }
 
 /// The connection that an MSC names; 0 where the MSC has no value.
-fn msc_dlci(value: &[u8]) -> u8
+pub fn msc_dlci(value: &[u8]) -> u8
     ensures { result ≡ msc_dlci value.now }
 {
     match value.first() {
@@ -32,7 +34,7 @@ fn msc_dlci(value: &[u8]) -> u8
 }
 
 /// Whether the FC bit of an MSC says that no frames can be accepted.
-fn msc_stops(value: &[u8]) -> bool
+pub fn msc_stops(value: &[u8]) -> bool
     ensures { result ≡ msc_stops value.now }
 {
     match value.get(1) {
@@ -49,7 +51,7 @@ fn is_good_msc(value: &[u8]) -> bool
 }
 
 /// The message that information begins with.
-fn message_of(info: &[u8]) -> Option<Message<'_>>
+pub fn message_of(info: &[u8]) -> Option<Message<'_>>
     ensures { option_map message_read result ≡ message_of info.now }
 {
     let (&octet, rest) = info.split_first()?;

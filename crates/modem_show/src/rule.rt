@@ -1,6 +1,6 @@
 //! The rules that a complaint names.
 ghost use Rattle.std.specs.Prelude.{◌≡◌};
-ghost use Rattle.modem_show.specs.Rules.{breaks};
+ghost use Rattle.modem_show.specs.Rules.{breaks, rule_words};
 
 use crate::faults::Faults;
 
@@ -38,7 +38,9 @@ impl Rule {
     ];
 
     /// The rule in words.
-    pub fn words(self) -> &'static str {
+    pub fn words(self) -> &'static str
+        ensures { result.now ≡ rule_words self }
+    {
         match self {
             Rule::Unasked => "an answer that nothing waits for: it came twice, or unasked",
             Rule::Unopened => "data on a connection that isn't open",

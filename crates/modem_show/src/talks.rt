@@ -148,6 +148,13 @@ impl Talks {
         self.talks[usize::from(dlci.number())].is_under_way()
     }
 
+    /// Whether a connection is one of data.
+    pub fn is_data(&self, dlci: Dlci) -> bool
+        ensures { result ≡ list_any (λ e. e.number == dlci.number) self.now.data_channels }
+    {
+        is_among(&self.data_channels, dlci)
+    }
+
     /// The codes by which lines are read.
     pub fn dialect(&self) -> &Dialect
         ensures { result.now ≡ self.now.rules }

@@ -1,5 +1,6 @@
 //! Judges the frames of a line as they passed.
-ghost use Rattle.std.specs.Prelude.{◌≡◌, ◌∷◌, ◌++◌, [], ◌&&◌, List, map, is_none, IfOk, OnOk, OnErr};
+ghost use Rattle.std.specs.Prelude.{◌≡◌, ◌∷◌, ◌++◌, [], ◌&&◌, List, map, is_none, Some, IfOk, OnOk, OnErr};
+ghost use Rattle.std.specs.Option.{option_copied};
 ghost use Rattle.mux_frame.specs.Frames.{frame_of};
 ghost use Rattle.mux_capture.specs.declared.packet.Direction.{Direction};
 ghost use Rattle.mux_capture.specs.Passing.{Caught};
@@ -7,19 +8,19 @@ ghost use Rattle.mux_station.specs.Acts.{Act};
 ghost use Rattle.modem_show.specs.declared.deed.Deed.TheVariants.{Sent};
 ghost use Rattle.mux_station.specs.Opening.{is_open};
 ghost use Rattle.mux_station.specs.Stopping.{is_stopped};
-ghost use Rattle.modem_show.specs.Ways.{caught, act_of, sender};
-ghost use Rattle.modem_show.specs.Asking.{answered_by, unanswered_by, excused_by, asked_with, is_answer, waiting};
+ghost use Rattle.modem_show.specs.Ways.{caught, act_of, other, sender};
+ghost use Rattle.modem_show.specs.Asking.{answered_by, is_in_doubt, unanswered_by, excused_by, asked_with, is_answer, waiting};
 ghost use Rattle.modem_show.specs.Ends.{EndFits, handled, come, own};
 ghost use Rattle.modem_show.specs.Judging.{SideFits, WatchFits, Passes, JudgedBy, faults_at, faults_of};
 
 use crate::ask::{Ask, is_answer, is_ask};
-use crate::asks::{pass_all, take_answered};
+use crate::asks::{answered, is_in_doubt, pass_all, take_answered};
 use crate::deed::Deed;
 use crate::end::End;
 use crate::faults::Faults;
-use crate::message::{is_data_frame, is_message};
+use crate::message::{is_data_frame, is_kind, is_message};
 use mux_capture::{Direction, Stamp};
-use mux_frame::{Dlci, FrameView};
+use mux_frame::{Dlci, FrameView, Kind};
 use mux_station::Role;
 use std::alloc::{AllocError, Global};
 use std::marker::Model;
@@ -51,13 +52,13 @@ impl Side {
     }
 
     /// What is wrong with a frame of this end.
-    fn judge(&self, n1: u16, frame: FrameView<'_>, unasked: bool) -> Faults
-        ensures { result ≡ faults_at n1 self.now (frame_of frame.entry) unasked }
+    fn judge(&self, n1: u16, frame: FrameView<'_>, unasked: bool, in_doubt: bool) -> Faults
+        ensures { result ≡ faults_at n1 self.now (frame_of frame.entry) unasked in_doubt }
     {
         let is_data = is_data_frame(frame);
         Faults {
             unasked,
-            unopened: is_data && !self.end.is_open(frame.dlci),
+            unopened: is_data && !(self.end.is_open(frame.dlci) || in_doubt),
             unstopped: is_data && self.end.is_stopped(frame.dlci),
             too_long: frame.info.len() > usize::from(n1),
             astray: is_data && is_message(frame.info),
@@ -90,6 +91,17 @@ impl Side {
         taken
     }
 
+    /// This end has read a frame that asks, as its answer shows.
+    fn read(&mut self, ask: &Ask)
+        ensures role { self.new.end.role ≡ self.old.end.role }
+        ensures asks { self.new.asks ≡ self.old.asks }
+        ensures past { (past : List Act) → EndFits self.old.end past → EndFits self.new.end (handled (Some ask.now) ++ past) }
+    {
+        if !ask.is_again() {
+            self.end.act(ask.frame(), Deed::Got);
+        }
+    }
+
     /// This end sends a frame, with which it answers what it was asked.
     fn send(&mut self, frame: FrameView<'_>, answered: Option<Ask>)
         ensures role { self.new.end.role ≡ self.old.end.role }
@@ -98,7 +110,7 @@ impl Side {
             → EndFits self.new.end (act_of Sent (frame_of frame.entry) ∷ (handled answered ++ past)) }
     {
         if let Some(ask) = answered {
-            self.end.act(ask.frame(), Deed::Got);
+            self.read(&ask);
         }
         self.end.act(frame, Deed::Sent);
         pass_all(&mut self.asks, frame);
@@ -111,7 +123,7 @@ impl Side {
         ensures past { (past : List Act) → EndFits self.old.end past
             → EndFits self.new.end (come (frame_of frame.entry) past) }
     {
-        if !is_ask(frame) {
+        if !is_ask(frame) && !is_kind(frame.kind, Kind::Dm) {
             self.end.act(frame, Deed::Got);
         }
     }
@@ -141,8 +153,9 @@ fn pass(
     ensures to { OnErr result (to.new ≡ to.old) }
 {
     from.ask(alloc, stamp, frame)?;
+    let in_doubt = is_in_doubt(frame.dlci, to.asks.as_slice());
     let answered = to.take_answer(frame);
-    let faults = from.judge(n1, frame, is_unasked(frame, &answered));
+    let faults = from.judge(n1, frame, is_unasked(frame, &answered), in_doubt);
     from.send(frame, answered);
     to.get(frame);
     Ok(faults)
@@ -224,6 +237,17 @@ impl Watcher {
         match direction {
             Direction::ToModem => self.initiator.asks.as_slice(),
             Direction::FromModem => self.responder.asks.as_slice(),
+        }
+    }
+
+    /// What a frame that goes this way answers, of what waits: the newest that it can answer.
+    pub fn answered(&self, direction: Direction, frame: FrameView<'_>) -> Option<&Ask>
+        ensures { (line : List Caught) → WatchFits self.now line → option_copied result
+            ≡ answered_by (frame_of frame.entry) (waiting (other (sender direction)) line) }
+    {
+        match direction {
+            Direction::ToModem => answered(self.responder.asks.as_slice(), frame),
+            Direction::FromModem => answered(self.initiator.asks.as_slice(), frame),
         }
     }
 
