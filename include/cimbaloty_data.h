@@ -82,6 +82,9 @@ void cimbaloty_data_lost(struct cimbaloty_data *d);
 uint8_t cimbaloty_data_read_at(struct cimbaloty_data *d, uint8_t dlci, uint8_t *room, size_t length, struct cimbaloty_data_got *got);
 uint8_t cimbaloty_data_give_at(struct cimbaloty_data *d, uint8_t dlci, const uint8_t *octets, size_t length, size_t *taken);
 
+/* How many octets of data were given and haven't left. Where the lane is over they aren't sent. */
+uint8_t cimbaloty_data_to_go_at(struct cimbaloty_data *d, uint8_t dlci, size_t *count);
+
 /* Octets of the line. Where it wants memory, a frame waits: call it again with the octets behind those taken, or with none. */
 uint8_t cimbaloty_data_from_line_at(struct cimbaloty_data *d, const uint8_t *octets, size_t length, size_t *taken);
 

@@ -2,7 +2,7 @@
  *
  * LINE is the tty of a modem in the multiplexer, DRIVER one at whose other end a driver of the multiplexer works as if it were the
  * modem's. Behind a CONNECT line on this connection standard input goes there, and what comes there goes to standard output. It goes
- * on until a tty ends or the lane is over. */
+ * on until a tty ends, or until the lane is over and nothing came for a second in all: so what answers the lane's end passes too. */
 #define _DEFAULT_SOURCE
 #include "cimbaloty_data.h"
 #include <fcntl.h>
@@ -13,6 +13,7 @@
 #include <unistd.h>
 
 enum { LINE, DRIVER, IN, OUT };
+enum { PAUSE = 20, PAUSES = 50 };       /* milliseconds in which nothing comes; so many of them once the lane is over */
 
 /* Opens a tty raw, or gives -1. */
 static int open_raw(const char *path)
@@ -80,16 +81,18 @@ int main(int argc, char **argv)
 	uint8_t dlci = argc == 4 ? (uint8_t)atoi(argv[3]) : 0;
 	int fd[4] = { dlci ? open_raw(argv[1]) : -1, dlci ? open_raw(argv[2]) : -1, STDIN_FILENO, STDOUT_FILENO };
 	size_t at = 0, end = 0, taken;
+	unsigned left = PAUSES;
 	bool holds = true;
 
 	if (fd[LINE] < 0 || fd[DRIVER] < 0 || cimbaloty_data_new_at(&d, 512, &dlci, 1) != CIMBALOTY_DATA_OK || cimbaloty_data_begin(&d, dlci, true) != CIMBALOTY_DATA_OK) {
 		fprintf(stderr, "usage: data LINE DRIVER DLCI\n");
 		return 2;
 	}
-	while (holds && !got.is_over) {
+	while (holds && left > 0) {
 		struct pollfd p[4] = { { fd[LINE], POLLIN, 0 }, { fd[DRIVER], POLLIN, 0 }, { at == end ? fd[IN] : -1, POLLIN, 0 }, { fd[OUT], POLLOUT, 0 } };
 
-		poll(p, 3, at == end ? 20 : 1);
+		if (poll(p, 3, at == end || got.is_over ? PAUSE : 1) == 0 && got.is_over)
+			left--;
 		if (p[LINE].revents)
 			holds = from_line(&d, fd, room, sizeof room);
 		if (holds && p[DRIVER].revents)

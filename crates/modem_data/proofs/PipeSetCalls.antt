@@ -11,7 +11,7 @@ use Rattle.mux_station.specs.Opening.{is_open}
 use Rattle.modem_data.specs.Switching.{Carries, Idle, Data, is_behind_lines, is_idle}
 use Rattle.modem_data.specs.DataLanes.{most_to_go}
 use Rattle.modem_data.specs.Watching.{Watch}
-use Rattle.modem_data.specs.Passing.{Pass, wire, Came, Flowed, Left, Began, EndedLane, Gave, Read, AllowsPass, ends_here, carries, data_came, data_read, given, left, unread, LawfulPasses, IsOver, IsDue, flow_frame}
+use Rattle.modem_data.specs.Passing.{Pass, wire, Came, Flowed, Left, Began, EndedLane, Gave, Read, AllowsPass, ends_here, carries, data_came, data_read, given, left, to_go, unread, LawfulPasses, IsOver, IsDue, flow_frame}
 use Rattle.modem_data.specs.Pipes.{Pipe, PipeFits, Leads, LeadsLeft, HasNoneToSend, MayLeave, IsShut, HasNoData, HasUnread, SaysBehind, SaysFlow, SaysLane, SaysOver, flowed_pipe}
 use Rattle.modem_data.specs.PipeSets.{PipeSet, PipesFit, AllLead, OfEachPast, HasPipe, IsNotData, NoneOf, NoneLeaves, AreApart, IsNext, IsFlowOf, LeavesInTurn, NonesIn, comes_before, connections, place_behind}
 use Rattle.modem_data.proofs.Watching.{watched_sent_info}
@@ -183,6 +183,12 @@ gives_at v i p e count many there here is n1 ds past h =
 pub over_at : (v : PipeSet) (i : ℕ) (p : Pipe) (e : ℕ) (b : Bool) → i < length v.each → (slice_index_or v.each i p).watch.dlci ≡ e → SaysOver (slice_index_or v.each i p) b → OfEachPast v (λ past. b ≡ true ↔ IsOver e past)
 unfolding OfEachPast SaysOver
 over_at v i p e b there here says n1 ds past h = says n1 e past (fits_at n1 ds past v i p e there here h)
+
+pub to_go_at : (v : PipeSet) (i : ℕ) (p : Pipe) (e : ℕ) (count : ℕ) → i < length v.each → (slice_index_or v.each i p).watch.dlci ≡ e → count ≡ length (slice_index_or v.each i p).lane.to_go → OfEachPast v (λ past. count ≡ to_go e past)
+unfolding OfEachPast
+to_go_at v i p e count there here is n1 ds past h =
+    let k = fits_at n1 ds past v i p e there here h in
+    is ∙ unread_is (left e past) (slice_index_or v.each i p).lane.to_go (given e past) k.to_go_is
 
 pub behind_at : (v : PipeSet) (i : ℕ) (p : Pipe) (e : ℕ) (b : Bool) → i < length v.each → (slice_index_or v.each i p).watch.dlci ≡ e → SaysBehind (slice_index_or v.each i p) b → OfEachPast v (λ past. b ≡ is_behind_lines (carries e past))
 unfolding OfEachPast SaysBehind

@@ -12,7 +12,7 @@ use Rattle.modem_data.specs.Passing.{Came, Went, Flowed, Left, Lost, Began, Ende
 use Rattle.modem_data.specs.PipeSets.{AllHand, AllLead, BeginsAll, HasPipe, LeavesInTurn, NoneLeaves, OfEachPast, PipesFit}
 use Rattle.modem_data.specs.declared.pipe.Reading.{Reading}
 use Rattle.modem_data.specs.Handing.{PassesIn, PassesOut, PassesOver, handed}
-use Rattle.modem_data.specs.Hops.{Relay, RelayFits, Hop, Fed, Handed, Took, Wrote, Passed, Hops, HopsBy, BeginsRelay, LawfulHops, DriverFirst, AllCame, HoldsNothing, LineIn, PassesOn, OneOut, flow_out, still_out, went_out, left_out, spell, due, with_lines, for_driver, for_line, fed, taken, wrote, handed_over, came, went, passes}
+use Rattle.modem_data.specs.Hops.{Relay, RelayFits, Hop, Fed, Handed, Took, Wrote, Passed, Hops, HopsBy, BeginsRelay, LawfulHops, DriverFirst, AllCame, HoldsNothing, LineIn, PassesOn, DriverOut, still_there, driver_out, OneOut, flow_out, still_out, went_out, left_out, spell, due, with_lines, for_driver, for_line, fed, taken, wrote, handed_over, came, went, passes}
 
 -- ## Octets
 
@@ -302,6 +302,15 @@ line_fed k0 k1 k2 xs ys l b = record {
 
 pub line_more : (k0 k1 k2 : Relay) (octets : List ℕ) (n count : ℕ) → LineIn k0 k1 (take n octets) → Hops k1 k2 (Fed (take count (drop n octets))) → LineIn k0 k2 (take (n + count) octets)
 line_more k0 k1 k2 octets n count l b = subst (λ xs. LineIn k0 k2 xs) (sym (take-add n count octets)) (line_fed k0 k1 k2 (take n octets) (take count (drop n octets)) l b)
+
+pub driver_waits : (k : Relay) → DriverOut k k
+driver_waits k = still_there refl
+
+pub driver_goes : (v w : Relay) → HopsBy v w (λ f. Passed (Went f)) → DriverOut v w
+driver_goes v w b = driver_out b
+
+pub driver_none : (v w : Relay) → w ≡ v → DriverOut v w
+driver_none v w e = still_there e
 
 pub out_waits : (k : Relay) → OneOut k k
 out_waits k = still_out refl

@@ -200,6 +200,11 @@ pub record LineIn (old new : Relay) (octets : List ℕ) : Type 0 where
 unfoldable pub PassesOn : Relay → Relay → Type 0
 PassesOn old new = (first : Relay) (octets : List ℕ) → LineIn first old octets → LineIn first new octets
 
+-- the driver's next frame for the line; or octets wait already, or there is none
+pub data DriverOut (old new : Relay) : Type 0 where
+  still_there : new ≡ old → DriverOut old new
+  driver_out : HopsBy old new (λ f. Passed (Went f)) → DriverOut old new
+
 -- the next frame for the line: the driver's, or one of data; or octets wait already, or there is none
 pub data OneOut (old new : Relay) : Type 0 where
   still_out : new ≡ old → OneOut old new

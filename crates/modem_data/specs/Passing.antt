@@ -114,6 +114,10 @@ left d (Left f ∷ past) = if f.dlci == d then left d past ++ f.info else left d
 left d (Began e by_connect ∷ past) = if e == d then [] else left d past
 left d (_ ∷ past) = left d past
 
+-- how many octets of data wait to leave
+abbrev pub to_go : ℕ → List Pass → ℕ
+to_go d past = length (given d past) - length (left d past)
+
 -- ## Flow of data that comes (27.010, 5.4.6.3.7)
 
 -- the last MSC for d that went since d opened, whoever's, said that the other end may not go on; the driver's last one did

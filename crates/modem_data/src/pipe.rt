@@ -228,6 +228,13 @@ impl Pipe {
         Ok(self.lane.give(octets))
     }
 
+    /// How many octets were given and haven't left.
+    pub fn to_go(&self) -> usize
+        ensures { result ≡ length self.now.lane.to_go }
+    {
+        self.lane.to_go().len()
+    }
+
     /// What is due to be said of the flow: stop, where 8192 octets wait to be read, or go on, where fewer than 4096 do; but not
     /// where the driver holds the connection.
     #[tactic(auto, using(crate::proofs::PipeCalls::says_flow, crate::proofs::PipeCalls::idle_flow, crate::proofs::PipeCalls::shut_flow))]

@@ -7,7 +7,7 @@ ghost use Rattle.mux_station.specs.declared.role.Role.TheVariants.{Initiator};
 ghost use Rattle.modem_data.specs.declared.error.DataError.TheVariants as error;
 ghost use Rattle.modem_data.specs.DataLanes.{most_to_go};
 ghost use Rattle.modem_data.specs.Switching.{Idle as idle, Data as in_data, is_behind_lines, is_idle};
-ghost use Rattle.modem_data.specs.Passing.{Came, Went, Flowed, Lost, Began, EndedLane, Gave, Read, IsDue, IsOver, carries, data_came, data_read, given, left, unread, wire, flow_frame};
+ghost use Rattle.modem_data.specs.Passing.{Came, Went, Flowed, Lost, Began, EndedLane, Gave, Read, IsDue, IsOver, carries, data_came, data_read, given, left, to_go, unread, wire, flow_frame};
 ghost use Rattle.modem_data.specs.Pipes.{Pipe as Kept, PipeFits, HasNoneToSend, MayLeave, SaysFlow, saw_pipe, sent_pipe, flowed_pipe, lost_pipe};
 ghost use Rattle.modem_data.specs.PipeSets.{AllHand, AllLead, AreApart, BeginsAll, IsAmong, IsTwice, HasPipe, IsFlowOf, IsNext, IsNotData, NoneLeaves, NoneOf, NonesIn, OfEachPast, SomeLeaves, connections, numbers};
 
@@ -182,6 +182,18 @@ impl Pipes {
             return Err(DataError::NotData);
         };
         self.each[place].give(octets)
+    }
+
+    /// How many octets were given on a connection and haven't left. Refused with 6 NotData where there is no pipe of it.
+    #[tactic(auto, using(crate::proofs::PipeSetCalls::to_go_at, crate::proofs::PipeSetCalls::not_data))]
+    pub fn to_go(&self, dlci: Dlci) -> Result<usize, DataError>
+        ensures count { IfOk result (λ count. OfEachPast self.now (λ past. count ≡ to_go dlci.number past)) }
+        ensures not_data { OnErr result ((result ≡ Err error.NotData) × IsNotData self.now dlci.number) }
+    {
+        let Some(place) = place_of(&self.each, dlci) else {
+            return Err(DataError::NotData);
+        };
+        Ok(self.each[place].to_go())
     }
 
     /// What is to be said of the flow of the first connection of which there is something to say.

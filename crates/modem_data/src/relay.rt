@@ -5,9 +5,9 @@ ghost use Rattle.mux_station.specs.declared.role.Role.TheVariants.{Initiator};
 ghost use Rattle.modem_data.specs.declared.error.DataError.TheVariants as error;
 ghost use Rattle.modem_data.specs.DataLanes.{most_to_go};
 ghost use Rattle.modem_data.specs.Switching.{Idle as idle, Data as in_data, is_behind_lines, is_idle};
-ghost use Rattle.modem_data.specs.Passing.{Came, Went, Flowed, Left, Lost, Began, EndedLane, Gave, Read, IsDue, IsOver, carries, data_came, data_read, given, left, unread, wire, flow_frame};
+ghost use Rattle.modem_data.specs.Passing.{Came, Went, Flowed, Left, Lost, Began, EndedLane, Gave, Read, IsDue, IsOver, carries, data_came, data_read, given, left, to_go, unread, wire, flow_frame};
 ghost use Rattle.modem_data.specs.PipeSets.{IsAmong, IsNotData, IsTwice, NoneLeaves, OfEachPast, numbers};
-ghost use Rattle.modem_data.specs.Hops.{Fed, Handed, Took, Wrote, Passed, Hops, HopsBy, BeginsRelay, AllCame, HoldsNothing, LineIn, PassesOn, OneOut};
+ghost use Rattle.modem_data.specs.Hops.{Fed, Handed, Took, Wrote, Passed, Hops, HopsBy, BeginsRelay, AllCame, HoldsNothing, LineIn, PassesOn, DriverOut, OneOut};
 
 use crate::error::DataError;
 use crate::octets::Octets;
@@ -134,6 +134,7 @@ impl Relay {
     /// Whether the relay can take octets of the driver: no octets wait for the line, and no frame of the driver's is at hand.
     pub fn wants_driver(&mut self) -> bool
         ensures wants { result ≡ true → self.old.inner.next ≡ None }
+        ensures first { result ≡ false → (0 < length self.old.to_line) ⊎ (self.old.inner.next ≢ None) }
         ensures same { self.new ≡ self.old }
     {
         self.to_line.is_empty() && self.inner.peek().is_none()
@@ -166,6 +167,15 @@ impl Relay {
         ensures err { OnErr result (self.new ≡ self.old) }
     {
         self.pipes.give(dlci, octets)
+    }
+
+    /// How many octets were given on a connection and haven't left; where its lane is over, these aren't sent. Refused with 6 NotData
+    /// where the connection isn't one that may carry data.
+    pub fn to_go(&self, dlci: Dlci) -> Result<usize, DataError>
+        ensures count { IfOk result (λ count. OfEachPast self.now.pipes (λ past. count ≡ to_go dlci.number past)) }
+        ensures not_data { OnErr result ((result ≡ Err error.NotData) × IsNotData self.now.pipes dlci.number) }
+    {
+        self.pipes.to_go(dlci)
     }
 
     /// The line was lost: each lane is over, and no data leaves.
@@ -204,7 +214,8 @@ impl Relay {
     /// So many of the octets for the driver were given to it. Requires that there are as many.
     pub fn handed(&mut self, count: usize)
         requires { count ≤ length self.old.to_driver }
-        ensures { Hops self.old self.new (Handed (take count self.old.to_driver)) }
+        ensures hands { Hops self.old self.new (Handed (take count self.old.to_driver)) }
+        ensures rest { self.new ≡ record self.old { to_driver = drop count self.old.to_driver } }
     {
         self.to_driver.pass(count);
     }
@@ -219,7 +230,8 @@ impl Relay {
     /// So many of the octets for the line were given to it. Requires that there are as many.
     pub fn wrote(&mut self, count: usize)
         requires { count ≤ length self.old.to_line }
-        ensures { Hops self.old self.new (Wrote (take count self.old.to_line)) }
+        ensures writes { Hops self.old self.new (Wrote (take count self.old.to_line)) }
+        ensures rest { self.new ≡ record self.old { to_line = drop count self.old.to_line } }
     {
         self.to_line.pass(count);
     }
@@ -265,6 +277,7 @@ impl Relay {
         ensures taken { result.is_blocked ≡ false → result.taken ≡ length octets.now }
         ensures blocks { result.is_blocked ≡ true → self.new.outer.next ≢ None }
         ensures all { result.is_blocked ≡ false → AllCame self.new }
+        ensures none { result.is_blocked ≡ false → self.new.outer.next ≡ None }
     {
         let mut taken = 0;
         loop {
@@ -339,6 +352,20 @@ impl Relay {
         self.to_line.put_frame(frame, self.n1);
         self.pipes.flowed(flow, frame);
         true
+    }
+
+    /// Makes the driver's next frame for the line, if one is at hand and no octets wait for the line. Says whether octets wait.
+    #[tactic(auto, using(crate::proofs::Relays::driver_waits, crate::proofs::Relays::driver_goes, crate::proofs::Relays::driver_none))]
+    pub fn ready_driver(&mut self) -> bool
+        ensures one { DriverOut self.old self.new }
+        ensures some { result ≡ true → 0 < length self.new.to_line }
+        ensures none { result ≡ false → (length self.old.to_line ≡ 0) × (self.old.inner.next ≡ None) }
+    {
+        deframed();
+        if !self.to_line.is_empty() {
+            return true;
+        }
+        self.pass_driver()
     }
 
     /// Makes the next frame for the line where no octets wait for it: the driver's, or else one that says something of the flow, or

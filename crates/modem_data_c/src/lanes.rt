@@ -4,7 +4,7 @@ ghost use Rattle.mux_station.specs.Opening.{is_open};
 ghost use Rattle.mux_station.specs.declared.role.Role.TheVariants.{Initiator};
 ghost use Rattle.modem_data.specs.Switching.{Idle as idle, Data as in_data, is_idle};
 ghost use Rattle.modem_data.specs.DataLanes.{most_to_go};
-ghost use Rattle.modem_data.specs.Passing.{Began, EndedLane, Gave, Read, Lost, IsOver, carries, data_came, data_read, given, left, unread, wire};
+ghost use Rattle.modem_data.specs.Passing.{Began, EndedLane, Gave, Read, Lost, IsOver, carries, data_came, data_read, given, left, to_go, unread, wire};
 ghost use Rattle.modem_data.specs.PipeSets.{IsNotData, OfEachPast};
 ghost use Rattle.modem_data.specs.Hops.{Hops, Passed};
 ghost use Rattle.modem_data_c.specs.DataCalls.{Becomes, Keeps, relay_of};
@@ -222,6 +222,48 @@ pub extern "C" fn cimbaloty_data_give_at(
         return NO_RELAY;
     };
     let answer = give(&mut relay, dlci, octets, taken);
+    *d = CimbalotyData::of(relay);
+    answer
+}
+
+/// How many octets of data were given and haven't left.
+fn to_go(relay: &Relay, dlci: u8, count: &mut usize) -> u8
+    ensures count { result ≡ OK → OfEachPast relay.now.pipes (λ past. count.new ≡ to_go dlci past) }
+    ensures bad { (result ≡ BAD_DLCI) ↔ (61 < dlci) }
+    ensures not_data { result ≡ NOT_DATA → IsNotData relay.now.pipes dlci }
+    ensures same { result ≢ OK → count.new ≡ count.old }
+    ensures others { result ≢ OK → result ≢ BAD_DLCI → result ≡ NOT_DATA }
+{
+    let Some(dlci) = Dlci::new(dlci) else {
+        return BAD_DLCI;
+    };
+    let Ok(waiting) = relay.to_go(dlci) else {
+        return NOT_DATA;
+    };
+    *count = waiting;
+    OK
+}
+
+/// How many octets of data were given and haven't left.
+#[unsafe(no_mangle)]
+pub extern "C" fn cimbaloty_data_to_go_at(
+    alloc: Global,
+    d: &mut CimbalotyData,
+    dlci: u8,
+    count: &mut usize,
+) -> u8
+    ensures count { result ≡ OK → Keeps d.old (λ r. OfEachPast r.pipes (λ past. count.new ≡ to_go dlci past)) }
+    ensures bad { relay_of d.old ≢ None → ((result ≡ BAD_DLCI) ↔ (61 < dlci)) }
+    ensures not_data { result ≡ NOT_DATA → Keeps d.old (λ r. IsNotData r.pipes dlci) }
+    ensures no_relay { (result ≡ NO_RELAY) ↔ (relay_of d.old ≡ None) }
+    ensures stays { relay_of d.new ≡ relay_of d.old }
+    ensures same { result ≢ OK → count.new ≡ count.old }
+    ensures others { result ≢ OK → result ≢ BAD_DLCI → result ≢ NO_RELAY → result ≡ NOT_DATA }
+{
+    let Some(relay) = d.take(alloc) else {
+        return NO_RELAY;
+    };
+    let answer = to_go(&relay, dlci, count);
     *d = CimbalotyData::of(relay);
     answer
 }
