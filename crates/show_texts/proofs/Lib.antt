@@ -1,0 +1,3 @@
+mod FramesTold
+mod LineEnds
+mod Shown

@@ -1,0 +1,175 @@
+-- Packets are read, told and written, one after the other.
+use Rattle.std.specs.Prelude.{◌≡◌, ℕ, ◌==◌, Bool, true, false, length, List, [], ◌∷◌, ◌++◌, Option, Some, None, IfSome, refl, map}
+use Rattle.std.proofs.Common.{ap, sym, ◌∙◌, subst, append_assoc, append-nil}
+use Rattle.std.specs.Io.KnownBytes.{Appends, Consumes, IsAtEnd, Keeps}
+use Rattle.mux_frame.specs.Frames.{Frame, kept_frame}
+use Rattle.mux_frame.specs.declared.frame.FrameBuf.{FrameBuf}
+use Rattle.mux_frame.specs.Reading.{Reads}
+use Rattle.mux_capture.specs.Passing.{Passed, caught_with}
+use Rattle.mux_capture.specs.Pcap.{packet}
+use Rattle.mux_capture.specs.Reading.{IsHeaded}
+use Rattle.show_texts.specs.Captures.{IsShown, IsToldWhole, ReadsMore, ShowsOctets, TellsFrames, TellsOctets, TellsPacket, ToldSoFar, Writes, more, none, packets_octets, with_frames, with_packet}
+use Rattle.show_texts.specs.Telling.{Closes, Damage, Framed, Item, Setting, Teller, TellerFits, Tells, has_complaint, setting_of, shown_text}
+
+-- ## Octets read and written
+
+pub consumed_none : (a : Option (List ℕ)) → Consumes a a []
+consumed_none None = tt
+consumed_none (Some x) = refl
+
+pub consumed_more : (a b c : Option (List ℕ)) (xs ys : List ℕ) → Consumes a b xs → Consumes b c ys → Consumes a c (xs ++ ys)
+consumed_more None b c xs ys p q = tt
+consumed_more (Some x) None c xs ys p q = absurd p
+consumed_more (Some x) (Some y) None xs ys p q = absurd q
+consumed_more (Some x) (Some y) (Some z) xs ys p q = p ∙ ap (λ l. xs ++ l) q ∙ sym (append_assoc xs ys z)
+
+consumed_all : (a b c : Option (List ℕ)) (xs ys : List ℕ) → Consumes a b xs → Consumes b c ys → IsAtEnd c → IfSome a (λ all. all ≡ xs ++ ys)
+consumed_all None b c xs ys p q e = tt
+consumed_all (Some x) None c xs ys p q e = absurd p
+consumed_all (Some x) (Some y) None xs ys p q e = absurd q
+consumed_all (Some x) (Some y) (Some z) xs ys p q e = p ∙ ap (λ l. xs ++ l) (q ∙ (ap (λ l. ys ++ l) e ∙ append-nil ys))
+
+kept_same : (a b c : Option (List ℕ)) (xs : List ℕ) → Consumes a b xs → Consumes b c [] → IsAtEnd c → IsAtEnd b
+kept_same a None c xs p q e = tt
+kept_same a (Some y) None xs p q e = absurd q
+kept_same a (Some y) (Some z) xs p q e = q ∙ e
+
+pub appended_none : (a : Option (List ℕ)) → Appends a a []
+appended_none None = tt
+appended_none (Some x) = sym (append-nil x)
+
+pub appended_more : (a b c : Option (List ℕ)) (xs ys : List ℕ) → Appends a b xs → Appends b c ys → Appends a c (xs ++ ys)
+appended_more None b c xs ys p q = tt
+appended_more (Some x) None c xs ys p q = absurd p
+appended_more (Some x) (Some y) None xs ys p q = absurd q
+appended_more (Some x) (Some y) (Some z) xs ys p q = q ∙ (ap (λ l. l ++ ys) p ∙ append_assoc x xs ys)
+
+pub read_none : (a : Option (List ℕ)) (octets : List ℕ) → ReadsMore a a octets octets
+read_none a octets = record { more = []; read = consumed_none a; kept = sym (append-nil octets) }
+
+pub consumed_keeps : (a b c : Option (List ℕ)) → Consumes a b [] → Keeps b c → Consumes a c []
+consumed_keeps None b c p q = tt
+consumed_keeps (Some x) None c p q = absurd p
+consumed_keeps (Some x) (Some y) None p q = absurd q
+consumed_keeps (Some x) (Some y) (Some z) p q = p ∙ sym q
+
+pub read_at_once : (a b : Option (List ℕ)) (x y piece : List ℕ) → Consumes a b piece → y ≡ x ++ piece → ReadsMore a b x y
+read_at_once a b x y piece p e = record { more = piece; read = p; kept = e }
+
+pub read_piece_on : (a b c : Option (List ℕ)) (x y piece : List ℕ) → Consumes a b [] → Consumes b c piece → y ≡ x ++ piece → ReadsMore a c x y
+read_piece_on a b c x y piece p q e = record { more = piece; read = consumed_more a b c [] piece p q; kept = e }
+
+pub octets_shown : (old mid new : Teller) (octets : List ℕ) (a b : Option (List ℕ)) → TellsOctets old mid octets → Writes mid new a b
+    → ShowsOctets old new octets a b
+octets_shown old mid new octets a b t w = record { mid = mid; tells = t; writes = w }
+
+pub read_on : (a b c : Option (List ℕ)) (x y z : List ℕ) → ReadsMore a b x y → ReadsMore b c y z → ReadsMore a c x z
+read_on a b c x y z p q = record {
+  more = p.more ++ q.more;
+  read = consumed_more a b c p.more q.more p.read q.read;
+  kept = q.kept ∙ (ap (λ l. l ++ q.more) p.kept ∙ append_assoc x p.more q.more);
+}
+
+pub read_whole : (a b : Option (List ℕ)) (x y : List ℕ) → ReadsMore a b x y → x ≡ [] → Consumes a b y
+read_whole a b x y p e = subst (λ l. Consumes a b l) (sym (p.kept ∙ ap (λ l. l ++ p.more) e)) p.read
+
+-- ## Frames of a packet
+
+with_one_more : (p : Passed) (f : Frame) (frames : List Frame) (items : List Item)
+    → with_frames p (frames ++ f ∷ []) items ≡ Framed (caught_with p f) ∷ with_frames p frames items
+with_one_more p f [] items = refl
+with_one_more p f (g ∷ frames) items = with_one_more p f frames (Framed (caught_with p g) ∷ items)
+
+pub no_frame_told : (t : Teller) (p : Passed) (frames : List Frame) → frames ≡ [] → TellsFrames t t p frames
+no_frame_told t p frames e = rw e (record { setting = refl; fits = λ written items h. h })
+
+pub frame_more_told : (old mid new : Teller) (p : Passed) (f : Frame) (frames all : List Frame) → TellsFrames old mid p frames
+    → Tells mid new (Framed (caught_with p f)) → all ≡ frames ++ f ∷ [] → TellsFrames old new p all
+frame_more_told old mid new p f frames all h t e = rw e (record {
+  setting = t.setting ∙ h.setting;
+  fits = λ written items k.
+      subst (λ (l : List Item). TellerFits written new l) (sym (with_one_more p f frames items))
+      (t.fits written (with_frames p frames items) (h.fits written items k));
+})
+
+zero_is : (b : Bool) → b ≡ (0 == 0) → b ≡ false → ⊥
+zero_is true e f = cc
+zero_is false e f = cc
+
+pub not_none : (frames : List FrameBuf) (n : ℕ) (b : Bool) → length frames ≡ n → b ≡ (n == 0) → b ≡ false → ¬ (map kept_frame frames ≡ [])
+not_none [] n b e f g h = zero_is b (f ∙ ap (λ (k : ℕ). k == 0) (sym e)) g
+not_none (x ∷ frames) n b e f g h = cc
+
+pub packet_damage : (old new : Teller) (p : Passed) (frames : List Frame) (rest : List ℕ) → Reads 32767 p.octets frames rest → frames ≡ []
+    → Tells old new (Damage p) → TellsPacket old new p
+packet_damage old new p [] rest r e t = record { setting = t.setting; frames = []; rest = rest; reads = r; fits = t.fits }
+packet_damage old new p (f ∷ frames) rest r e t = cc
+
+pub packet_frames : (old new : Teller) (p : Passed) (frames : List Frame) (rest : List ℕ) → Reads 32767 p.octets frames rest → ¬ (frames ≡ [])
+    → TellsFrames old new p frames → TellsPacket old new p
+packet_frames old new p [] rest r e t = absurd (e refl)
+packet_frames old new p (f ∷ frames) rest r e t =
+    record { setting = t.setting; frames = f ∷ frames; rest = rest; reads = r; fits = t.fits }
+
+-- ## Packets
+
+pub octets_told : (old new : Teller) (p : Passed) (octets rest : List ℕ) → octets ≡ packet p.stamp p.direction p.octets ++ rest → rest ≡ []
+    → TellsPacket old new p → TellsOctets old new octets
+octets_told old new p octets rest e n t = record {
+  p = p;
+  is = e ∙ (ap (λ l. packet p.stamp p.direction p.octets ++ l) n ∙ append-nil (packet p.stamp p.direction p.octets));
+  tells = t;
+}
+
+pub none_so_far : (t : Teller) (a x : Option (List ℕ)) → ToldSoFar t t a a x x
+none_so_far t a x = record {
+  packets = [];
+  items = [];
+  written = [];
+  setting = refl;
+  read = consumed_none a;
+  are = none;
+  appended = appended_none x;
+  fits = λ h. h;
+}
+
+pub more_so_far : (old now new : Teller) (a b c x y z : Option (List ℕ)) (octets : List ℕ) → ToldSoFar old now a b x y
+    → Consumes b c octets → ShowsOctets now new octets y z → ToldSoFar old new a c x z
+more_so_far old now new a b c x y z octets h r s =
+    let t = s.tells.tells in
+    record {
+      packets = s.tells.p ∷ h.packets;
+      items = with_packet s.tells.p t.frames h.items;
+      written = h.written ++ s.writes.part;
+      setting = s.writes.setting ∙ (t.setting ∙ h.setting);
+      read =
+          subst (λ l. Consumes a c (packets_octets h.packets ++ l)) s.tells.is
+          (consumed_more a b c (packets_octets h.packets) octets h.read r);
+      are = more h.packets h.items s.tells.p t.frames t.rest h.are t.reads;
+      appended = appended_more x y z h.written s.writes.part h.appended s.writes.appended;
+      fits = λ k. s.writes.fits h.written (with_packet s.tells.p t.frames h.items) (t.fits h.written h.items (h.fits k));
+    }
+
+pub whole_told : (old now : Teller) (a b c x y : Option (List ℕ)) → ToldSoFar old now a b x y → Consumes b c [] → IsAtEnd c
+    → IsToldWhole old now a x y
+whole_told old now a b c x y h r e = record { left = b; end = kept_same a b c (packets_octets h.packets) h.read r e; told = h }
+
+-- the head, the packets, and the end
+pub shown_whole : (first last closed : Teller) (wrong : Bool) (a b x y z : Option (List ℕ)) (head : List ℕ)
+    → TellerFits [] first [] → Consumes a b head → IsHeaded head [] → IsToldWhole first last b x y → Closes last closed
+    → Appends y z closed.text → wrong ≡ closed.is_wrong → IsShown (setting_of first) wrong a x z
+shown_whole first last closed wrong a b x y z head k r headed w c e q =
+    let h = w.told in
+    let fits : TellerFits h.written last h.items = h.fits k in
+    record {
+      head = head;
+      packets = h.packets;
+      items = h.items;
+      headed = headed;
+      whole = consumed_all a b w.left head (packets_octets h.packets) r h.read w.end;
+      are = h.are;
+      printed =
+          subst (λ (s : Setting). Appends x z (shown_text s h.items)) h.setting
+          (subst (λ l. Appends x z l) (sym (c.text h.written h.items fits)) (appended_more x y z h.written closed.text h.appended e));
+      is_wrong = q ∙ (c.is_wrong h.written h.items fits ∙ ap (λ (s : Setting). has_complaint s h.items) h.setting);
+    }

@@ -1,0 +1,8 @@
+-- Nothing was read yet.
+use Rattle.std.specs.Io.KnownBytes.{Consumes}
+use Rattle.std.specs.Prelude.{◌≡◌, []}
+use Rattle.show_texts.proofs.reading.read_first.Given as goal
+
+abbrev pub invariant-loop : goal.invariant-loop
+invariant-loop g l =
+    Consumes (g.I.Read.remaining l.initial.input) (g.I.Read.remaining l.input) [] × (l.octets.items ≡ l.initial.octets.items)

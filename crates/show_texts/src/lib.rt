@@ -1,0 +1,20 @@
+//! Prints what happened on the line between a driver and its modem, of a capture's frames: a line for each event in the order of time,
+//! a line for each complaint, and at the end what was counted of each connection.
+#![tactic(auto)]
+
+mod closing;
+mod complaint;
+mod event;
+mod fault;
+mod line;
+mod packets;
+mod reading;
+mod run;
+mod tally;
+mod teller;
+mod words;
+
+pub use fault::ShowFault;
+pub use run::{ShowOptions, show_run};
+pub use tally::Tally;
+pub use teller::Teller;
