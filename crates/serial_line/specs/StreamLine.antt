@@ -1,5 +1,7 @@
 -- A line over a reader and a writer.
-use Rattle.std.specs.Prelude.{◌≡◌, ℕ, List, [], Option}
+use Rattle.std.specs.Prelude.{◌≡◌, ℕ, Bool, true, false, List, [], Option}
+use Rattle.std.specs.declared.io.ErrorKind.{ErrorKind}
+use Rattle.std.specs.declared.io.ErrorKind.TheVariants.{Interrupted, WouldBlock, TimedOut}
 use Rattle.serial_line.specs.Counts.{one_more}
 use Rattle.serial_line.specs.declared.stream_line.ZeroRead.{ZeroRead}
 
@@ -34,3 +36,10 @@ new_stream left held zero = record {
 -- the reader or the writer refused this call for now
 abbrev pub IsRefused : (old new : StreamState) → Type 0
 IsRefused old new = new.refusals ≡ one_more old.refusals
+
+-- the kinds of errors by which a reader or a writer says that it refuses a call for now
+abbrev pub is_passing : ErrorKind → Bool
+is_passing Interrupted = true
+is_passing WouldBlock = true
+is_passing TimedOut = true
+is_passing _ = false

@@ -4,12 +4,13 @@
 //! nor do a reader and a writer that answer `WouldBlock` instead, such as those of `device_line`. A terminal set to `min 0 time
 //! 1` does: each read that finds nothing waits a tenth of a second, and a command was measured to take 400 ms. Use the line of
 //! `device_line` there.
-ghost use Rattle.std.specs.Prelude.{◌≡◌, ◌+◌, ◌<◌, ◌≤◌, ◌++◌, ◌⊎◌, [], take, length, IfOk, OnErr, MatchResult};
+ghost use Rattle.std.specs.Prelude.{◌≡◌, ◌+◌, ◌<◌, ◌≤◌, ◌++◌, ◌⊎◌, [], true, false, take, length, IfOk, Ok, OnErr, MatchResult};
+ghost use Rattle.std.specs.IoError.{error_kind};
 ghost use Rattle.std.specs.Io.KnownBytes.{Keeps, Consumes, Appends, IsAtEnd};
 ghost use Rattle.serial_line.specs.Counts.{one_more, counted_if_none};
 ghost use Rattle.serial_line.specs.OtherSide.{unknown_side};
-ghost use Rattle.serial_line.specs.StreamLine.{new_stream, IsRefused};
-ghost use Rattle.serial_line.specs.declared.stream_line.ZeroRead.TheVariants.{Ended};
+ghost use Rattle.serial_line.specs.StreamLine.{new_stream, is_passing, IsRefused};
+ghost use Rattle.serial_line.specs.declared.stream_line.ZeroRead.TheVariants.{Ended, Quiet};
 
 use crate::counting::count_if_none;
 use crate::history::History;
@@ -27,7 +28,8 @@ pub enum ZeroRead {
 }
 
 /// A line over a reader and a writer. Each call makes one call of the reader or of the writer. Where that answers `Interrupted`,
-/// `WouldBlock` or `TimedOut`, nothing can be moved now; any other error is a fault.
+/// `WouldBlock` or `TimedOut`, nothing can be moved now, and it isn't called again before the next call; any other error is a fault. The
+/// writer is never flushed: one that keeps octets back isn't for a line.
 ///
 /// Contracts see the octets and counts of a line; what the reader is still to give and what the writer holds, where those are
 /// known; what an empty read means; and how many calls the reader or the writer refused for now. That count stops at
@@ -93,21 +95,32 @@ impl<R: Read, W: Write> StreamLine<R, W> {
     }
 }
 
-// What becomes of a call that was refused: where it may be made again, nothing went.
+// Whether a call was refused for now alone.
+fn is_passing(error: &Error) -> bool
+    ensures { result ≡ is_passing (error_kind error.now) }
+{
+    matches!(
+        error.kind(),
+        ErrorKind::Interrupted | ErrorKind::WouldBlock | ErrorKind::TimedOut
+    )
+}
+
+// What becomes of a call that was refused: where it may be made again, nothing went; else it failed.
 fn refused(error: &Error, failures: &mut u64, refusals: &mut u64) -> Result<usize, LineFault>
     ensures nothing { IfOk result (λ n. n ≡ 0) }
     ensures sound { IfOk result (λ _. failures.new ≡ failures.old) }
+    ensures passing { IfOk result (λ _. (is_passing (error_kind error.now) ≡ true) ⊎ (failures.old ≡ u64.MAX)) }
     ensures counted { IfOk result (λ _. refusals.new ≡ one_more refusals.old) }
+    ensures lasting { OnErr result (is_passing (error_kind error.now) ≡ false) }
     ensures last { OnErr result (failures.old < u64.MAX) }
     ensures failure { OnErr result (failures.new ≡ failures.old + 1) }
     ensures not_counted { OnErr result (refusals.new ≡ refusals.old) }
 {
-    let count = match error.kind() {
-        ErrorKind::Interrupted | ErrorKind::WouldBlock | ErrorKind::TimedOut => 0,
-        _ => failed(failures)?,
-    };
+    if !is_passing(error) {
+        failed(failures)?;
+    }
     *refusals = refusals.saturating_add(1);
-    Ok(count)
+    Ok(0)
 }
 
 // A call that failed, as long as the count of failures goes on.
@@ -122,6 +135,21 @@ fn failed(failures: &mut u64) -> Result<usize, LineFault>
     }
     *failures += 1;
     Err(LineFault)
+}
+
+// A read of nothing, where there was room: it fails where it says that the line has ended.
+fn empty(zero: ZeroRead, failures: &mut u64) -> Result<usize, LineFault>
+    ensures nothing { IfOk result (λ n. n ≡ 0) }
+    ensures sound { IfOk result (λ _. failures.new ≡ failures.old) }
+    ensures quiet { IfOk result (λ _. (zero ≡ Quiet) ⊎ (failures.old ≡ u64.MAX)) }
+    ensures ended { OnErr result (zero ≡ Ended) }
+    ensures last { OnErr result (failures.old < u64.MAX) }
+    ensures failure { OnErr result (failures.new ≡ failures.old + 1) }
+{
+    match zero {
+        ZeroRead::Quiet => Ok(0),
+        ZeroRead::Ended => failed(failures),
+    }
 }
 
 // One read. A read of nothing, where there was room, fails if it says that the line has ended.
@@ -146,10 +174,7 @@ fn read_once<R: Read>(
     ensures some { IfOk result (λ n. 0 < n → refusals.new ≡ refusals.old) }
 {
     match reader.read(buffer) {
-        Ok(0) if !buffer.is_empty() => match zero {
-            ZeroRead::Quiet => Ok(0),
-            ZeroRead::Ended => failed(failures),
-        },
+        Ok(0) if !buffer.is_empty() => empty(zero, failures),
         Ok(count) => Ok(count),
         Err(error) => refused(&error, failures, refusals),
     }
