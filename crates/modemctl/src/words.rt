@@ -305,7 +305,7 @@ where
 }
 
 /// Runs the subcommand that the words name, the program's own name before them, and gives the exit
-/// status: 0 where it is done, 1 at a fault, 2 at bad words or a bad line. `lines` is the same input, for a thread of a drive's own.
+/// status: 0 where it is done, 1 at a fault, 2 at bad words or a bad line. `lines` reads the same input from the thread that `drive` starts.
 /// `terminal` says whether what `faults` writes to is a terminal: then the reason is said of what goes wrong.
 pub fn run<R, I: Read, J, W: Write, E: Write>(
     rt: &R,

@@ -143,7 +143,7 @@ impl<L: SerialLine, R: Wait + Drop> Session<L, R> {
 /// as a Stop was answered by Stopped or NoAnswer, all output is written, which is all frames sent, and no
 /// outcome waits for its caller; and with each fault of a turn. Else it yields. A poll after an end makes no
 /// turn and gives the same end, whatever happened in between; after 1 NoMemory, which is no end, a poll goes
-/// on. What waits for a place at an end by a fault is placed by turns alone, and `finish` hands it out.
+/// on. After a fault, call `turn` to place what still waits, or take it from `finish`.
 impl<L: SerialLine + Drop, R: Wait + Drop> Future for Session<L, R> {
     ghost use Rattle.modem_driver.specs.SessionStates.{line_by};
     ghost use Rattle.modem_driver.specs.Polls.{Gives};
