@@ -4,3 +4,4 @@ pub mod EndingRowFacts
 pub mod PollRowFacts
 pub mod LivePollRowFacts
 pub mod GrownRowFacts
+pub mod EntryTryRowFacts

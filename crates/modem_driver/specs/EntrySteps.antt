@@ -55,12 +55,28 @@ StepsTo first now entry (Answered code) = IsAnswered first now entry.text code
 unfoldable pub EntryStepsOn : (old new : LineView) → (was now : EntryView) → EntryStep → Type 0
 EntryStepsOn old new was now said = (first : LineView) → IsAsked first old was → StepsTo first new now said
 
+-- one read gave nothing, or one write took nothing, and is counted so
+abbrev pub CountsIdle : (old new : LineView) → Type 0
+CountsIdle old new =
+    ((new.stalled_writes ≡ one_more old.stalled_writes) × (new.empty_reads ≡ old.empty_reads))
+    ⊎ ((new.empty_reads ≡ one_more old.empty_reads) × (new.stalled_writes ≡ old.stalled_writes))
+
+-- octets moved, and no read or write is counted as idle
+pub record MovesSome (old new : LineView) : Type 0 where
+  pub some : length old.sent + length old.received < length new.sent + length new.received
+  pub reads : new.empty_reads ≡ old.empty_reads
+  pub writes : new.stalled_writes ≡ old.stalled_writes
+
 -- a step that is idle moved no octet though it could, and is counted so; any other moved an octet at least
 abbrev pub MovesBy : EntryStep → (old new : LineView) → Type 0
-MovesBy Idle old new = (new.sent ≡ old.sent) × (new.received ≡ old.received)
-    × ((new.stalled_writes ≡ one_more old.stalled_writes) ⊎ (new.empty_reads ≡ one_more old.empty_reads))
-MovesBy Moved old new = length old.sent + length old.received < length new.sent + length new.received
-MovesBy (Answered code) old new = length old.sent + length old.received < length new.sent + length new.received
+MovesBy Idle old new = (new.sent ≡ old.sent) × (new.received ≡ old.received) × CountsIdle old new
+MovesBy Moved old new = MovesSome old new
+MovesBy (Answered code) old new = MovesSome old new
+
+-- no final code came
+abbrev pub IsUnanswering : EntryStep → Type 0
+IsUnanswering (Answered code) = ⊥
+IsUnanswering _ = Unit {0}
 
 -- the command that closes a multiplexer down, of whoever opened it, with a value of no octets (27.010, 5.4.6.3.3)
 abbrev pub close_down_frame : Frame

@@ -25,6 +25,7 @@ pub mod DeskHeadline
 pub mod Entries
 pub mod EntrySteps
 pub mod EntryTries
+pub mod EntryTryRows
 pub mod WaitingLists
 pub mod LineQueues
 pub mod WaitingTicks

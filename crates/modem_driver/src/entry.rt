@@ -2,7 +2,7 @@
 ghost use Rattle.std.specs.Prelude.{◌≡◌, ◌+◌, ◌<◌, ◌≤◌, ◌==◌, ◌++◌, [], length, IfOk, OnOk, OnErr};
 ghost use Rattle.serial_line.specs.Counts.{one_more};
 ghost use Rattle.modem_driver.specs.SessionStates.{line_by};
-ghost use Rattle.modem_driver.specs.EntrySteps.{EntryStepsOn, IsAsked, MovesBy, step_by, close_down_frame};
+ghost use Rattle.modem_driver.specs.EntrySteps.{EntryStepsOn, IsAsked, IsUnanswering, MovesBy, step_by, close_down_frame};
 ghost use Rattle.modem_history.specs.Sessions.{LineView};
 ghost use Rattle.mux_frame.specs.Spelling.{spelled};
 
@@ -72,8 +72,8 @@ impl<'a> Entry<'a> {
         self.written == self.text.len()
     }
 
-    /// Makes one call on the line: offers the rest of the text, or reads one octet once all is sent. Fails where the
-    /// line fails, and may then be called again.
+    /// Makes one call on the line: offers the rest of the text, or reads one octet once all is sent, and only then answers. Fails where
+    /// the line fails, and may then be called again.
     pub fn step<L: SerialLine>(&mut self, line: &mut L) -> Result<EntryStep, LineFault>
         ensures text { self.new.text ≡ self.old.text }
         ensures goes { IfOk result (λ said.
@@ -87,6 +87,7 @@ impl<'a> Entry<'a> {
         ensures failure { OnErr result (L.failures line.new ≡ L.failures line.old + 1) }
         ensures stays { OnErr result ((self.new ≡ self.old) × (L.sent line.new ≡ L.sent line.old)
             × (L.received line.new ≡ L.received line.old)) }
+        ensures unsent { IfOk result (λ said. self.old.written < length self.old.text → IsUnanswering said) }
     {
         if self.written < self.text.len() {
             return self.write(line);
@@ -109,6 +110,7 @@ impl<'a> Entry<'a> {
         ensures failure { OnErr result (L.failures line.new ≡ L.failures line.old + 1) }
         ensures stays { OnErr result ((self.new ≡ self.old) × (L.sent line.new ≡ L.sent line.old)
             × (L.received line.new ≡ L.received line.old)) }
+        ensures unsent { IfOk result IsUnanswering }
     {
         let count = line.try_write(&self.text[self.written..])?;
         self.written += count;

@@ -21,6 +21,7 @@ mod driver;
 mod endpoint;
 mod entering;
 mod entry;
+pub mod entry_laws;
 mod entry_tries;
 mod error;
 mod event;
