@@ -1,1 +1,4 @@
+pub mod FirstFrames
+pub mod FirstLaws
 pub mod Passing
+pub mod Showing

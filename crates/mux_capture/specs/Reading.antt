@@ -1,6 +1,7 @@
 -- Captures are read: the inverse of writing them.
 use Rattle.std.specs.Prelude.{◌≡◌, ℕ, ◌<◌, ◌^◌, List, ◌++◌, take, drop}
 use Rattle.mux_capture.specs.declared.packet.Direction.{Direction}
+use Rattle.mux_capture.specs.declared.packet.Kind.{Kind}
 use Rattle.mux_capture.specs.declared.packet.Stamp.{Stamp}
 use Rattle.mux_capture.specs.Pcap.{little_endian, packet}
 
@@ -15,9 +16,9 @@ headed stamp kept more =
     little_endian 4 stamp.seconds
     ++ (little_endian 4 stamp.micros ++ (little_endian 4 kept ++ (little_endian 4 kept ++ more)))
 
--- the octets begin with this packet of a frame, and go on so
-abbrev pub StartsWith : List ℕ → Stamp → Direction → List ℕ → List ℕ → Type 0
-StartsWith octets stamp direction frame more = octets ≡ packet stamp direction frame ++ more
+-- the octets begin with this packet, and go on so
+abbrev pub StartsWith : List ℕ → Kind → Stamp → Direction → (held more : List ℕ) → Type 0
+StartsWith octets kind stamp direction held more = octets ≡ packet kind stamp direction held ++ more
 
 -- the octets are a header of 24, whose first four say the order of octets and that times have microseconds, and whose last four are the
 -- link type of 27.010; and then these

@@ -1,17 +1,19 @@
-//! A file of packets, a packet for each frame of what passes on a line.
-ghost use Rattle.std.specs.Prelude.{◌≡◌, [], ℕ, List, Option, true, false, IfOk, OnOk};
+//! A file of packets, a packet for each frame of what passes on a line, and for octets that are none.
+ghost use Rattle.std.specs.Prelude.{◌≡◌, [], false, true, IfOk, OnOk};
 ghost use Rattle.std.specs.Io.KnownBytes.{Appends};
-ghost use Rattle.mux_frame.specs.Deframing.{Deframes};
 ghost use Rattle.mux_capture.specs.Passing.{Captures, HasCaptured};
+ghost use Rattle.mux_capture.specs.Pushing.{Passes};
 
-use crate::frames::{MOST_INFO, push_frames};
 use crate::packet::{Direction, Stamp, push_header};
-use mux_frame::Deframer;
+use crate::pieces::push_pieces;
 use std::alloc::{AllocError, Global};
 use std::io::Write;
 use std::marker::Model;
 use std::rt::Clock;
 use thiserror::Error;
+
+/// The most octets of information that a frame can have (27.010, 5.2.1.5).
+const MOST_INFO: u16 = 32767;
 
 /// A capture can't be written, or memory for it was refused.
 #[derive(Clone, Copy, PartialEq, Eq, Debug, Error)]
@@ -24,17 +26,19 @@ impl From<AllocError> for CaptureFault {
     }
 }
 
-/// Writes the frames that pass on a line to a file, each as a packet, as soon as its closing flag has passed. It passes over what
-/// lies outside frames. A frame's length is written in its shortest form.
+/// Writes what passes on a line to a file: a packet for each frame, as soon as its closing flag has passed, and a packet, marked, for
+/// octets that read as no frame, once they are known to. Only flags outside packets are left out.
 ///
 /// After a write that failed it writes nothing more.
 #[derive(Drop)]
 pub struct Capture<C: Write> {
     alloc: Global,
     output: C,
-    to_modem: Deframer,
-    from_modem: Deframer,
-    packets: Vec<u8>,
+    n1: u16,
+    /// The octets to the modem that can become a frame.
+    to_modem: Vec<u8>,
+    /// Those from the modem.
+    from_modem: Vec<u8>,
     failed: bool,
 }
 
@@ -45,8 +49,9 @@ impl<C: Write> Model for Capture<C> {
 
     ghost view = { λ c. record {
       written = C.contents c.output;
-      to_modem = c.to_modem;
-      from_modem = c.from_modem;
+      n1 = c.n1;
+      to_modem = c.to_modem.items;
+      from_modem = c.from_modem.items;
       failed = c.failed;
     } };
 }
@@ -62,88 +67,101 @@ fn put<C: Write>(output: &mut C, octets: &[u8]) -> Result<(), CaptureFault>
     }
 }
 
-/// What finds frames, one for each way.
-fn deframers(alloc: Global) -> Result<(Deframer, Deframer), CaptureFault>
-    ensures past { IfOk result (λ r. Deframes [] [] r.0 × Deframes [] [] r.1) }
-    ensures n1 { IfOk result (λ r. (r.0.n1 ≡ 32767) × (r.1.n1 ≡ 32767)) }
+/// Writes the packets of what octets come to behind those that can become a frame, `kept`, and keeps what can become one then.
+fn pass<C: Write>(
+    alloc: Global,
+    n1: u16,
+    stamp: Stamp,
+    direction: Direction,
+    kept: &mut Vec<u8>,
+    octets: &[u8],
+    output: &mut C,
+) -> Result<(), CaptureFault>
+    ensures { OnOk result (Passes n1 stamp direction kept.old.items octets.now kept.new.items (C.contents output.old)
+        (C.contents output.new)) }
 {
-    match (
-        Deframer::new(alloc, MOST_INFO),
-        Deframer::new(alloc, MOST_INFO),
-    ) {
-        (Ok(to_modem), Ok(from_modem)) => Ok((to_modem, from_modem)),
-        _ => Err(CaptureFault),
-    }
+    let mut packets = Vec::new(alloc);
+    let mut text = Vec::from_slice(alloc, kept.as_slice())?;
+    text.extend_from_slice(octets)?;
+    let rest = push_pieces(alloc, n1, stamp, direction, text.as_slice(), &mut packets)?;
+    kept.clear();
+    kept.extend_from_slice(rest)?;
+    put(output, packets.as_slice())
 }
 
 impl<C: Write> Capture<C> {
-    /// Begins a capture: writes the header of a file.
+    /// Begins a capture of a line on which a frame may have this much information: writes the header of a file.
+    pub fn with_n1(alloc: Global, output: C, n1: u16) -> Result<Capture<C>, CaptureFault>
+    where
+        C: Drop,
+        ensures captured { IfOk result (HasCaptured (C.contents output) []) }
+        ensures n1 { IfOk result (λ c. c.n1 ≡ n1) }
+    {
+        let mut output = output;
+        let mut header = Vec::new(alloc);
+        push_header(&mut header)?;
+        put(&mut output, header.as_slice())?;
+        Ok(Capture {
+            alloc,
+            output,
+            n1,
+            to_modem: Vec::new(alloc),
+            from_modem: Vec::new(alloc),
+            failed: false,
+        })
+    }
+
+    /// Begins a capture of a line on which a frame may have as much information as its length can tell.
     pub fn begin(alloc: Global, output: C) -> Result<Capture<C>, CaptureFault>
     where
         C: Drop,
         ensures { IfOk result (HasCaptured (C.contents output) []) }
     {
-        let mut output = output;
-        let mut packets = Vec::new(alloc);
-        push_header(&mut packets)?;
-        put(&mut output, packets.as_slice())?;
-        let (to_modem, from_modem) = deframers(alloc)?;
-        Ok(Capture {
-            alloc,
-            output,
-            to_modem,
-            from_modem,
-            packets,
-            failed: false,
-        })
+        Capture::with_n1(alloc, output, MOST_INFO)
     }
 }
 
 impl<C: Write> Capture<C> {
-    /// Takes octets that passed at this time, and writes a packet for each frame that ends in them.
+    /// Takes octets that passed at this time, and writes the packets of what they come to.
     fn write(
         &mut self,
         stamp: Stamp,
         direction: Direction,
         octets: &[u8],
     ) -> Result<(), CaptureFault>
-        ensures same { self.new.failed ≡ self.old.failed }
+        ensures same { (self.new.failed ≡ self.old.failed) × (self.new.n1 ≡ self.old.n1) }
         ensures wrote { OnOk result
             (Captures self.old self.new (record { stamp = stamp; direction = direction; octets = octets.now })) }
     {
-        self.packets.clear();
         match direction {
-            Direction::ToModem => {
-                push_frames(
-                    self.alloc,
-                    stamp,
-                    direction,
-                    &mut self.to_modem,
-                    octets,
-                    &mut self.packets,
-                )?;
-                put(&mut self.output, &self.packets)
-            }
-            Direction::FromModem => {
-                push_frames(
-                    self.alloc,
-                    stamp,
-                    direction,
-                    &mut self.from_modem,
-                    octets,
-                    &mut self.packets,
-                )?;
-                put(&mut self.output, &self.packets)
-            }
+            Direction::ToModem => pass(
+                self.alloc,
+                self.n1,
+                stamp,
+                direction,
+                &mut self.to_modem,
+                octets,
+                &mut self.output,
+            ),
+            Direction::FromModem => pass(
+                self.alloc,
+                self.n1,
+                stamp,
+                direction,
+                &mut self.from_modem,
+                octets,
+                &mut self.output,
+            ),
         }
     }
 
-    /// Takes octets that passed at this time, and writes a packet for each frame that ends in them. Once a packet can't be written,
-    /// the capture has failed, and nothing more is written.
+    /// Takes octets that passed at this time, and writes a packet for each frame that ends in them, and for octets that are known by
+    /// them to be none. Once a packet can't be written, the capture has failed, and nothing more is written.
     pub fn take(&mut self, stamp: Stamp, direction: Direction, octets: &[u8])
         ensures captures { self.new.failed ≡ false
             → Captures self.old self.new (record { stamp = stamp; direction = direction; octets = octets.now }) }
         ensures over { self.old.failed ≡ true → self.new ≡ self.old }
+        ensures n1 { self.new.n1 ≡ self.old.n1 }
     {
         if !self.failed {
             self.failed = self.write(stamp, direction, octets).is_err();

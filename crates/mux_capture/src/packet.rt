@@ -1,13 +1,14 @@
 //! The octets of a capture.
 ghost use Rattle.std.specs.Prelude.{◌≡◌, ◌+◌, ◌<◌, ◌≤◌, ◌++◌, length, vec_len, vec_capacity, OnOk, OnErr};
 ghost use Rattle.std.specs.Duration.{as_nanos};
-ghost use Rattle.mux_capture.specs.Pcap.{captured, direction_octet, file_header, little_endian, packet, packet_of, stamp_of};
+ghost use Rattle.mux_capture.specs.Pcap.{direction_octet, file_header, head_of, little_endian, packet, packet_of, stamp_of};
+ghost use Rattle.mux_capture.specs.declared.packet.Kind.TheVariants.{Damage, Frame};
 
 use std::alloc::AllocError;
 use std::rt::Clock;
 use std::time::Duration;
 
-/// Which end sent a frame.
+/// Which end sent octets.
 #[derive(Clone, Copy)]
 pub enum Direction {
     /// The driver, to the modem.
@@ -16,7 +17,16 @@ pub enum Direction {
     FromModem,
 }
 
-/// When a frame passed.
+/// What a packet has.
+#[derive(Clone, Copy)]
+pub enum Kind {
+    /// A frame, from flag to flag.
+    Frame,
+    /// Octets that are no frame.
+    Damage,
+}
+
+/// When octets passed.
 #[derive(Clone, Copy)]
 pub struct Stamp {
     /// Seconds since 1970 began, or since the capture did.
@@ -81,6 +91,28 @@ fn octet_of(direction: Direction) -> u8
     }
 }
 
+/// Writes a packet of a head and of octets behind others.
+fn push_behind(
+    stamp: Stamp,
+    head: &[u8],
+    octets: &[u8],
+    out: &mut Vec<u8>,
+) -> Result<(), AllocError>
+    requires { length head.now + length octets.now ≤ 65535 }
+    ensures ok { OnOk result (out.new.items ≡ out.old.items ++ packet_of stamp (head.now ++ octets.now)) }
+    ensures err { OnErr result (out.new.items ≡ out.old.items) }
+{
+    let kept = (head.len() + octets.len()) as u32;
+    out.reserve(head.len() + octets.len() + 16)?;
+    put(&stamp.seconds.to_le_bytes(), out);
+    put(&stamp.micros.to_le_bytes(), out);
+    put(&kept.to_le_bytes(), out);
+    put(&kept.to_le_bytes(), out);
+    put(head, out);
+    put(octets, out);
+    Ok(())
+}
+
 /// Writes the packet of a frame behind other octets: the frame's octets from flag to flag, at most 65533 (a frame of 27.010 has at
 /// most 32774). Want of memory leaves the octets before as they were.
 pub fn push_packet(
@@ -90,16 +122,22 @@ pub fn push_packet(
     out: &mut Vec<u8>,
 ) -> Result<(), AllocError>
     requires { length frame.now ≤ 65533 }
-    ensures ok { OnOk result (out.new.items ≡ out.old.items ++ packet stamp direction frame.now) }
+    ensures ok { OnOk result (out.new.items ≡ out.old.items ++ packet Frame stamp direction frame.now) }
     ensures err { OnErr result (out.new.items ≡ out.old.items) }
 {
-    let kept = (frame.len() + 2) as u32;
-    out.reserve(frame.len() + 18)?;
-    put(&stamp.seconds.to_le_bytes(), out);
-    put(&stamp.micros.to_le_bytes(), out);
-    put(&kept.to_le_bytes(), out);
-    put(&kept.to_le_bytes(), out);
-    put(&[0, octet_of(direction)], out);
-    put(frame, out);
-    Ok(())
+    push_behind(stamp, &[0, octet_of(direction)], frame, out)
+}
+
+/// The same of octets that are no frame, at most 65532.
+pub fn push_damage(
+    stamp: Stamp,
+    direction: Direction,
+    octets: &[u8],
+    out: &mut Vec<u8>,
+) -> Result<(), AllocError>
+    requires { length octets.now ≤ 65532 }
+    ensures ok { OnOk result (out.new.items ≡ out.old.items ++ packet Damage stamp direction octets.now) }
+    ensures err { OnErr result (out.new.items ≡ out.old.items) }
+{
+    push_behind(stamp, &[1, 1, octet_of(direction)], octets, out)
 }

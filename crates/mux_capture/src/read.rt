@@ -3,20 +3,23 @@ ghost use Rattle.std.specs.Prelude.{◌≡◌, ℕ, ◌+◌, ◌<◌, ◌^◌, �
 ghost use Rattle.std.specs.Option.{IsSomeAnd};
 ghost use Rattle.mux_capture.specs.declared.packet.Direction.{Direction};
 ghost use Rattle.mux_capture.specs.declared.packet.Stamp.{Stamp};
-ghost use Rattle.mux_capture.specs.Pcap.{direction_octet, file_header, little_endian};
+ghost use Rattle.mux_capture.specs.declared.packet.Kind.{Kind};
+ghost use Rattle.mux_capture.specs.Pcap.{direction_octet, file_header, head_of, little_endian};
 ghost use Rattle.mux_capture.specs.Reading.{IsHeaded, IsStamp, StartsWith, headed};
 
-use crate::packet::{Direction, Stamp};
+use crate::packet::{Direction, Kind, Stamp};
 
 /// A packet, and what follows it.
 #[derive(Clone, Copy)]
 pub struct Packet<'a> {
-    /// When the frame passed.
+    /// Whether it has a frame.
+    pub kind: Kind,
+    /// When the octets passed.
     pub stamp: Stamp,
-    /// Which end sent it.
+    /// Which end sent them.
     pub direction: Direction,
-    /// The frame, from flag to flag.
-    pub frame: &'a [u8],
+    /// The octets; those of a frame from flag to flag.
+    pub octets: &'a [u8],
     /// The octets behind the packet.
     pub rest: &'a [u8],
 }
@@ -62,26 +65,38 @@ fn direction_of(octet: u8) -> Option<Direction>
     }
 }
 
-/// Reads the packet at the front of octets: one whose octets are all kept, with no further head. `None` where there is none.
+/// What stands in front of the octets of a packet: whether it has a frame, which end sent it, how long that is, and what follows.
+fn mark(octets: &[u8]) -> Option<(Kind, Direction, usize, &[u8])>
+    ensures some { IfSome result (λ r. (octets.now ≡ head_of r.0 r.1 ++ r.3.now) × (r.2 ≡ length (head_of r.0 r.1))) }
+    ensures all { (kind : Kind) (d : Direction) (more : List ℕ) → octets.now ≡ head_of kind d ++ more
+        → IsSomeAnd result (λ r. (r.0 ≡ kind) × ((r.1 ≡ d) × (r.3.now ≡ more))) }
+{
+    match octets {
+        [0, way, rest @ ..] => Some((Kind::Frame, direction_of(*way)?, 2, rest)),
+        [1, 1, way, rest @ ..] => Some((Kind::Damage, direction_of(*way)?, 3, rest)),
+        _ => None,
+    }
+}
+
+/// Reads the packet at the front of octets: one whose octets are all kept, with the head of a frame or of octets that are none.
+/// `None` where there is none.
 pub fn read_packet(octets: &[u8]) -> Option<Packet<'_>>
-    ensures some { IfSome result (λ p. StartsWith octets.now p.stamp p.direction p.frame.now p.rest.now) }
-    ensures all { (stamp : Stamp) (direction : Direction) (frame more : List ℕ) → IsStamp stamp → length frame + 2 < 2 ^ 32
-        → StartsWith octets.now stamp direction frame more → IsSome result }
+    ensures some { IfSome result (λ p. StartsWith octets.now p.kind p.stamp p.direction p.octets.now p.rest.now) }
+    ensures all { (kind : Kind) (stamp : Stamp) (direction : Direction) (held more : List ℕ) → IsStamp stamp
+        → length held + 3 < 2 ^ 32 → StartsWith octets.now kind stamp direction held more → IsSome result }
 {
     let (stamp, kept, left) = head(octets)?;
-    let [0, way, left @ ..] = left else {
-        return None;
-    };
-    let direction = direction_of(*way)?;
+    let (kind, direction, before, left) = mark(left)?;
     let size = usize::try_from(kept).ok()?;
-    if size < 2 || left.len() < size - 2 {
+    if size < before || left.len() < size - before {
         return None;
     }
-    let (frame, rest) = left.split_at(size - 2);
+    let (octets, rest) = left.split_at(size - before);
     Some(Packet {
+        kind,
         stamp,
         direction,
-        frame,
+        octets,
         rest,
     })
 }
