@@ -41,7 +41,7 @@ fn take_octets(teller: &mut Teller, octets: &[u8]) -> Result<(), ShowFault>
     if !packet.rest.is_empty() {
         return Err(ShowFault::BadPacket);
     }
-    teller.take_packet(packet.stamp, packet.direction, packet.frame)?;
+    teller.take_packet(packet.kind, packet.stamp, packet.direction, packet.octets)?;
     Ok(())
 }
 
