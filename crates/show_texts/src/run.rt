@@ -94,7 +94,10 @@ fn show_by<I: Read, W: Write>(
 {
     let mut head = Vec::new(alloc);
     read_head(input, &mut head)?;
-    show_packets(alloc, teller, input, output)?;
+    if let Err(fault) = show_packets(alloc, teller, input, output) {
+        let _ = teller.write(output);
+        return Err(fault);
+    }
     teller.close()?;
     teller.write(output)
 }
