@@ -70,6 +70,13 @@ pub record AreTold : Type 0 where
       which_unprompted
       (told_of_1 (asks at ∷ out Disc 1 [] ∷ back Ua 1 [] ∷ out Sabm 1 [] ∷ back Ua 1 [] ∷ says ok ∷ []))
       ≡ false ∷ true ∷ []
+  -- one that crosses the DISC of its connection, or the CLD, answers its command; once that is answered it doesn't
+  pub crosses_close :
+      which_unprompted (told_of_1 (asks at ∷ out Disc 1 [] ∷ says ok ∷ [])) ≡ false ∷ false ∷ []
+  pub crosses_down :
+      which_unprompted (told_of_1 (asks at ∷ out Uih 0 (0xc3 ∷ 1 ∷ []) ∷ says ok ∷ [])) ≡ false ∷ false ∷ []
+  pub behind_close :
+      which_unprompted (told_of_1 (asks at ∷ out Disc 1 [] ∷ back Ua 1 [] ∷ says ok ∷ [])) ≡ false ∷ true ∷ []
   -- data has no lines, and another text of the driver is no command
   pub as_data : told_from (record { number = 1; in_range = lit< tt } ∷ []) [] (opened_1 ++ (asks at ∷ says ok ∷ [])) ≡ []
   pub other_text : told_of_1 (asks (codes "hello") ∷ []) ≡ Text (codes "hello") ∷ []

@@ -4,9 +4,9 @@ use Rattle.std.specs.List.{list_any}
 use Rattle.mux_frame.specs.Frames.{Frame}
 use Rattle.mux_frame.specs.declared.dlci.Dlci.{Dlci}
 use Rattle.mux_capture.specs.Passing.{Caught}
-use Rattle.mux_station.specs.Messages.{cld, brings_command}
-use Rattle.mux_station.specs.Opening.{is_mode_frame_on}
-use Rattle.mux_station.specs.Written.{is_data_frame}
+use Rattle.mux_station.specs.Messages.{cld, brings_response}
+use Rattle.mux_station.specs.Written.{is_data_frame, is_on}
+use Rattle.mux_frame.specs.declared.frame.Kind.TheVariants.{Sabm, Ua, Dm}
 use Rattle.at_text.specs.Rules.{Rules, dialect_of}
 use Rattle.mux_capture.specs.declared.packet.Direction.{Direction}
 use Rattle.mux_capture.specs.declared.packet.Direction.TheVariants.{ToModem, FromModem}
@@ -86,12 +86,16 @@ heard_each dialect d t (octet ∷ octets) = heard_each dialect d (heard dialect 
 abbrev pub silence : Talk
 silence = record { driver = []; modem = []; window = None }
 
--- a connection begins or ends with this frame, by itself or with 0
+-- d begins with this frame, or has ended: what comes before a DISC is answered still belongs to it
+abbrev pub is_turn_on : ℕ → Frame → Bool
+is_turn_on d f = is_on Sabm d f || (is_on Ua d f || is_on Dm d f)
+
+-- all connections do so with 0; a CLD ends them once it is answered
 abbrev pub closes_all : Frame → Bool
-closes_all f = is_mode_frame_on 0 f || brings_command cld f
+closes_all f = is_turn_on 0 f || brings_response cld f
 
 abbrev pub starts_afresh : ℕ → Frame → Bool
-starts_afresh d f = closes_all f || is_mode_frame_on d f
+starts_afresh d f = closes_all f || is_turn_on d f
 
 -- the frame has text: it is on a connection, and not on one that is named as one of data
 abbrev pub has_text : List Dlci → Frame → Bool

@@ -1,7 +1,7 @@
 //! Control messages of frames (27.010, 5.4.6).
 ghost use Rattle.std.specs.Prelude.{◌≡◌, ℕ, ◌==◌, ◌&&◌, ◌≤◌, Some, option_map};
 ghost use Rattle.mux_frame.specs.Frames.{frame_of};
-ghost use Rattle.mux_station.specs.Messages.{Message as Told, message_in, message_of, is_command, msc_dlci, msc_stops, is_good_msc, if_good, brings_command};
+ghost use Rattle.mux_station.specs.Messages.{Message as Told, message_in, message_of, is_command, msc_dlci, msc_stops, is_good_msc, if_good, brings_command, brings_response};
 ghost use Rattle.mux_station.specs.Stopping.{flow_says, msc_says};
 ghost use Rattle.mux_station.specs.Written.{is_data_frame, is_kind, is_on};
 ghost use Rattle.mux_station.specs.Opening.{is_mode_frame_on};
@@ -126,6 +126,16 @@ pub(crate) fn closes_down(frame: FrameView<'_>) -> bool
 {
     match message_in(frame) {
         Some(message) => message.octet == CLD,
+        None => false,
+    }
+}
+
+/// Whether a frame brings the response to a close down command.
+pub(crate) fn answers_close_down(frame: FrameView<'_>) -> bool
+    ensures { result ≡ brings_response 0xc3 (frame_of frame.entry) }
+{
+    match message_in(frame) {
+        Some(message) => u16::from(message.octet) + 2 == u16::from(CLD),
         None => false,
     }
 }

@@ -5,14 +5,14 @@ ghost use Rattle.mux_frame.specs.Frames.{frame_of};
 ghost use Rattle.mux_capture.specs.Passing.{Caught};
 ghost use Rattle.at_text.specs.Rules.{dialect_of};
 ghost use Rattle.modem_show.specs.Ways.{caught};
-ghost use Rattle.modem_show.specs.Talking.{TalksAfter, TalksFit, closes_all, has_text, silence, talk_at, talk_of, told_at, told_in};
+ghost use Rattle.modem_show.specs.Talking.{TalksAfter, TalksFit, closes_all, has_text, is_turn_on, silence, talk_at, talk_of, told_at, told_in};
 
-use crate::message::{closes_down, is_data_frame, is_mode_frame_on};
+use crate::message::{answers_close_down, is_data_frame, is_on};
 use crate::talk::Talk;
 use crate::told::Told;
 use at_text::Dialect;
 use mux_capture::{Direction, Stamp};
-use mux_frame::{Dlci, FrameView};
+use mux_frame::{Dlci, FrameView, Kind};
 use std::alloc::{AllocError, Global};
 use std::marker::Model;
 
@@ -56,11 +56,18 @@ fn reset_each(talks: &mut Vec<Talk>)
     }
 }
 
-/// Whether all connections begin or end with this frame.
+/// Whether a connection begins with this frame, or has ended: what comes before a DISC is answered still belongs to it.
+fn is_turn_on(dlci: u8, frame: FrameView<'_>) -> bool
+    ensures { result ≡ is_turn_on dlci (frame_of frame.entry) }
+{
+    is_on(Kind::Sabm, dlci, frame) || is_on(Kind::Ua, dlci, frame) || is_on(Kind::Dm, dlci, frame)
+}
+
+/// Whether all connections begin with this frame, or have ended.
 fn closes_all(frame: FrameView<'_>) -> bool
     ensures { result ≡ closes_all (frame_of frame.entry) }
 {
-    is_mode_frame_on(0, frame) || closes_down(frame)
+    is_turn_on(0, frame) || answers_close_down(frame)
 }
 
 /// Whether a connection is one of these.
@@ -111,7 +118,7 @@ impl Talks {
         if closes_all(frame) {
             reset_each(&mut self.talks);
             Ok(())
-        } else if is_mode_frame_on(frame.dlci.number(), frame) {
+        } else if is_turn_on(frame.dlci.number(), frame) {
             self.talks[talk].reset();
             Ok(())
         } else if has_text(&self.data_channels, frame) {

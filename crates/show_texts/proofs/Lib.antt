@@ -1,3 +1,4 @@
 mod FramesTold
 mod LineEnds
+mod RowFacts
 mod Shown

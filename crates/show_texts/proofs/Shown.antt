@@ -5,8 +5,11 @@ use Rattle.std.specs.Io.KnownBytes.{Appends, Consumes, IsAtEnd, Keeps}
 use Rattle.mux_frame.specs.Frames.{Frame, kept_frame}
 use Rattle.mux_frame.specs.declared.frame.FrameBuf.{FrameBuf}
 use Rattle.mux_frame.specs.Reading.{Reads}
-use Rattle.mux_capture.specs.Passing.{Passed, caught_with}
+use Rattle.mux_capture.specs.Passing.{Passed}
 use Rattle.mux_capture.specs.Pcap.{packet}
+use Rattle.mux_capture.specs.declared.packet.Kind.{Kind}
+use Rattle.mux_capture.specs.declared.packet.Kind.TheVariants as kind
+use Rattle.modem_show.specs.Ways.{caught}
 use Rattle.mux_capture.specs.Reading.{IsHeaded}
 use Rattle.show_texts.specs.Captures.{IsShown, IsToldWhole, ReadsMore, ShowsOctets, TellsFrames, TellsOctets, TellsPacket, ToldSoFar, Writes, more, none, packets_octets, with_frames, with_packet}
 use Rattle.show_texts.specs.Telling.{Closes, Damage, Framed, Item, Setting, Teller, TellerFits, Tells, has_complaint, setting_of, shown_text}
@@ -76,15 +79,15 @@ read_whole a b x y p e = subst (λ l. Consumes a b l) (sym (p.kept ∙ ap (λ l.
 -- ## Frames of a packet
 
 with_one_more : (p : Passed) (f : Frame) (frames : List Frame) (items : List Item)
-    → with_frames p (frames ++ f ∷ []) items ≡ Framed (caught_with p f) ∷ with_frames p frames items
+    → with_frames p (frames ++ f ∷ []) items ≡ Framed (caught p.stamp p.direction f) ∷ with_frames p frames items
 with_one_more p f [] items = refl
-with_one_more p f (g ∷ frames) items = with_one_more p f frames (Framed (caught_with p g) ∷ items)
+with_one_more p f (g ∷ frames) items = with_one_more p f frames (Framed (caught p.stamp p.direction g) ∷ items)
 
 pub no_frame_told : (t : Teller) (p : Passed) (frames : List Frame) → frames ≡ [] → TellsFrames t t p frames
 no_frame_told t p frames e = rw e (record { setting = refl; fits = λ written items h. h })
 
 pub frame_more_told : (old mid new : Teller) (p : Passed) (f : Frame) (frames all : List Frame) → TellsFrames old mid p frames
-    → Tells mid new (Framed (caught_with p f)) → all ≡ frames ++ f ∷ [] → TellsFrames old new p all
+    → Tells mid new (Framed (caught p.stamp p.direction f)) → all ≡ frames ++ f ∷ [] → TellsFrames old new p all
 frame_more_told old mid new p f frames all h t e = rw e (record {
   setting = t.setting ∙ h.setting;
   fits = λ written items k.
@@ -101,23 +104,28 @@ not_none [] n b e f g h = zero_is b (f ∙ ap (λ (k : ℕ). k == 0) (sym e)) g
 not_none (x ∷ frames) n b e f g h = cc
 
 pub packet_damage : (old new : Teller) (p : Passed) (frames : List Frame) (rest : List ℕ) → Reads 32767 p.octets frames rest → frames ≡ []
-    → Tells old new (Damage p) → TellsPacket old new p
-packet_damage old new p [] rest r e t = record { setting = t.setting; frames = []; rest = rest; reads = r; fits = t.fits }
+    → Tells old new (Damage p) → TellsPacket old new kind.Frame p
+packet_damage old new p [] rest r e t =
+    record { setting = t.setting; frames = []; reads = record { rest = rest; reads = r }; fits = t.fits }
 packet_damage old new p (f ∷ frames) rest r e t = cc
 
+pub damage_packet : (old new : Teller) (p : Passed) → Tells old new (Damage p) → TellsPacket old new kind.Damage p
+damage_packet old new p t = record { setting = t.setting; frames = []; reads = refl; fits = t.fits }
+
 pub packet_frames : (old new : Teller) (p : Passed) (frames : List Frame) (rest : List ℕ) → Reads 32767 p.octets frames rest → ¬ (frames ≡ [])
-    → TellsFrames old new p frames → TellsPacket old new p
+    → TellsFrames old new p frames → TellsPacket old new kind.Frame p
 packet_frames old new p [] rest r e t = absurd (e refl)
 packet_frames old new p (f ∷ frames) rest r e t =
-    record { setting = t.setting; frames = f ∷ frames; rest = rest; reads = r; fits = t.fits }
+    record { setting = t.setting; frames = f ∷ frames; reads = record { rest = rest; reads = r }; fits = t.fits }
 
 -- ## Packets
 
-pub octets_told : (old new : Teller) (p : Passed) (octets rest : List ℕ) → octets ≡ packet p.stamp p.direction p.octets ++ rest → rest ≡ []
-    → TellsPacket old new p → TellsOctets old new octets
-octets_told old new p octets rest e n t = record {
+pub octets_told : (old new : Teller) (k : Kind) (p : Passed) (octets rest : List ℕ) → octets ≡ packet k p.stamp p.direction p.octets ++ rest → rest ≡ []
+    → TellsPacket old new k p → TellsOctets old new octets
+octets_told old new k p octets rest e n t = record {
+  k = k;
   p = p;
-  is = e ∙ (ap (λ l. packet p.stamp p.direction p.octets ++ l) n ∙ append-nil (packet p.stamp p.direction p.octets));
+  is = e ∙ (ap (λ l. packet k p.stamp p.direction p.octets ++ l) n ∙ append-nil (packet k p.stamp p.direction p.octets));
   tells = t;
 }
 
@@ -138,14 +146,14 @@ pub more_so_far : (old now new : Teller) (a b c x y z : Option (List ℕ)) (octe
 more_so_far old now new a b c x y z octets h r s =
     let t = s.tells.tells in
     record {
-      packets = s.tells.p ∷ h.packets;
+      packets = record { kind = s.tells.k; passed = s.tells.p } ∷ h.packets;
       items = with_packet s.tells.p t.frames h.items;
       written = h.written ++ s.writes.part;
       setting = s.writes.setting ∙ (t.setting ∙ h.setting);
       read =
           subst (λ l. Consumes a c (packets_octets h.packets ++ l)) s.tells.is
           (consumed_more a b c (packets_octets h.packets) octets h.read r);
-      are = more h.packets h.items s.tells.p t.frames t.rest h.are t.reads;
+      are = more h.packets h.items (record { kind = s.tells.k; passed = s.tells.p }) t.frames h.are t.reads;
       appended = appended_more x y z h.written s.writes.part h.appended s.writes.appended;
       fits = λ k. s.writes.fits h.written (with_packet s.tells.p t.frames h.items) (t.fits h.written h.items (h.fits k));
     }

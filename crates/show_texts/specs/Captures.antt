@@ -3,8 +3,11 @@ use Rattle.std.specs.Prelude.{◌≡◌, ℕ, ◌&&◌, Bool, List, [], ◌∷�
 use Rattle.std.specs.Io.KnownBytes.{Appends, Consumes, IsAtEnd}
 use Rattle.mux_frame.specs.Frames.{Frame}
 use Rattle.mux_frame.specs.Reading.{Reads}
-use Rattle.mux_capture.specs.Passing.{Passed, caught_with}
+use Rattle.mux_capture.specs.Passing.{Passed}
 use Rattle.mux_capture.specs.Pcap.{packet}
+use Rattle.mux_capture.specs.declared.packet.Kind.{Kind}
+use Rattle.mux_capture.specs.declared.packet.Kind.TheVariants as kind
+use Rattle.modem_show.specs.Ways.{caught}
 use Rattle.mux_capture.specs.Reading.{IsHeaded}
 use Rattle.modem_texts.specs.Writing.{IsBegun}
 use Rattle.show_texts.specs.declared.fault.ShowFault.{ShowFault}
@@ -12,28 +15,43 @@ use Rattle.show_texts.specs.Telling.{Damage, Framed, Item, Setting, Teller, Tell
 
 -- ## Packets, the newest first
 
+-- whether it has a frame, and what passed
+pub record Packet : Type 0 where
+  pub kind : Kind
+  pub passed : Passed
+
 -- the octets of these packets in a file
-abbrev pub packets_octets : List Passed → List ℕ
+abbrev pub packets_octets : List Packet → List ℕ
 packets_octets [] = []
-packets_octets (p ∷ packets) = packets_octets packets ++ packet p.stamp p.direction p.octets
+packets_octets (p ∷ packets) =
+    packets_octets packets ++ packet p.kind p.passed.stamp p.passed.direction p.passed.octets
 
 -- with the frames of a packet
 abbrev pub with_frames : Passed → List Frame → List Item → List Item
 with_frames p [] items = items
-with_frames p (f ∷ frames) items = with_frames p frames (Framed (caught_with p f) ∷ items)
+with_frames p (f ∷ frames) items = with_frames p frames (Framed (caught p.stamp p.direction f) ∷ items)
 
--- a packet that no frame is read in is damage
+-- damage has no frame, and a packet that no frame is read in is damage too
 abbrev pub with_packet : Passed → List Frame → List Item → List Item
 with_packet p [] items = Damage p ∷ items
 with_packet p (f ∷ frames) items = with_frames p (f ∷ frames) items
 
--- the packets' octets, each by themselves, are read as these items; a frame may have as much information as a length indicator can tell
-pub data AreItems : List Passed → List Item → Type 0 where
+-- The octets of a packet, by themselves, are read as these frames. A frame may have as much information as a length indicator can tell.
+pub record ReadsFrames (octets : List ℕ) (frames : List Frame) : Type 0 where
+  pub rest : List ℕ
+  pub reads : Reads 32767 octets frames rest
+
+abbrev pub IsReadAs : Kind → List ℕ → List Frame → Type 0
+IsReadAs kind.Frame octets frames = ReadsFrames octets frames
+IsReadAs kind.Damage octets frames = frames ≡ []
+
+-- the packets come to these items
+pub data AreItems : List Packet → List Item → Type 0 where
   none : AreItems [] []
   more :
-      (packets : List Passed) (items : List Item) (p : Passed) (frames : List Frame) (rest : List ℕ)
-      → AreItems packets items → Reads 32767 p.octets frames rest
-      → AreItems (p ∷ packets) (with_packet p frames items)
+      (packets : List Packet) (items : List Item) (p : Packet) (frames : List Frame)
+      → AreItems packets items → IsReadAs p.kind p.passed.octets frames
+      → AreItems (p ∷ packets) (with_packet p.passed frames items)
 
 -- ## The whole
 
@@ -41,7 +59,7 @@ pub data AreItems : List Passed → List Item → Type 0 where
 -- a complaint.
 pub record IsShown (s : Setting) (wrong : Bool) (file before after : Option (List ℕ)) : Type 0 where
   pub head : List ℕ
-  pub packets : List Passed
+  pub packets : List Packet
   pub items : List Item
   pub headed : IsHeaded head []
   pub whole : IfSome file (λ all. all ≡ head ++ packets_octets packets)
@@ -88,11 +106,10 @@ pub record SaysFault (before after : Option (List ℕ)) (status : ℕ) : Type 0 
 -- ## Steps
 
 -- one packet more is told
-pub record TellsPacket (old new : Teller) (p : Passed) : Type 0 where
+pub record TellsPacket (old new : Teller) (k : Kind) (p : Passed) : Type 0 where
   pub setting : setting_of new ≡ setting_of old
   pub frames : List Frame
-  pub rest : List ℕ
-  pub reads : Reads 32767 p.octets frames rest
+  pub reads : IsReadAs k p.octets frames
   pub fits :
       (written : List ℕ) (items : List Item) → TellerFits written old items
       → TellerFits written new (with_packet p frames items)
@@ -120,7 +137,7 @@ pub record ReadsMore (before after : Option (List ℕ)) (old new : List ℕ) : T
 
 -- these packets were read and told
 pub record ToldSoFar (old new : Teller) (input left before after : Option (List ℕ)) : Type 0 where
-  pub packets : List Passed
+  pub packets : List Packet
   pub items : List Item
   pub written : List ℕ
   pub setting : setting_of new ≡ setting_of old
@@ -131,9 +148,10 @@ pub record ToldSoFar (old new : Teller) (input left before after : Option (List 
 
 -- octets of a file are a packet, which is told
 pub record TellsOctets (old new : Teller) (octets : List ℕ) : Type 0 where
+  pub k : Kind
   pub p : Passed
-  pub is : octets ≡ packet p.stamp p.direction p.octets
-  pub tells : TellsPacket old new p
+  pub is : octets ≡ packet k p.stamp p.direction p.octets
+  pub tells : TellsPacket old new k p
 
 -- the same, and a part of the text, or none, is written
 pub record ShowsOctets (old new : Teller) (octets : List ℕ) (before after : Option (List ℕ)) : Type 0 where

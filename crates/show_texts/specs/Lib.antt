@@ -6,3 +6,4 @@ pub mod Tallies
 pub mod Telling
 pub mod Captures
 pub mod Options
+pub mod Rows

@@ -6,6 +6,7 @@ mod closing;
 mod complaint;
 mod event;
 mod fault;
+pub mod laws;
 mod line;
 mod packets;
 mod reading;

@@ -3,6 +3,7 @@ ghost use Rattle.std.specs.Prelude.{◌≡◌, ◌≢◌, ◌++◌, map, Err, On
 ghost use Rattle.std.specs.Io.KnownBytes.{Appends};
 ghost use Rattle.std.specs.String.{string_bytes};
 ghost use Rattle.mux_frame.specs.Frames.{kept_frame};
+ghost use Rattle.mux_capture.specs.declared.packet.Kind.TheVariants as kind;
 ghost use Rattle.show_texts.specs.Captures.{TellsFrames, TellsPacket, Writes};
 ghost use Rattle.show_texts.specs.declared.fault.ShowFault.TheVariants as ShowFault;
 ghost use Rattle.show_texts.specs.Telling.{Damage, Tells, damage_text};
@@ -12,7 +13,7 @@ use crate::fault::ShowFault;
 use crate::teller::Teller;
 use crate::words::push_head;
 use modem_texts::put_octets;
-use mux_capture::{Direction, Stamp};
+use mux_capture::{Direction, Kind, Stamp};
 use mux_frame::FrameBuf;
 use mux_frame::laws::read_plain;
 use std::alloc::{AllocError, Global};
@@ -72,16 +73,15 @@ impl Teller {
         Ok(())
     }
 
-    /// Takes a packet: the frames that its octets are read as by themselves, or damage where they are read as none. After want of memory
-    /// nothing is said.
-    pub fn take_packet(
+    /// Takes a packet of a frame: the frames that its octets are read as by themselves, or damage where they are read as none.
+    fn take_read(
         &mut self,
         stamp: Stamp,
         direction: Direction,
         octets: &[u8],
     ) -> Result<(), AllocError>
         ensures { OnOk result
-            (TellsPacket self.old self.new (record { stamp = stamp; direction = direction; octets = octets.now })) }
+            (TellsPacket self.old self.new kind.Frame (record { stamp = stamp; direction = direction; octets = octets.now })) }
     {
         let Ok((frames, _)) = read_plain(self.alloc, MOST_INFO, octets) else {
             return Err(AllocError);
@@ -90,6 +90,25 @@ impl Teller {
             return self.take_damage(stamp, direction, octets);
         }
         self.take_frames(stamp, direction, octets, frames.as_slice())
+    }
+
+    /// Takes a packet: damage, or the frames that its octets are read as by themselves; where they are read as none they are damage too.
+    /// After want of memory nothing is said.
+    #[tactic(auto, using(crate::proofs::Shown::damage_packet))]
+    pub fn take_packet(
+        &mut self,
+        kind: Kind,
+        stamp: Stamp,
+        direction: Direction,
+        octets: &[u8],
+    ) -> Result<(), AllocError>
+        ensures { OnOk result
+            (TellsPacket self.old self.new kind (record { stamp = stamp; direction = direction; octets = octets.now })) }
+    {
+        match kind {
+            Kind::Frame => self.take_read(stamp, direction, octets),
+            Kind::Damage => self.take_damage(stamp, direction, octets),
+        }
     }
 
     /// Writes the text so far.

@@ -41,7 +41,7 @@ fn take_octets(teller: &mut Teller, octets: &[u8]) -> Result<(), ShowFault>
     if !packet.rest.is_empty() {
         return Err(ShowFault::BadPacket);
     }
-    teller.take_packet(packet.stamp, packet.direction, packet.frame)?;
+    teller.take_packet(packet.kind, packet.stamp, packet.direction, packet.octets)?;
     Ok(())
 }
 
@@ -94,7 +94,10 @@ fn show_by<I: Read, W: Write>(
 {
     let mut head = Vec::new(alloc);
     read_head(input, &mut head)?;
-    show_packets(alloc, teller, input, output)?;
+    if let Err(fault) = show_packets(alloc, teller, input, output) {
+        let _ = teller.write(output);
+        return Err(fault);
+    }
     teller.close()?;
     teller.write(output)
 }
