@@ -28,7 +28,6 @@ pub mod EntryTries
 pub mod WaitingLists
 pub mod LineQueues
 pub mod WaitingTicks
-pub mod MemoryNeeds
 pub mod EndpointSteps
 pub mod Endpoints
 pub mod EndpointLaws
@@ -51,3 +50,5 @@ pub mod PollLaws
 pub mod PollRows
 pub mod LivePollRows
 pub mod TurningAway
+pub mod TakenActs
+pub mod Doing
