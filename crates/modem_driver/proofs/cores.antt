@@ -6,3 +6,4 @@ pub mod LineLoss
 pub mod FramesAfterLoss
 pub mod UnchangedParts
 pub mod NewCore
+pub mod DoneCalls

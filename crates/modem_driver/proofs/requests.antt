@@ -11,3 +11,5 @@ pub mod StopRequests
 pub mod ProbeRequests
 pub mod CommandRequests
 pub mod SentCommands
+pub mod AskedRequests
+pub mod ToldOutcomes

@@ -17,7 +17,6 @@ use Rattle.modem_history.specs.Sessions.{Beginning, LineView, gots, taken_since}
 use Rattle.modem_history.specs.Turns.{HoldsWhereRoom, may_act, may_fail}
 use Rattle.modem_history.specs.Wholes.{is_said}
 use Rattle.modem_driver.specs.EndpointSteps.{HandLacksRoom, IsDrained, goes_out, with_received, with_sent}
-use Rattle.modem_driver.specs.MemoryNeeds.{OwesFlow}
 use Rattle.modem_driver.specs.SessionStates.{Machine, beginning_by, machine_by, seen_by, end_of}
 use Rattle.modem_driver.specs.TurnSteps.{StandingFits, turn_state, view_of}
 use Rattle.modem_driver.specs.declared.endpoint.Blocked.{Blocked}
@@ -107,17 +106,12 @@ pub record WantsRoom (k : Machine) : Type 0 where
   pub at_hand : k.deframer.next ≢ None
   pub no_room : HandLacksRoom k
 
--- what a machine answers to input: nothing blocks it where all octets are taken and no frame is at hand; OutputFirst
+-- what is answered to input: nothing blocks it where all octets are taken and no frame is at hand; OutputFirst
 -- where the frame at hand lacks room; NoMemory where a frame is at hand
 abbrev pub MachineSays : Machine → (all : Type 0) → Option Blocked → Type 0
 MachineSays k all None = all × (k.deframer.next ≡ None)
 MachineSays k all (Some OutputFirst) = WantsRoom k
 MachineSays k all (Some NoMemory) = k.deframer.next ≢ None
-
--- what an endpoint answers to input: as `MachineSays` has it, or NoMemory behind the last octet, for an MSC that is due
-abbrev pub Says : EndpointState → (all : Type 0) → Option Blocked → Type 0
-Says e all (Some NoMemory) = (e.machine.deframer.next ≢ None) ⊎ (all × OwesFlow e.machine)
-Says e all says = MachineSays e.machine all says
 
 -- ## Requests
 

@@ -29,7 +29,6 @@ pub mod EntryTryRows
 pub mod WaitingLists
 pub mod LineQueues
 pub mod WaitingTicks
-pub mod MemoryNeeds
 pub mod EndpointSteps
 pub mod Endpoints
 pub mod EndpointLaws
@@ -52,3 +51,5 @@ pub mod PollLaws
 pub mod PollRows
 pub mod LivePollRows
 pub mod TurningAway
+pub mod TakenActs
+pub mod Doing

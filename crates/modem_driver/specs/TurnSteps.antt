@@ -124,13 +124,6 @@ pub record Checks (old new : TurnState) (moved : Bool) : Type 0 where
       → HoldsWhereRoom b (view_of new) (after past acts)
   pub stays : new ≡ record old { machine = record old.machine { core = new.machine.core } }
 
--- Where there was no memory for one of them, those before it are checked.
-pub record ChecksPart (old new : TurnState) : Type 0 where
-  pub acts : List Act
-  pub leads : Leads old new acts
-  pub adds : AddsAll old new old.machine.unannounced 0 acts
-  pub stays : new ≡ record old { machine = record old.machine { core = new.machine.core } }
-
 -- ## The next frame goes into the output
 
 -- Where octets waited already, nothing is done. Where none wait afterwards, nothing was left to send.

@@ -1,5 +1,5 @@
 //! Holds a connection while too many of its lines wait for their listener, and then frees it (27.010, 5.4.6.3.7).
-ghost use Rattle.std.specs.Prelude.{◌≡◌, ◌≢◌, ◌==◌, ◌||◌, [], ◌∷◌, false, true, length, map, Some, None, if◌then◌else◌, IfOk, OnErr, OnOk};
+ghost use Rattle.std.specs.Prelude.{◌≡◌, ◌≢◌, ◌==◌, ◌||◌, [], ◌∷◌, false, true, length, map, Some, None, if◌then◌else◌, is_some, IfOk, IfSome, IfNone, OnErr, OnOk};
 ghost use Rattle.std.specs.Result.{result_err};
 ghost use Rattle.mux_station.specs.States.{is_opened};
 ghost use Rattle.mux_station.specs.Stations.{channel_at};
@@ -38,6 +38,26 @@ impl Core {
             None => Ok(Vec::new(self.alloc)),
             Some(go) => self.turn_flow(dlci, go),
         }
+    }
+
+    /// What `backlog` does, without its acts: an MSC waits in the control queue. It takes no memory. Says whether the
+    /// connection was held or freed; gives nothing where the MSC has no place, and then nothing changes.
+    pub(crate) fn do_backlog(&mut self, dlci: Dlci, lines: usize) -> Option<bool>
+        ensures past { IfSome result (λ _. Flows self.old self.new dlci.number lines
+            (acts_due dlci.number (due_in self.old dlci.number lines))) }
+        ensures moved { IfSome result (λ moved. moved ≡ is_some (due_in self.old dlci.number lines)) }
+        ensures stays { IfNone result (self.new ≡ self.old) }
+        ensures no_room { IfNone result (HasNoRoom self.old dlci.number lines) }
+        ensures n1 { self.new.station.n1 ≡ self.old.station.n1 }
+    {
+        let _ = &self.lanes;
+        let Some(go) = self.due(dlci, lines) else {
+            return Some(false);
+        };
+        if !self.do_flow(dlci, go) {
+            return None;
+        }
+        Some(true)
     }
 
     /// Whether a backlog of the connection may call for anything: it is open, and the line isn't lost.
@@ -79,6 +99,24 @@ impl Core {
         } else {
             None
         }
+    }
+
+    /// Asks the other end to go on, or to stop, where the MSC has a place in the control queue, and says whether it has.
+    fn do_flow(&mut self, dlci: Dlci, go: bool) -> bool
+        requires live { self.old.lost ≡ false }
+        requires not_zero { (dlci.number == 0) ≡ false }
+        requires opened { is_opened (channel_at self.old.station dlci.number).state ≡ true }
+        requires held { (lane_at self.old dlci.number).held ≡ go }
+        ensures past { result ≡ true → TurnsFlow self.old self.new dlci.number go (acts_due dlci.number (Some go)) }
+        ensures stays { result ≡ false → self.new ≡ self.old }
+        ensures no_room { result ≡ false → CannotTurn self.old dlci.number go }
+        ensures n1 { self.new.station.n1 ≡ self.old.station.n1 }
+    {
+        if let Err(_why) = self.station.flow(dlci, go) {
+            return false;
+        }
+        self.lanes.turn(dlci, !go);
+        true
     }
 
     /// Asks the other end to go on, or to stop.

@@ -4,6 +4,8 @@ ghost use Rattle.modem_history.specs.Acts.{Act as Happening, act_of, Lost};
 ghost use Rattle.modem_driver.specs.Endings.{asker_of, is_stop};
 ghost use Rattle.modem_driver.specs.Cores.{core_by, new_core, state_shown, Fits, Handles};
 ghost use Rattle.modem_driver.specs.Holding.{HoldsFit, KeepsHeld};
+ghost use Rattle.modem_driver.specs.Doing.{Does};
+ghost use Rattle.std.specs.VecDeque.{deque_capacity};
 ghost use Rattle.modem_driver.specs.declared.error.CoreError.TheVariants as CoreError;
 
 use crate::act_list::ActList;
@@ -11,13 +13,14 @@ use crate::error::CoreError;
 use crate::hand::Hand;
 use crate::lanes::Lanes;
 use crate::machine::course::Asker;
-use crate::telling::{Happened, state_of, tell};
+use crate::telling::{Happened, state_of, tell, tell_on};
 use at_text::{Dialect, UrcKind};
-use modem_desk::Request;
+use modem_desk::{Outcome, Request};
 use modem_history::Act;
 use mux_frame::Dlci;
 use mux_station::{ChannelState, Role, Station, StationError};
 use std::alloc::Global;
+use std::collections::VecDeque;
 use std::marker::Model;
 
 /// The core of the driver. It takes requests, frames and ticks, and answers with the acts that follow.
@@ -144,6 +147,26 @@ impl Core {
             &mut acts,
         );
         Ok(acts.into_vec())
+    }
+
+    /// The line is lost: every request in hand is told so, behind the outcomes that wait, and nothing is sent any more.
+    /// It takes no memory. Says whether the Stop that was in hand has ended by it.
+    pub(crate) fn do_loss(&mut self, told: &mut VecDeque<Outcome>) -> bool
+        requires { 128 ≤ deque_capacity told.old }
+        ensures does { Does self.old self.new told.old.items told.new.items Lost result }
+        ensures gone { self.new.lost ≡ true }
+        ensures n1 { self.new.station.n1 ≡ self.old.station.n1 }
+        ensures room { 128 ≤ deque_capacity told.new }
+    {
+        self.lost = true;
+        tell_on(
+            &mut self.hand,
+            &self.station,
+            self.lost,
+            Happened::Lost,
+            false,
+            told,
+        )
     }
 
     /// How many more requests may be in hand.

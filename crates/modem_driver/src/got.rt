@@ -1,5 +1,7 @@
 //! Handles received frames (27.010, 5.4).
-ghost use Rattle.std.specs.Prelude.{List, None, ◌≡◌, ◌≢◌, ◌≤◌, ◌<◌, ◌+◌, ◌-◌, ◌++◌, ◌∷◌, ◌&&◌, not, [], true, false, length, drop, map, slice_get, slice_set, position, option_map, is_some, is_none, IfOk, OnOk, OnErr, vec_capacity};
+ghost use Rattle.std.specs.Prelude.{List, None, ◌≡◌, ◌≢◌, ◌≤◌, ◌<◌, ◌+◌, ◌-◌, ◌++◌, ◌∷◌, ◌&&◌, ◌||◌, not, [], true, false, length, drop, map, slice_get, slice_set, position, option_map, is_some, is_none, IfOk, IfSome, IfNone, OnOk, OnErr, vec_capacity};
+ghost use Rattle.std.specs.VecDeque.{deque_capacity};
+ghost use Rattle.modem_driver.specs.Doing.{Does};
 ghost use Rattle.mux_frame.specs.Frames.{frame_of, kept_frame};
 ghost use Rattle.mux_frame.specs.Spelling.{most_info};
 ghost use Rattle.mux_station.specs.Acts as station_acts;
@@ -29,12 +31,13 @@ use crate::going_out::first_line;
 use crate::hand::Hand;
 use crate::lane::Lane;
 use crate::reports::{Owner, Reading, read_octets};
-use crate::telling::{Happened, tell};
+use crate::telling::{Happened, tell, tell_on};
 use at_text::CommandLine;
-use modem_desk::{Ask, Request};
+use modem_desk::{Ask, Outcome, Request};
 use modem_history::Act;
 use mux_frame::{Dlci, FrameBuf, FrameView, Info, Kind};
 use mux_station::{ChannelState, Noted, Station};
+use std::collections::VecDeque;
 
 /// An MSC is a type octet, a length octet and two octets of value.
 const MSC_LEN: usize = 4;
@@ -170,6 +173,47 @@ impl Core {
         );
         self.start_lane(frame.dlci, opens(noted));
         Ok(acts.into_vec())
+    }
+
+    /// A frame that isn't data of an open connection, without a copy of it. What it calls for waits in the control queue,
+    /// and what it tells behind the outcomes that wait, so it takes no memory. Says whether the Stop that was in hand
+    /// has ended by it. Gives nothing where the control queue has no room for what it calls for: nothing changes then.
+    pub(crate) fn do_other(
+        &mut self,
+        frame: FrameView<'_>,
+        told: &mut VecDeque<Outcome>,
+    ) -> Option<bool>
+        requires short { length frame.info.now ≤ most_info self.old.station.n1 frame.kind }
+        requires live { self.old.lost ≡ false }
+        requires no_data { reads_data self.old (frame_of frame) ≡ false }
+        requires room { 128 ≤ deque_capacity told.old }
+        ensures does { IfSome result (λ answered.
+            Does self.old self.new told.old.items told.new.items (Got (frame_of frame.entry)) answered) }
+        ensures has_room { IfSome result (λ _. HasRoom self.old (Got (frame_of frame.entry)) true) }
+        ensures no_room { IfNone result (HasRoom self.old (Got (frame_of frame.entry)) false) }
+        ensures stays { IfNone result (self.new ≡ self.old) }
+        ensures untold { IfNone result (told.new.items ≡ told.old.items) }
+        ensures n1 { self.new.station.n1 ≡ self.old.station.n1 }
+        ensures lost { self.new.lost ≡ self.old.lost }
+        ensures never_full { IfNone result (¬ CoreIsIdle self.old) }
+        ensures room { 128 ≤ deque_capacity told.new }
+    {
+        if !self.station.has_room_for(frame) {
+            return None;
+        }
+        let before = self.station.state(Dlci::CONTROL);
+        let noted = take(&mut self.station, frame);
+        let ended = has_ended(before, self.station.state(Dlci::CONTROL));
+        let answered = tell_on(
+            &mut self.hand,
+            &self.station,
+            self.lost,
+            Happened::Got(noted),
+            ended,
+            told,
+        );
+        self.start_lane(frame.dlci, opens(noted));
+        Some(answered)
     }
 
     /// Reads the information of a frame on a fork of what is kept of its connection, which the other lane becomes. What is
@@ -331,6 +375,13 @@ impl Core {
         frame.kind == Kind::Uih
             && frame.dlci.number() != 0
             && is_opened(self.station.state(frame.dlci))
+    }
+
+    /// Whether the line isn't lost, and the frame is no data of an open connection.
+    pub(crate) fn is_other(&self, frame: FrameView<'_>) -> bool
+        ensures { result ≡ not (self.now.lost || reads_data self.now (frame_of frame.entry)) }
+    {
+        !(self.lost || self.is_data(frame))
     }
 
     /// Handles a received frame. Requires that its information is at most N1 octets, and empty in a kind other than

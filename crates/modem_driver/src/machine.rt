@@ -119,8 +119,7 @@ impl Machine {
         })
     }
 
-    /// A tick of the core. Refusals, which change nothing: 3 Failed where the line was lost; 1
-    /// NoMemory.
+    /// A tick of the core. Refusal, which changes nothing: 3 Failed where the line was lost.
     pub(crate) fn tick(&mut self) -> Result<(), SessionFault>
         ensures ticks { OnOk result (MachineTicks self.old self.new) }
         ensures unfed { self.new.unfed ≡ self.old.unfed }
@@ -128,33 +127,27 @@ impl Machine {
         ensures ended { KeepsEnd self.old.course self.new.course }
         ensures err { OnErr result (self.new ≡ self.old) }
         ensures failed { (result ≡ Err fault.Failed) ↔ (self.old.core.lost ≡ true) }
-        ensures line { result ≢ Err fault.Line }
+        ensures only { OnErr result (result ≡ Err fault.Failed) }
     {
         if self.core.lost {
             return Err(SessionFault::Failed);
         }
-        let stop = self.core.stop();
         let delays = self.delays_after_tick();
-        let Ok(acts) = self.core.tick() else {
-            return Err(SessionFault::NoMemory);
-        };
+        let answered = self.waiting.tick(&mut self.core);
         self.delays = delays;
-        self.course.note(stop, acts.as_slice());
-        self.waiting.keep(acts);
+        self.course.go_on(answered);
         Ok(())
     }
 
-    /// The line is lost: everyone in hand is told so. Refusal: 1 NoMemory, which changes nothing. The
-    /// condition is that a call on the line has failed, and that it wasn't lost before.
-    pub(crate) fn lose(&mut self) -> Result<(), SessionFault>
+    /// The line is lost: everyone in hand is told so. The condition is that a call on the line has failed, and that it
+    /// wasn't lost before.
+    pub(crate) fn lose(&mut self)
         requires faulty { self.old.faulty ≡ true }
         requires live { self.old.core.lost ≡ false }
-        ensures loses { OnOk result (MachineLoses self.old self.new) }
-        ensures gone { OnOk result (self.new.core.lost ≡ true) }
-        ensures err { OnErr result (self.new ≡ self.old) }
-        ensures no_memory { OnErr result (result ≡ Err fault.NoMemory) }
+        ensures loses { MachineLoses self.old self.new }
+        ensures gone { self.new.core.lost ≡ true }
     {
-        self.lose_line()
+        self.lose_line();
     }
 
     /// The requests in hand, and then the one kept aside; the outcomes and the lines that wait. There

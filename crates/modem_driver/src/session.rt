@@ -158,14 +158,14 @@ impl<L: SerialLine, R: Wait + Drop> Session<L, R> {
     }
 
     /// A tick: SABM and DISC that weren't answered are sent again, and at the fourth tick what waits is given up. Line and desk's end stay
-    /// as they are. Refusals, which change nothing: 3 Failed where a turn has answered Line; 1 NoMemory.
+    /// as they are. Refusal, which changes nothing: 3 Failed where a turn has answered Line.
     pub fn tick(&mut self) -> Result<(), SessionFault>
         ensures ticks { OnOk result (Ticks (line_by L.received L.sent L.calls L.failures L.empty_reads L.stalled_writes) self.old self.new) }
         ensures same { (self.new.line ≡ self.old.line) × (self.new.driver ≡ self.old.driver) }
         ensures ended { KeepsItsEnd self.old self.new }
         ensures err { OnErr result (self.new ≡ self.old) }
         ensures failed { (result ≡ Err fault.Failed) ↔ (has_lost_line self.old ≡ true) }
-        ensures not_line { result ≢ Err fault.Line }
+        ensures only { OnErr result (result ≡ Err fault.Failed) }
     {
         self.machine.tick()?;
         Ok(())

@@ -1,14 +1,20 @@
 //! Tells the requests in hand their outcomes.
-ghost use Rattle.std.specs.Prelude.{◌≡◌, ◌≤◌, ◌++◌, length};
+ghost use Rattle.std.specs.Prelude.{◌≡◌, ◌≤◌, ◌<◌, ◌++◌, ◌∷◌, [], length, map, find, option_map};
+ghost use Rattle.std.specs.VecDeque.{deque_capacity};
+ghost use Rattle.modem_history.specs.Acts.{Told, act_of};
+ghost use Rattle.modem_driver.specs.Doing.{Adds, outcomes_to};
+ghost use Rattle.modem_driver.specs.Endings.{asker_of, is_answered, is_stop};
 ghost use Rattle.modem_driver.specs.Telling.{why_shut, probe_happened, stop_outcome, told_by, told_to, left_by};
 ghost use Rattle.modem_driver.specs.Cores.{state_shown};
 
 use crate::act_list::ActList;
 use crate::hand::Hand;
+use crate::machine::course::Asker;
 use modem_desk::{Answer, Ask, Outcome};
 use modem_history::Act;
 use mux_frame::Dlci;
 use mux_station::{ChannelState, Noted, Station};
+use std::collections::VecDeque;
 
 /// What happened, as far as it decides what the requests in hand are told.
 #[derive(Clone, Copy)]
@@ -122,14 +128,78 @@ pub(crate) fn tell(
     while place < hand.len() {
         match told_by(station, lost, happened, ended, &hand.as_slice()[place].ask) {
             Some(answer) => {
-                let request = hand.remove(place);
+                let asked = hand.remove(place);
                 acts.push(Act::Told(Outcome {
-                    caller: request.caller,
-                    number: request.number,
+                    caller: asked.caller,
+                    number: asked.number,
                     answer,
                 }));
             }
             None => place += 1,
         }
     }
+}
+
+/// Whether the outcome tells this one, whose Stop is in hand, that it has ended.
+fn ends_for(stop: Option<Asker>, outcome: &Outcome) -> bool
+    ensures { result ≡ is_answered stop (Told outcome.now ∷ []) }
+{
+    match stop {
+        Some(stop) => {
+            stop.caller == outcome.caller
+                && stop.number == outcome.number
+                && matches!(outcome.answer, Answer::Stopped | Answer::NoAnswer)
+        }
+        None => false,
+    }
+}
+
+/// Puts an outcome behind those that wait, where those are fewer than 128.
+pub(crate) fn put_told(told: &mut VecDeque<Outcome>, outcome: Outcome)
+    requires { 128 ≤ deque_capacity told.old }
+    ensures put { length told.old.items < 128 → told.new.items ≡ told.old.items ++ outcome ∷ [] }
+    ensures room { 128 ≤ deque_capacity told.new }
+{
+    let _ = told.push_back(outcome);
+}
+
+/// Tells each request in hand what it is told by now, in the order taken. The others stay. The outcomes are put behind
+/// those that wait, which takes no memory. Says whether the Stop that was in hand has ended by it.
+#[tactic(auto, using(crate::proofs::requests::ToldOutcomes::begins_on, crate::proofs::requests::ToldOutcomes::waits_further, crate::proofs::requests::ToldOutcomes::told_further))]
+pub(crate) fn tell_on(
+    hand: &mut Hand,
+    station: &Station,
+    lost: bool,
+    happened: Happened,
+    ended: bool,
+    told: &mut VecDeque<Outcome>,
+) -> bool
+    requires { 128 ≤ deque_capacity told.old }
+    ensures hand { hand.new
+        ≡ left_by (told_by happened ended (λ d. state_shown station.now lost d)) hand.old }
+    ensures adds { Adds told.old.items told.new.items
+        (outcomes_to (told_by happened ended (λ d. state_shown station.now lost d)) hand.old) }
+    ensures answered { result ≡ is_answered (option_map asker_of (find is_stop hand.old))
+        (map act_of (told_to (told_by happened ended (λ d. state_shown station.now lost d)) hand.old)) }
+    ensures room { 128 ≤ deque_capacity told.new }
+{
+    let stop = hand.stop();
+    let mut answered = false;
+    let mut place = 0;
+    while place < hand.len() {
+        match told_by(station, lost, happened, ended, &hand.as_slice()[place].ask) {
+            Some(answer) => {
+                let request = hand.remove(place);
+                let outcome = Outcome {
+                    caller: request.caller,
+                    number: request.number,
+                    answer,
+                };
+                answered |= ends_for(stop, &outcome);
+                put_told(told, outcome);
+            }
+            None => place += 1,
+        }
+    }
+    answered
 }

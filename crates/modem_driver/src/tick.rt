@@ -1,6 +1,7 @@
 //! What a core does at a tick. The frames that it calls for are read from the end of the control queue, since only the
 //! station knows which of them fitted.
-ghost use Rattle.std.specs.Prelude.{◌≡◌, ◌+◌, ◌≤◌, ◌&&◌, ◌++◌, map, option_map, slice_get, IfOk, OnErr};
+ghost use Rattle.std.specs.VecDeque.{deque_capacity};
+ghost use Rattle.std.specs.Prelude.{false, ◌≡◌, ◌+◌, ◌≤◌, ◌&&◌, ◌++◌, map, option_map, slice_get, IfOk, OnErr};
 ghost use Rattle.std.specs.List.{list_any};
 ghost use Rattle.mux_frame.specs.Frames.{kept_frame};
 ghost use Rattle.mux_station.specs.States.{is_opened};
@@ -8,17 +9,20 @@ ghost use Rattle.mux_station.specs.Stations.{channel_at};
 ghost use Rattle.modem_history.specs.Acts.{Sent, Tick, act_of};
 ghost use Rattle.modem_driver.specs.Ticked.{bared, queued_from, shown_asking, asking_from, is_probe_given};
 ghost use Rattle.modem_driver.specs.Cores.{Handles};
+ghost use Rattle.modem_driver.specs.Doing.{Does};
 ghost use Rattle.modem_driver.specs.Holding.{KeepsHeld};
 ghost use Rattle.modem_driver.specs.declared.error.CoreError.TheVariants as CoreError;
 
 use crate::act_list::ActList;
 use crate::driver::Core;
 use crate::error::CoreError;
-use crate::telling::{Happened, tell};
+use crate::telling::{Happened, tell, tell_on};
+use modem_desk::Outcome;
 use modem_history::Act;
 use mux_frame::{Dlci, FrameBuf, Info};
 use mux_station::{ChannelState, GivenUp, Station};
 use std::alloc::Global;
+use std::collections::VecDeque;
 
 impl Core {
     /// One T1 has passed: SABM and DISC that weren't answered are sent again, and at the fourth tick what waits is
@@ -51,6 +55,29 @@ impl Core {
             &mut acts,
         );
         Ok(acts.into_vec())
+    }
+
+    /// The same, while the line isn't lost. Its frames wait in the control queue, and its outcomes behind those that
+    /// wait, so it takes no memory. Says whether the Stop that was in hand has ended by it.
+    pub(crate) fn do_tick(&mut self, told: &mut VecDeque<Outcome>) -> bool
+        requires live { self.old.lost ≡ false }
+        requires room { 128 ≤ deque_capacity told.old }
+        ensures does { Does self.old self.new told.old.items told.new.items Tick result }
+        ensures n1 { self.new.station.n1 ≡ self.old.station.n1 }
+        ensures room { 128 ≤ deque_capacity told.new }
+    {
+        let ran = is_running(&self.station);
+        let noticed = self.station.tick();
+        let ended = ran && !is_running(&self.station);
+        let happened = Happened::Tick(has_probe(noticed.as_slice()));
+        tell_on(
+            &mut self.hand,
+            &self.station,
+            false,
+            happened,
+            ended,
+            told,
+        )
     }
 }
 

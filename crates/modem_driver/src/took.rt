@@ -8,6 +8,9 @@ ghost use Rattle.modem_history.specs.Information.{command_on, line_in, line_of};
 ghost use Rattle.modem_history.specs.Requests.{commands_on};
 ghost use Rattle.modem_driver.specs.Offers.{refused_command, sends_on, TakesLine, OffersFirstCommand};
 ghost use Rattle.modem_driver.specs.Refusals.{refusal_answer, told_act};
+ghost use Rattle.modem_driver.specs.TakenActs.{taken_acts};
+ghost use Rattle.modem_driver.specs.Doing.{Asks, Takes};
+ghost use Rattle.std.specs.VecDeque.{deque_capacity};
 ghost use Rattle.modem_driver.specs.Telling.{told_by, told_to, left_by};
 ghost use Rattle.modem_driver.specs.Cores.{state_shown, Handles};
 ghost use Rattle.modem_driver.specs.Holding.{KeepsHeld};
@@ -20,7 +23,7 @@ use crate::act_list::ActList;
 use crate::driver::Core;
 use crate::error::CoreError;
 use crate::hand::Hand;
-use crate::telling::{Happened, tell};
+use crate::telling::{Happened, put_told, tell, tell_on};
 use crate::written::{bare, message};
 use modem_desk::{Answer, Ask, Outcome, Request};
 use modem_history::Act;
@@ -28,6 +31,7 @@ use mux_frame::{Dlci, Kind, ProbeData};
 use mux_station::written::{CLD, TEST};
 use mux_station::{ChannelState, Station, StationError};
 use std::alloc::Global;
+use std::collections::VecDeque;
 
 /// What a request is told that the station refuses: want of room is Busy.
 fn answer_of(why: StationError) -> Answer
@@ -159,6 +163,73 @@ impl Core {
         self.hand.push(request);
     }
 
+    /// A connection is to be opened. It takes no memory. Gives what the request is told at once; where it is told nothing it is
+    /// in hand from then on, and its SABM waits in the control queue.
+    pub(crate) fn ask_open(&mut self, dlci: Dlci, request: Request) -> Option<Answer>
+        requires ask { request.ask ≡ Ask.OpenChannel dlci }
+        requires live { self.old.lost ≡ false }
+        requires few { length self.old.hand < 128 }
+        ensures past { Handles self.old self.new (Took request) (taken_acts request result) }
+        ensures lanes { self.new.lanes ≡ self.old.lanes }
+        ensures n1 { self.new.station.n1 ≡ self.old.station.n1 }
+    {
+        if let Err(why) = self.station.open(dlci) {
+            return Some(answer_of(why));
+        }
+        self.hand.push(request);
+        None
+    }
+
+    /// A connection is to be closed: its commands are told so, behind the outcomes that wait. It takes no memory. Gives what
+    /// the request is told at once; where it is told nothing it is in hand from then on, and its DISC waits in the control
+    /// queue.
+    pub(crate) fn ask_close(
+        &mut self,
+        dlci: Dlci,
+        request: Request,
+        outcomes: &mut VecDeque<Outcome>,
+    ) -> Option<Answer>
+        requires ask { request.ask ≡ Ask.CloseChannel dlci }
+        requires live { self.old.lost ≡ false }
+        requires few { length self.old.hand < 128 }
+        requires room { 128 ≤ deque_capacity outcomes.old }
+        ensures asks { Asks self.old self.new outcomes.old.items outcomes.new.items request result }
+        ensures lanes { self.new.lanes ≡ self.old.lanes }
+        ensures n1 { self.new.station.n1 ≡ self.old.station.n1 }
+        ensures room { 128 ≤ deque_capacity outcomes.new }
+    {
+        if let Err(why) = self.station.close(dlci) {
+            return Some(answer_of(why));
+        }
+        tell_on(
+            &mut self.hand,
+            &self.station,
+            false,
+            Happened::Took,
+            false,
+            outcomes,
+        );
+        self.hand.push(request);
+        None
+    }
+
+    /// A probe is to be sent. It takes no memory. Gives what the request is told at once; where it is told nothing it is in
+    /// hand from then on, and its Test command waits in the control queue.
+    pub(crate) fn ask_probe(&mut self, echo: ProbeData, request: Request) -> Option<Answer>
+        requires ask { request.ask ≡ Ask.Probe echo }
+        requires live { self.old.lost ≡ false }
+        requires few { length self.old.hand < 128 }
+        ensures past { Handles self.old self.new (Took request) (taken_acts request result) }
+        ensures lanes { self.new.lanes ≡ self.old.lanes }
+        ensures n1 { self.new.station.n1 ≡ self.old.station.n1 }
+    {
+        if let Err(why) = self.station.probe(echo.octets()) {
+            return Some(answer_of(why));
+        }
+        self.hand.push(request);
+        None
+    }
+
     /// A connection is to be opened.
     fn take_open(&mut self, dlci: Dlci, request: Request) -> Result<Vec<Act>, (CoreError, Request)>
         requires ask { request.ask ≡ Ask.OpenChannel dlci }
@@ -259,6 +330,118 @@ impl Core {
         acts.push(Act::Sent(test));
         self.hand.push(copy);
         Ok(acts.into_vec())
+    }
+
+    /// Everything else is to be ended: all in hand are told so, behind the outcomes that wait. It takes no memory. Gives what
+    /// the request is told at once; where it is told nothing it is in hand from then on, and its CLD waits in the control
+    /// queue.
+    pub(crate) fn ask_stop(
+        &mut self,
+        request: Request,
+        outcomes: &mut VecDeque<Outcome>,
+    ) -> Option<Answer>
+        requires ask { request.ask ≡ Ask.Stop }
+        requires live { self.old.lost ≡ false }
+        requires few { length self.old.hand < 128 }
+        requires room { 128 ≤ deque_capacity outcomes.old }
+        ensures asks { Asks self.old self.new outcomes.old.items outcomes.new.items request result }
+        ensures lanes { self.new.lanes ≡ self.old.lanes }
+        ensures n1 { self.new.station.n1 ≡ self.old.station.n1 }
+        ensures room { 128 ≤ deque_capacity outcomes.new }
+    {
+        if let Err(why) = self.station.stop() {
+            return Some(answer_of(why));
+        }
+        tell_on(
+            &mut self.hand,
+            &self.station,
+            false,
+            Happened::Took,
+            true,
+            outcomes,
+        );
+        self.hand.push(request);
+        None
+    }
+
+    /// A command is to be sent. It takes no memory. Gives what it is told at once; where it is told nothing it is in hand from
+    /// then on.
+    fn ask_command(&mut self, dlci: Dlci, request: Request) -> Option<Answer>
+        requires ask { request.ask ≡ Ask.Command dlci (line_of request) }
+        requires live { self.old.lost ≡ false }
+        requires few { length self.old.hand < 128 }
+        ensures past { Handles self.old self.new (Took request) (taken_acts request result) }
+        ensures lanes { self.new.lanes ≡ self.old.lanes }
+        ensures n1 { self.new.station.n1 ≡ self.old.station.n1 }
+    {
+        if let Some(why) = refuses_command(&self.station, dlci) {
+            return Some(why);
+        }
+        self.send(dlci, request);
+        None
+    }
+
+    /// Any request, but for what it is told at once, which this gives.
+    fn ask_any(
+        &mut self,
+        request: Request,
+        outcomes: &mut VecDeque<Outcome>,
+    ) -> Option<Answer>
+        requires room { 128 ≤ deque_capacity outcomes.old }
+        ensures asks { Asks self.old self.new outcomes.old.items outcomes.new.items request result }
+        ensures lanes { self.new.lanes ≡ self.old.lanes }
+        ensures n1 { self.new.station.n1 ≡ self.old.station.n1 }
+        ensures role { self.old.station.role ≡ Initiator }
+        ensures room { 128 ≤ deque_capacity outcomes.new }
+    {
+        if self.lost {
+            return Some(Answer::LineLost);
+        }
+        if self.hand.is_full() {
+            return Some(Answer::Busy);
+        }
+        match &request.ask {
+            Ask::OpenChannel(dlci) => {
+                let dlci = *dlci;
+                self.ask_open(dlci, request)
+            }
+            Ask::CloseChannel(dlci) => {
+                let dlci = *dlci;
+                self.ask_close(dlci, request, outcomes)
+            }
+            Ask::Command(dlci, _) => {
+                let dlci = *dlci;
+                self.ask_command(dlci, request)
+            }
+            Ask::Probe(octets) => {
+                let echo = ProbeData::new(octets.octets()).unwrap();
+                self.ask_probe(echo, request)
+            }
+            Ask::Stop => self.ask_stop(request, outcomes),
+        }
+    }
+
+    /// Takes a request, which is told its outcome at once or is in hand from then on. What it asks for waits in the control
+    /// queue, and what is told behind the outcomes that wait, so it takes no memory.
+    pub(crate) fn ask(&mut self, request: Request, outcomes: &mut VecDeque<Outcome>)
+        requires room { 128 ≤ deque_capacity outcomes.old }
+        ensures takes { Takes self.old self.new outcomes.old.items outcomes.new.items request }
+        ensures n1 { self.new.station.n1 ≡ self.old.station.n1 }
+        ensures role { self.old.station.role ≡ Initiator }
+        ensures room { 128 ≤ deque_capacity outcomes.new }
+    {
+        let caller = request.caller;
+        let number = request.number;
+        if let Some(answer) = self.ask_any(request, outcomes) {
+            put_told(
+                outcomes,
+                Outcome {
+                    caller,
+                    number,
+                    answer,
+                },
+            );
+        }
     }
 
     /// Everything else is to be ended: all requests in hand are told so.

@@ -13,7 +13,7 @@ use Rattle.modem_history.proofs.calls.StatesAfterActs.{after_both}
 use Rattle.modem_driver.specs.EndpointSteps.{GivesOut, HandLacksRoom, HandlesFrames, MachineIsDrained, Passes, TakesFrom, with_received, with_sent}
 use Rattle.modem_driver.specs.Endpoints.{GivesOctets, HandlesAll, HandlesAlone, HoldsNothingBack, LeadsOver, TakesOctets}
 use Rattle.modem_driver.specs.SessionStates.{Machine}
-use Rattle.modem_driver.specs.TurnSteps.{TurnState, StandingFits, AddsAll, Checks, ChecksPart, Leads, turn_state, view_of}
+use Rattle.modem_driver.specs.TurnSteps.{TurnState, StandingFits, AddsAll, Checks, Leads, turn_state, view_of}
 use Rattle.modem_driver.specs.declared.endpoint.Blocked.{Blocked}
 use Rattle.modem_driver.specs.declared.endpoint.Blocked.TheVariants.{NoMemory}
 use Rattle.modem_driver.proofs.sessions.meanings.TurnFaults.{none_loses}
@@ -111,22 +111,3 @@ takes_octets k0 k1 k2 next octets moved why takes checks l d =
           subst (λ (p : List Act). HoldsWhereRoom b (view_of (turn_state m d k2)) p) (sym (after_both t.acts c.acts past)) (c.looked b (after past t.acts) g still);
     }
 
--- where there was no memory for the MSC of one of them
-pub takes_part : (k0 k1 k2 : Machine) (next : ℕ) (octets : List ℕ) → TakesFrom k0 k1 octets → ((l : LineView) (d : DriverView) → ChecksPart (turn_state l d k1) (turn_state l d k2)) → (l : LineView) (d : DriverView)
-    → TakesOctets l d (record { machine = k0; next = next }) (record { machine = k2; next = next }) octets (Some NoMemory)
-unfolding TakesFrom AddsAll
-takes_part k0 k1 k2 next octets takes checks l d =
-    let m = with_received l octets in
-    let t = takes l d in
-    let c = checks m d in
-    let all = leads_on (turn_state l d k0) (turn_state m d k1) (turn_state m d k2) t.acts c.acts t.leads c.leads in
-    let checked : Checked m d k0 k1 k2 c.acts = record { leads = c.leads; may = λ b past f. (c.adds b past f).may; stays = ap (λ (s : TurnState). s.machine.unannounced) c.stays } in
-    record {
-      acts = t.acts ++ c.acts;
-      leads = leads_over l m d k0 k2 next (t.acts ++ c.acts) all;
-      may = λ b past f. checked_may l d k0 k1 k2 octets c.acts t checked b past f.stands;
-      held = λ b past f live none. absurd (apart none);
-    }
-  where
-    apart : Some NoMemory ≡ None → ⊥
-    apart e = cc

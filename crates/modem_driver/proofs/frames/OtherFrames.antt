@@ -1,5 +1,5 @@
 -- A frame that isn't data of an open connection: the acts are what it calls for, and the core fits them.
-use Rattle.std.specs.Prelude.{◌≡◌, ℕ, ◌<◌, ◌≤◌, ◌&&◌, not, Bool, true, false, List, [], ◌∷◌, ◌++◌, length, map, filter, filter_map, slice_get, refl, None, Some, if◌then◌else◌}
+use Rattle.std.specs.Prelude.{◌≡◌, ℕ, ◌<◌, ◌≤◌, ◌&&◌, not, Bool, true, false, List, [], ◌∷◌, ◌++◌, length, map, drop, filter, filter_map, slice_get, refl, None, Some, if◌then◌else◌}
 use Rattle.std.specs.List.{list_all}
 use Rattle.std.proofs.Common.{ap, sym, ◌∙◌, subst, arith}
 use Rattle.std.proofs.lemmas.Bool.{and_parts}
@@ -45,7 +45,7 @@ use Rattle.modem_driver.proofs.outgoing.CoreAfterFrame.{IsSound, own, own_is, ru
 use Rattle.modem_driver.proofs.probes.OneProbe.{one_probe, probes}
 use Rattle.modem_driver.proofs.probes.ProbeAnswers.{EachProbe, each_probe, probe_says, probe_left, still}
 use Rattle.modem_driver.proofs.probes.ProbeAfterFrame.{needs_open, probe_then}
-use Rattle.modem_driver.proofs.frames.StationAfterFrame.{seen_then, same_then, now_then, shown_then, sent_there, sent_whole, frames_short}
+use Rattle.modem_driver.proofs.frames.StationAfterFrame.{seen_then, same_then, now_then, shown_then, sent_there, sent_whole, frames_short, queued_since}
 use Rattle.modem_driver.proofs.frames.LanesAfterFrame.{opens_noted, other_lanes}
 use Rattle.modem_driver.proofs.requests.WaitingRequests.{left_waits}
 
@@ -192,6 +192,26 @@ unfolding Handles
 other_handles old new f n st ended_now acts i w s past m =
     let e = own_is s old m.setting in
     subst (λ (x : Setting). GoesOn x new past (Got f) acts) (sym e) (other_own old new s.listens past f n st ended_now acts i w (subst (λ (x : Setting). MayCome x old past (Got f)) e m))
+
+-- the same acts, where what was sent is read off the control queue
+pub other_since : (old new : Core) (f : Frame) (n : Noted) (st : Station) (ended_now : Bool) (acts : List Act) → IsSound old → OtherCame old new f n st ended_now acts
+    → Handles old new (Got f) (Got f ∷ (map Sent (drop (length old.station.queue) st.queue) ++ map act_of (told_to (told_by (happened.Got n) ended_now (λ d. state_shown st false d)) old.hand)))
+unfolding Handles
+other_since old new f n st ended_now acts i w s past m =
+    let e = own_is s old m.setting in
+    let may = subst (λ (x : Setting). MayCome x old past (Got f)) e m in
+    let live : is_lost past ≡ false = may.fits.lost_is ∙ w.live in
+    let r = running old past w.live may.fits in
+    let told = map act_of (told_to (told_by (happened.Got n) ended_now (λ d. state_shown st false d)) old.hand) in
+    let there = w.handles.fits r.seen r.fits in
+    let fs = frames_in (own old s.listens) past (Got f) in
+    let since : map Sent (drop (length old.station.queue) st.queue) ≡ map Sent fs = ap (map Sent) (queued_since old s.listens past r f st i live there) in
+    let whole : map Sent fs ≡ sent_in (answer_room f) (slice_get st.queue (length old.station.queue))
+    = sent_whole (answer_room f) fs (frames_short (own old s.listens) past f refl) ∙ sym (ap (sent_in (answer_room f)) (sent_there old s.listens past r f st i live there)) in
+    let same : acts ≡ Got f ∷ (map Sent (drop (length old.station.queue) st.queue) ++ told)
+    = w.acts_are ∙ ap (λ (x : List Act). Got f ∷ (x ++ told)) (sym (since ∙ whole)) in
+    subst (λ (x : List Act). GoesOn s new past (Got f) x) same
+    (subst (λ (x : Setting). GoesOn x new past (Got f) acts) (sym e) (other_own old new s.listens past f n st ended_now acts i w may))
 
 -- ## Room
 

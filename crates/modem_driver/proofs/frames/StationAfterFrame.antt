@@ -1,5 +1,5 @@
 -- A frame came, and what it calls for was sent: how the station stands, and what it sent.
-use Rattle.std.specs.Prelude.{zero, suc, ◌≡◌, ℕ, ◌+◌, ◌/◌, ◌%◌, ◌<◌, ◌≤◌, ◌==◌, ◌&&◌, not, nat_le, min, Bool, true, false, List, [], ◌∷◌, ◌++◌, length, take, map, slice_get, refl, Option, None, Some, if◌then◌else◌}
+use Rattle.std.specs.Prelude.{zero, suc, ◌≡◌, ℕ, ◌+◌, ◌/◌, ◌%◌, ◌<◌, ◌≤◌, ◌==◌, ◌&&◌, not, nat_le, min, Bool, true, false, List, [], ◌∷◌, ◌++◌, length, take, drop, map, slice_get, refl, Option, None, Some, if◌then◌else◌}
 use Rattle.std.specs.List.{list_all}
 use Rattle.std.proofs.Common.{ap, sym, ◌∙◌, subst, arith, append-nil, append_assoc}
 use Rattle.std.proofs.lemmas.Bool.{and_parts}
@@ -85,17 +85,30 @@ behind : (xs ys : List Frame) → slice_get (xs ++ ys) (length xs) ≡ slice_get
 behind [] ys = refl
 behind (x ∷ xs) ys = behind xs ys
 
+drop_front : (xs ys : List Frame) → drop (length xs) (xs ++ ys) ≡ ys
+drop_front [] ys = refl
+drop_front (x ∷ xs) ys = drop_front xs ys
+
 -- the frames that were sent stand behind those that waited
-pub sent_there : (v : Core) (l : UrcKind → Bool) (past : List Act) (r : Runs v past) (f : Frame) (st : Station) → IsSound v → is_lost past ≡ false → station_fits.StationFits st (seen_then v r.seen f)
-    → slice_get st.queue (length v.station.queue) ≡ slice_get (frames_in (own v l) past (Got f)) 0
-sent_there v l past r f st i live h =
+pub queue_there : (v : Core) (l : UrcKind → Bool) (past : List Act) (r : Runs v past) (f : Frame) (st : Station) → IsSound v → is_lost past ≡ false → station_fits.StationFits st (seen_then v r.seen f)
+    → st.queue ≡ v.station.queue ++ frames_in (own v l) past (Got f)
+queue_there v l past r f st i live h =
     let fs = frames_in (own v l) past (Got f) in
     let gs = station_calls (setting_of v.station) r.seen (station.Got f) in
     let same : gs ≡ fs = sym (frames_same v l past r f i live) in
     let control : Controls gs = subst Controls (sym same) (frames_control (own v l) (seen (own v l) past) (Got f)) in
-    let all : st.queue ≡ v.station.queue ++ fs
-    = sym h.queue_is ∙ (queue_sent gs (station.Got f ∷ r.seen) control ∙ (ap (λ (q : List Frame). q ++ gs) r.fits.queue_is ∙ ap (λ (w : List Frame). v.station.queue ++ w) same)) in
-    ap (λ (q : List Frame). slice_get q (length v.station.queue)) all ∙ behind v.station.queue fs
+    sym h.queue_is ∙ (queue_sent gs (station.Got f ∷ r.seen) control ∙ (ap (λ (q : List Frame). q ++ gs) r.fits.queue_is ∙ ap (λ (w : List Frame). v.station.queue ++ w) same))
+
+pub sent_there : (v : Core) (l : UrcKind → Bool) (past : List Act) (r : Runs v past) (f : Frame) (st : Station) → IsSound v → is_lost past ≡ false → station_fits.StationFits st (seen_then v r.seen f)
+    → slice_get st.queue (length v.station.queue) ≡ slice_get (frames_in (own v l) past (Got f)) 0
+sent_there v l past r f st i live h =
+    ap (λ (q : List Frame). slice_get q (length v.station.queue)) (queue_there v l past r f st i live h) ∙ behind v.station.queue (frames_in (own v l) past (Got f))
+
+-- so they are what was queued since
+pub queued_since : (v : Core) (l : UrcKind → Bool) (past : List Act) (r : Runs v past) (f : Frame) (st : Station) → IsSound v → is_lost past ≡ false → station_fits.StationFits st (seen_then v r.seen f)
+    → drop (length v.station.queue) st.queue ≡ frames_in (own v l) past (Got f)
+queued_since v l past r f st i live h =
+    ap (drop (length v.station.queue)) (queue_there v l past r f st i live h) ∙ drop_front v.station.queue (frames_in (own v l) past (Got f))
 
 -- ## At most one, and no longer than its room
 

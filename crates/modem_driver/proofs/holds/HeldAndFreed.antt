@@ -369,6 +369,11 @@ turn_handles v new w d go f acts role lost size o n k h s past m =
     = ap (map act_of) h ∙ (ap (λ (a : Act). a ∷ Sent (kept_frame f) ∷ []) (flow_acts d go) ∙ ap (λ (g : Frame). flow_act d.number go ∷ Sent g ∷ []) k) in
     subst (λ (x : List Act). GoesOn s new past (flow_act d.number go) x × HoldsFit new (after past x)) (sym acts_are) (turn_on s v new past w d.number go role lost size o m n)
 
+pub turns_since : (v new : Core) (w : Station) (d : ℕ) (go : Bool) → v.station.role ≡ Initiator → v.lost ≡ false → length v.lanes ≡ 62 → Flowing v w d go
+    → new ≡ record v { station = w; lanes = turned v.lanes d (not go) } → TurnsFlow v new d go (flow_act d go ∷ Sent (flow_frame d go Initiator) ∷ [])
+unfolding TurnsFlow
+turns_since v new w d go role lost size o n s past m = turn_on s v new past w d go role lost size o m n
+
 refusal_by : (o r room : Bool) (x : StationError) → or_else (if not (o && r) then Some why.NotOpen else None) (if room && true then None else Some why.NoRoom) ≡ Some x → o ≡ true → r ≡ true → (room && true) ≡ false
 refusal_by true true true x h k e = cc
 refusal_by true true false x h k e = refl

@@ -116,7 +116,7 @@ state_then s past q fs d h =
 pub plain_state : (r : Role) (d : ℕ) (x : List station.Act) → state_of r d (without_calls x) ≡ state_of r d x
 plain_state r d x = ap (λ (s : States). s.own) (same_states r d x)
 
-accept_on : (s : Setting) (v : Core) (past : List Act) (q : Request) (w : Station) (e : Bool) → Live s v past → MayCome s v past (Took q) → Accepts s v past q w e → v.lost ≡ false
+pub accept_on : (s : Setting) (v : Core) (past : List Act) (q : Request) (w : Station) (e : Bool) → Live s v past → MayCome s v past (Took q) → Accepts s v past q w e → v.lost ≡ false
     → GoesOn s (record v { station = w; hand = left_by (told_by happened.Took e (state_shown w false)) v.hand ++ q ∷ [] }) past (Took q)
     (Took q ∷ (map Sent (asking s.role q.ask) ++ map act_of (told_to (told_by happened.Took e (state_shown w false)) v.hand)))
 accept_on s v past q w e live m a lost =

@@ -127,7 +127,7 @@ pub and_not : (b : Bool) → (b && not b) ≡ false
 and_not true = refl
 and_not false = refl
 
-close_accepts : (v : Core) (w : Station) (q : Request) (d : Dlci) → length v.hand < 128 → Closes v w q d → (s : Setting) (past : List Act) → Live s v past → MayCome s v past (Took q) → Accepts s v past q w false
+pub close_accepts : (v : Core) (w : Station) (q : Request) (d : Dlci) → length v.hand < 128 → Closes v w q d → (s : Setting) (past : List Act) → Live s v past → MayCome s v past (Took q) → Accepts s v past q w false
 close_accepts v w q d few o s past l m =
     let n = d.number in
     let st = v.station in

@@ -179,7 +179,7 @@ open_fits : (v : Core) (w : Station) (q : Request) (d : Dlci) (s : Setting) (pas
 open_fits v w q d s past o l = called_fits v.station w l.runs.seen (station.Open d.number) l.runs.fits d.in_range o.taken_on o.goes_on
 
 -- those in hand wait on
-open_waits : (v : Core) (w : Station) (q : Request) (d : Dlci) (s : Setting) (past : List Act) → Opens v w q d → Live s v past → AllWait (state_shown w false) v.hand
+pub open_waits : (v : Core) (w : Station) (q : Request) (d : Dlci) (s : Setting) (past : List Act) → Opens v w q d → Live s v past → AllWait (state_shown w false) v.hand
 open_waits v w q d s past o l =
     let n = d.number in
     let free = free_of v.station n o.taken_on in
@@ -188,7 +188,7 @@ open_waits v w q d s past o l =
     (λ e b k. ap as_shown (after_sabm v.station w n l.runs.seen l.runs.fits o.goes_on.setting (open_fits v w q d s past o l) e b
     ∙ ap (λ (x : Bool). if x then at_sent (channel_at v.station e).state Sabm else (channel_at v.station e).state) k)) v.hand l.runs.waits
 
-open_accepts : (v : Core) (w : Station) (q : Request) (d : Dlci) → length v.hand < 128 → Opens v w q d → (s : Setting) (past : List Act) → Live s v past → MayCome s v past (Took q) → Accepts s v past q w false
+pub open_accepts : (v : Core) (w : Station) (q : Request) (d : Dlci) → length v.hand < 128 → Opens v w q d → (s : Setting) (past : List Act) → Live s v past → MayCome s v past (Took q) → Accepts s v past q w false
 open_accepts v w q d few o s past l m =
     let n = d.number in
     let st = v.station in

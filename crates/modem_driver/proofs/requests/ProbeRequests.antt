@@ -183,10 +183,10 @@ opened_shown (IsStopping n) = refl
 short_so : (n : ℕ) → n ≤ 16 → nat_le n 16 ≡ true
 short_so n h = grind (arith, nat_tests)
 
-probe_wait : (v : Core) (w : Station) (q : Request) (octets : List ℕ) (s : Setting) (past : List Act) → Probes v w q octets → Live s v past → AllWait (state_shown w false) v.hand
+pub probe_wait : (v : Core) (w : Station) (q : Request) (octets : List ℕ) (s : Setting) (past : List Act) → Probes v w q octets → Live s v past → AllWait (state_shown w false) v.hand
 probe_wait v w q octets s past o l = all_same (state_shown v.station false) (state_shown w false) (λ e b. ap as_shown (probe_states v w q octets s past o l e b)) v.hand l.runs.waits
 
-probe_accepts : (v : Core) (w : Station) (q : Request) (octets : List ℕ) → length v.hand < 128 → Probes v w q octets → (s : Setting) (past : List Act) → Live s v past → MayCome s v past (Took q) → Accepts s v past q w false
+pub probe_accepts : (v : Core) (w : Station) (q : Request) (octets : List ℕ) → length v.hand < 128 → Probes v w q octets → (s : Setting) (past : List Act) → Live s v past → MayCome s v past (Took q) → Accepts s v past q w false
 probe_accepts v w q octets few o s past l m =
     let st = v.station in
     let c = station.Probe octets in

@@ -94,7 +94,7 @@ stop_asks v w q o = record {
   no_command = λ e. ap (command_on e) o.asks;
 }
 
-stop_accepts : (v : Core) (w : Station) (q : Request) → length v.hand < 128 → Stops v w q → (s : Setting) (past : List Act) → Live s v past → MayCome s v past (Took q) → Accepts s v past q w true
+pub stop_accepts : (v : Core) (w : Station) (q : Request) → length v.hand < 128 → Stops v w q → (s : Setting) (past : List Act) → Live s v past → MayCome s v past (Took q) → Accepts s v past q w true
 stop_accepts v w q few o s past l m =
     let st = v.station in
     let c = station.Stop in

@@ -30,4 +30,3 @@ pub mod CallerOffers
 pub mod ListenerOffers
 pub mod DeskOffers
 pub mod Backlogs
-pub mod MemoryNeeds

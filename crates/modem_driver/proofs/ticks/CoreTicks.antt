@@ -1,5 +1,5 @@
 -- A tick: what is sent again, and what is given up.
-use Rattle.std.specs.Prelude.{◌≡◌, ℕ, ◌+◌, ◌<◌, ◌≤◌, ◌==◌, ◌&&◌, not, Bool, true, false, List, [], ◌∷◌, ◌++◌, length, map, filter, filter_map, take, refl, Option, Some, None, is_none, option_map, if◌then◌else◌}
+use Rattle.std.specs.Prelude.{◌≡◌, ℕ, ◌+◌, ◌<◌, ◌≤◌, ◌==◌, ◌&&◌, not, Bool, true, false, List, [], ◌∷◌, ◌++◌, length, map, filter, filter_map, take, drop, refl, Option, Some, None, is_none, option_map, if◌then◌else◌}
 use Rattle.std.specs.List.{list_any, concat}
 use Rattle.std.proofs.Common.{ap, sym, ◌∙◌, subst, arith}
 use Rattle.std.proofs.lemmas.Bool.{and_from}
@@ -370,6 +370,24 @@ tick_on s v past w ups g e l m t lost =
       fits = subst (λ (x : List Act). Fits new (after past x)) (sym called) there;
       run = subst (λ (x : List Act). IsRun s (after past x)) (sym called) (goes_on s past Tick refl tt m.run m.numbers);
     }
+
+drop_front : (xs ys : List Frame) → drop (length xs) (xs ++ ys) ≡ ys
+drop_front [] ys = refl
+drop_front (x ∷ xs) ys = drop_front xs ys
+
+-- the same, where what was sent is read off the control queue
+pub tick_since : (v new : Core) (w : Station) (ups : List GivenUp) (g e : Bool) → v.station.role ≡ Initiator → v.lost ≡ false → Ticks v w ups g e
+    → new ≡ record v { station = w; hand = left_by (told_by (happened.Tick g) e (state_shown w false)) v.hand }
+    → Handles v new Tick (Tick ∷ (map Sent (drop (length v.station.queue) w.queue) ++ map act_of (told_to (told_by (happened.Tick g) e (state_shown w false)) v.hand)))
+unfolding Handles
+tick_since v new w ups g e role lost t n s past m =
+    let l = live_of s v past Tick role lost m in
+    let c = tick_comes s v past w ups g e l t in
+    let told = map act_of (told_to (told_by (happened.Tick g) e (state_shown w false)) v.hand) in
+    let since : drop (length v.station.queue) w.queue ≡ tick_frames v.station = ap (drop (length v.station.queue)) c.queued ∙ drop_front v.station.queue (tick_frames v.station) in
+    subst (λ (x : Core). GoesOn s x past Tick (Tick ∷ (map Sent (drop (length v.station.queue) w.queue) ++ told))) (sym n)
+    (subst (λ (fs : List Frame). GoesOn s (record v { station = w; hand = left_by (told_by (happened.Tick g) e (state_shown w false)) v.hand }) past Tick (Tick ∷ (map Sent fs ++ told))) (sym since)
+    (tick_on s v past w ups g e l m t lost))
 
 pub tick_handles : (v new : Core) (w : Station) (ups : List GivenUp) (g e : Bool) (acts : List code.Act) → v.station.role ≡ Initiator → v.lost ≡ false → Ticks v w ups g e
     → new ≡ record v { station = w; hand = left_by (told_by (happened.Tick g) e (state_shown w false)) v.hand }

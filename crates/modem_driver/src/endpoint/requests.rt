@@ -35,9 +35,7 @@ impl Endpoint {
             number,
             ask,
         };
-        if let Err(request) = self.machine.take_request(request) {
-            return Err(RequestRefused::new(RequestError::NoMemory, request.ask));
-        }
+        self.machine.take_request(request);
         self.next += 1;
         Ok(number)
     }

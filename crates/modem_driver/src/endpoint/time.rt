@@ -58,7 +58,8 @@ impl Endpoint {
             return Err(SessionFault::Failed);
         }
         frames?;
-        self.machine.lose_line()
+        self.machine.lose_line();
+        Ok(())
     }
 
     /// How many ticks in a row have found the same command first in hand on this connection, by every history that the endpoint

@@ -76,6 +76,16 @@ impl Course {
             _ => {}
         }
     }
+
+    /// Notes whether a call has answered the Stop that was in hand.
+    pub(crate) fn go_on(&mut self, answered: bool)
+        ensures { self.new ≡ course_after self.old answered }
+    {
+        match self {
+            Course::GoesOn if answered => *self = Course::Stopped,
+            _ => {}
+        }
+    }
 }
 
 impl Course {

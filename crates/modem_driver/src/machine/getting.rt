@@ -26,6 +26,14 @@ impl Machine {
         let Some(frame) = self.line_end.peek() else {
             return Ok(false);
         };
+        if self.core.is_other(frame) {
+            let Some(answered) = self.waiting.get(&mut self.core, frame) else {
+                return Ok(false);
+            };
+            self.course.go_on(answered);
+            self.line_end.advance();
+            return Ok(true);
+        }
         let Ok(()) = self.waiting.make_room(frame.info.len()) else {
             return Err(SessionFault::NoMemory);
         };

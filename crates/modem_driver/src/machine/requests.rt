@@ -1,5 +1,5 @@
 //! Requests that a call makes.
-ghost use Rattle.std.specs.Prelude.{◌≡◌, ◌+◌, nat_le, length, None, Some, IfErr, OnOk, OnErr};
+ghost use Rattle.std.specs.Prelude.{◌≡◌, ◌+◌, nat_le, length, None, Some};
 ghost use Rattle.modem_driver.specs.TurnTakes.{TakesAside};
 
 use crate::machine::Machine;
@@ -13,24 +13,11 @@ impl Machine {
         self.waiting.count() >= self.core.hand_left()
     }
 
-    /// Takes a request. It is handed back where there was no memory for it, and nothing changed. The
-    /// condition is that none is kept aside.
-    pub(crate) fn take_request(&mut self, request: Request) -> Result<(), Request>
+    /// Takes a request. The condition is that none is kept aside.
+    pub(crate) fn take_request(&mut self, request: Request)
         requires { self.old.aside ≡ None }
-        ensures takes { OnOk result (TakesAside (record self.old { aside = Some request }) self.new) }
-        ensures err { OnErr result (self.new ≡ self.old) }
-        ensures back { IfErr result (λ r. r ≡ request) }
+        ensures takes { TakesAside (record self.old { aside = Some request }) self.new }
     {
-        if let Some(dlci) = self.core.sends_on(&request.ask) {
-            self.core.send(dlci, request);
-            return Ok(());
-        }
-        match self.core.took(request) {
-            Ok(acts) => {
-                self.waiting.keep(acts);
-                Ok(())
-            }
-            Err((_why, request)) => Err(request),
-        }
+        self.waiting.take(&mut self.core, request);
     }
 }

@@ -1,13 +1,11 @@
 //! A request is taken: the one kept aside, or else the next of the desk.
-ghost use Rattle.std.specs.Prelude.{◌≡◌, ◌≢◌, None, IfOk, OnErr, option_to_list};
+ghost use Rattle.std.specs.Prelude.{◌≡◌, None, option_to_list};
 ghost use Rattle.modem_history.specs.Sessions.{LineView};
 ghost use Rattle.modem_driver.specs.SessionStates.{AreFormed, IsFormedAsk};
-ghost use Rattle.modem_driver.specs.TurnSteps.{turn_state, TakesOne, KeepsAside};
+ghost use Rattle.modem_driver.specs.TurnSteps.{turn_state, TakesOne};
 ghost use Rattle.modem_driver.specs.TurnTakes.{Fetches, TakesIf};
-ghost use Rattle.modem_driver.specs.declared.session.error.SessionFault.TheVariants as fault;
 
 use crate::machine::Machine;
-use crate::session::SessionFault;
 use modem_desk::{Ask, DriverEnd, Request};
 use std::sync::Wait;
 
@@ -46,50 +44,26 @@ impl Machine {
         self.aside = Some(request);
     }
 
-    /// Takes the request that is kept aside, and says whether there was one. Refusal: 1 NoMemory, which
-    /// changes nothing: the request stays aside.
-    fn take_aside(&mut self) -> Result<bool, SessionFault>
-        ensures takes { IfOk result (λ moved. TakesIf moved self.old self.new) }
-        ensures err { OnErr result (self.new ≡ self.old) }
-        ensures no_memory { OnErr result (result ≡ Err fault.NoMemory) }
-        ensures some { OnErr result (self.old.aside ≢ None) }
+    /// Takes the request that is kept aside, and says whether there was one.
+    fn take_aside(&mut self) -> bool
+        ensures { TakesIf result self.old self.new }
     {
         let Some(request) = self.aside.take() else {
-            return Ok(false);
+            return false;
         };
-        if let Some(dlci) = self.core.sends_on(&request.ask) {
-            self.core.send(dlci, request);
-            return Ok(true);
-        }
-        match self.core.took(request) {
-            Ok(acts) => {
-                self.waiting.keep(acts);
-                Ok(true)
-            }
-            Err((_why, request)) => {
-                self.aside = Some(request);
-                Err(SessionFault::NoMemory)
-            }
-        }
+        self.waiting.take(&mut self.core, request);
+        true
     }
 
     /// Takes the request that is kept aside, or else the next of the desk, where those in hand and the
-    /// outcomes that wait are fewer than 128; and says whether it took one. Refusal: 1 NoMemory, which
-    /// keeps the request aside: it is the next to be taken.
-    pub(crate) fn take_one<R: Wait>(
-        &mut self,
-        driver: &mut DriverEnd,
-        rt: &R,
-    ) -> Result<bool, SessionFault>
-        ensures takes { IfOk result (λ moved. (l : LineView)
-            → TakesOne (turn_state l driver.old self.old) (turn_state l driver.new self.new) moved) }
-        ensures keeps { OnErr result ((l : LineView)
-            → KeepsAside (turn_state l driver.old self.old) (turn_state l driver.new self.new)) }
-        ensures no_memory { OnErr result (result ≡ Err fault.NoMemory) }
+    /// outcomes that wait are fewer than 128; and says whether it took one.
+    pub(crate) fn take_one<R: Wait>(&mut self, driver: &mut DriverEnd, rt: &R) -> bool
+        ensures { (l : LineView)
+            → TakesOne (turn_state l driver.old self.old) (turn_state l driver.new self.new) result }
     {
         self.fetch(driver, rt);
         if self.aside.is_none() {
-            return Ok(false);
+            return false;
         }
         self.take_aside()
     }

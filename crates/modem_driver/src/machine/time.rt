@@ -1,12 +1,10 @@
 //! Time that passes, and a line that its caller loses.
-ghost use Rattle.std.specs.Prelude.{◌≡◌, true, false, OnOk, OnErr};
+ghost use Rattle.std.specs.Prelude.{◌≡◌, true, false};
 ghost use Rattle.std.specs.List.{list_any};
 ghost use Rattle.modem_driver.specs.Endpoints.{wants_time};
 ghost use Rattle.modem_driver.specs.SessionStates.{MachineLoses};
-ghost use Rattle.modem_driver.specs.declared.session.error.SessionFault.TheVariants as fault;
 
 use crate::machine::Machine;
-use crate::session::SessionFault;
 use modem_desk::{Ask, Request};
 
 /// Whether it is given up after some ticks: it is no command.
@@ -24,20 +22,14 @@ impl Machine {
         self.core.hand.as_slice().iter().any(wants_time)
     }
 
-    /// A call on the line has failed, and so it is lost: everyone in hand is told so. Refusal: 1
-    /// NoMemory, which changes nothing. The condition is that it wasn't lost before.
-    pub(crate) fn lose_line(&mut self) -> Result<(), SessionFault>
+    /// A call on the line has failed, and so it is lost: everyone in hand is told so. The condition is that it wasn't lost
+    /// before.
+    pub(crate) fn lose_line(&mut self)
         requires { self.old.core.lost ≡ false }
-        ensures loses { OnOk result (MachineLoses (record self.old { faulty = true }) self.new) }
-        ensures gone { OnOk result (self.new.core.lost ≡ true) }
-        ensures err { OnErr result (self.new ≡ self.old) }
-        ensures no_memory { OnErr result (result ≡ Err fault.NoMemory) }
+        ensures loses { MachineLoses (record self.old { faulty = true }) self.new }
+        ensures gone { self.new.core.lost ≡ true }
     {
-        let Ok(acts) = self.core.lost() else {
-            return Err(SessionFault::NoMemory);
-        };
+        self.waiting.lose(&mut self.core);
         self.line_end.fail();
-        self.waiting.keep(acts);
-        Ok(())
     }
 }

@@ -1,17 +1,25 @@
 //! Outcomes and lines that wait for a place.
 ghost use Rattle.std.specs.Prelude.{◌≡◌, ◌≤◌, [], length, map, IfOk, OnOk, IfSome, IfNone, MatchOption, true, All, Contains};
-ghost use Rattle.modem_history.specs.Acts.{act_of};
+ghost use Rattle.std.specs.Prelude.{false, ◌||◌, not};
+ghost use Rattle.mux_frame.specs.Frames.{frame_of};
+ghost use Rattle.mux_station.specs.declared.role.Role.TheVariants.{Initiator};
+ghost use Rattle.mux_frame.specs.Spelling.{most_info};
+ghost use Rattle.modem_driver.specs.Receiving.{HasRoom, reads_data};
+ghost use Rattle.modem_driver.specs.Running.{CoreIsIdle};
+ghost use Rattle.modem_history.specs.Acts.{act_of, Got, Lost, Tick};
+ghost use Rattle.modem_driver.specs.Doing.{Does, Takes};
 ghost use Rattle.modem_history.specs.Sessions.{backlog_in};
 ghost use Rattle.modem_driver.specs.LineQueues.{AreFewOnEach};
 ghost use Rattle.modem_driver.specs.SessionTurns.{IsFirstOf, IsLeast};
 ghost use Rattle.modem_driver.specs.WaitingLists.{Keeps, Puts};
 
+use crate::driver::Core;
 use crate::hand::IN_HAND;
 use crate::machine::line_queue::LineQueue;
 use at_text::UrcKind;
-use modem_desk::{Outcome, Urc};
+use modem_desk::{Outcome, Request, Urc};
 use modem_history::Act;
-use mux_frame::Dlci;
+use mux_frame::{Dlci, FrameView};
 use std::alloc::{AllocError, Global};
 use std::collections::VecDeque;
 use std::marker::Model;
@@ -93,6 +101,54 @@ impl Waiting {
         for act in acts {
             self.put(act);
         }
+    }
+
+    /// A tick of the core: what it tells waits behind the others. Says whether the Stop that was in hand has ended by it.
+    pub(crate) fn tick(&mut self, core: &mut Core) -> bool
+        requires { core.old.lost ≡ false }
+        ensures does { Does core.old core.new self.old.outcomes self.new.outcomes Tick result }
+        ensures lines { self.new.lines ≡ self.old.lines }
+        ensures n1 { core.new.station.n1 ≡ core.old.station.n1 }
+    {
+        core.do_tick(&mut self.outcomes)
+    }
+
+    /// The core takes a request: what it tells waits behind the others.
+    pub(crate) fn take(&mut self, core: &mut Core, request: Request)
+        ensures takes { Takes core.old core.new self.old.outcomes self.new.outcomes request }
+        ensures lines { self.new.lines ≡ self.old.lines }
+        ensures n1 { core.new.station.n1 ≡ core.old.station.n1 }
+        ensures role { core.old.station.role ≡ Initiator }
+    {
+        core.ask(request, &mut self.outcomes)
+    }
+
+    /// A frame that isn't data of an open connection: what the core tells for it waits behind the others. Says whether the
+    /// Stop that was in hand has ended by it; nothing where the control queue has no room for what it calls for.
+    pub(crate) fn get(&mut self, core: &mut Core, frame: FrameView<'_>) -> Option<bool>
+        requires short { length frame.info.now ≤ most_info core.old.station.n1 frame.kind }
+        requires other { not (core.old.lost || reads_data core.old (frame_of frame)) ≡ true }
+        ensures does { IfSome result (λ answered.
+            Does core.old core.new self.old.outcomes self.new.outcomes (Got (frame_of frame.entry)) answered) }
+        ensures no_room { IfNone result (HasRoom core.old (Got (frame_of frame.entry)) false) }
+        ensures stays { IfNone result (core.new ≡ core.old) }
+        ensures untold { IfNone result (self.new.outcomes ≡ self.old.outcomes) }
+        ensures lines { self.new.lines ≡ self.old.lines }
+        ensures n1 { core.new.station.n1 ≡ core.old.station.n1 }
+        ensures never_full { IfNone result (¬ CoreIsIdle core.old) }
+        ensures lost { core.new.lost ≡ core.old.lost }
+    {
+        core.do_other(frame, &mut self.outcomes)
+    }
+
+    /// The core's line is lost: what it tells waits behind the others.
+    pub(crate) fn lose(&mut self, core: &mut Core) -> bool
+        ensures does { Does core.old core.new self.old.outcomes self.new.outcomes Lost result }
+        ensures gone { core.new.lost ≡ true }
+        ensures lines { self.new.lines ≡ self.old.lines }
+        ensures n1 { core.new.station.n1 ≡ core.old.station.n1 }
+    {
+        core.do_loss(&mut self.outcomes)
     }
 
     /// How many outcomes wait.

@@ -1,8 +1,7 @@
 //! Turns of a session.
 ghost use Rattle.std.specs.Prelude.{◌≡◌, ◌≢◌, true, false, None, Err, IfOk, IfErr, OnErr};
 ghost use Rattle.modem_driver.specs.SessionStates.{has_lost_line, line_by, TakesMore};
-ghost use Rattle.modem_driver.specs.MemoryNeeds.{IsShortOfMemory, OwesFlow};
-ghost use Rattle.modem_driver.specs.TurnSteps.{Places, Checks, ChecksPart, SendsOn, Writes, Gets, ReadsOn, TakesOne, KeepsAside};
+ghost use Rattle.modem_driver.specs.TurnSteps.{Places, Checks, SendsOn, Writes, Gets, ReadsOn, TakesOne};
 ghost use Rattle.modem_driver.specs.SessionTurns.{standing_of, turn_answer, fault_of, Answers, HasNoPlace, HasTurned, LeavesLost, LosesOr, TakesTurn, Faults};
 ghost use Rattle.modem_driver.specs.declared.session.error.SessionFault.TheVariants as fault;
 
@@ -60,15 +59,10 @@ impl<L: SerialLine, R: Wait + Drop> Session<L, R> {
     }
 
     /// Looks at the backlogs.
-    fn check_backlogs(&mut self) -> Result<bool, SessionFault>
-        ensures checks { IfOk result (λ moved. Checks
+    fn check_backlogs(&mut self) -> bool
+        ensures checks { Checks
             (standing_of (line_by L.received L.sent L.calls L.failures L.empty_reads L.stalled_writes) self.old)
-            (standing_of (line_by L.received L.sent L.calls L.failures L.empty_reads L.stalled_writes) self.new) moved) }
-        ensures part { OnErr result (ChecksPart
-            (standing_of (line_by L.received L.sent L.calls L.failures L.empty_reads L.stalled_writes) self.old)
-            (standing_of (line_by L.received L.sent L.calls L.failures L.empty_reads L.stalled_writes) self.new)) }
-        ensures owes { OnErr result (OwesFlow self.new.machine) }
-        ensures no_memory { OnErr result (result ≡ Err fault.NoMemory) }
+            (standing_of (line_by L.received L.sent L.calls L.failures L.empty_reads L.stalled_writes) self.new) result }
         ensures line { self.new.line ≡ self.old.line }
     {
         self.machine.check_backlogs()
@@ -119,14 +113,10 @@ impl<L: SerialLine, R: Wait + Drop> Session<L, R> {
     }
 
     /// Takes a request.
-    fn take_one(&mut self) -> Result<bool, SessionFault>
-        ensures takes { IfOk result (λ moved. TakesOne
+    fn take_one(&mut self) -> bool
+        ensures takes { TakesOne
             (standing_of (line_by L.received L.sent L.calls L.failures L.empty_reads L.stalled_writes) self.old)
-            (standing_of (line_by L.received L.sent L.calls L.failures L.empty_reads L.stalled_writes) self.new) moved) }
-        ensures keeps { OnErr result (KeepsAside
-            (standing_of (line_by L.received L.sent L.calls L.failures L.empty_reads L.stalled_writes) self.old)
-            (standing_of (line_by L.received L.sent L.calls L.failures L.empty_reads L.stalled_writes) self.new)) }
-        ensures no_memory { OnErr result (result ≡ Err fault.NoMemory) }
+            (standing_of (line_by L.received L.sent L.calls L.failures L.empty_reads L.stalled_writes) self.new) result }
         ensures line { self.new.line ≡ self.old.line }
     {
         self.machine.take_one(&mut self.driver, &self.rt)
@@ -137,30 +127,25 @@ impl<L: SerialLine, R: Wait + Drop> Session<L, R> {
     fn lose_line(&mut self) -> SessionFault
         requires { self.old.machine.faulty ≡ true }
         ensures lost { LeavesLost result self.new }
+        ensures never { result ≢ fault.NoMemory }
         ensures line { self.new.line ≡ self.old.line }
         ensures loses { LosesOr result (standing_of (line_by L.received L.sent L.calls L.failures L.empty_reads L.stalled_writes) self.old)
             (standing_of (line_by L.received L.sent L.calls L.failures L.empty_reads L.stalled_writes) self.new) }
-        ensures memory { result ≡ fault.NoMemory
-            → (self.new.machine.faulty ≡ true) × (self.new.machine.core.lost ≡ false) }
     {
         if self.machine.core.lost {
             return SessionFault::Failed;
         }
-        match self.machine.lose() {
-            Ok(()) => SessionFault::Line,
-            Err(_) => SessionFault::NoMemory,
-        }
+        self.machine.lose();
+        SessionFault::Line
     }
 
     /// Does each of these once, in this order: offers the outcomes and lines that wait to the desk;
     /// looks at the backlog of each connection; where all octets are written, takes the next frame
     /// into the output; writes; handles the frame at hand; where no octets wait to be fed, reads, and
     /// feeds the deframer; takes a request, where those in hand and the outcomes that wait are fewer
-    /// than 128. Faults, which end the turn: 1 NoMemory, after which what was done stands and the next
-    /// turn goes on with what needed memory; 2 Line, where a call on the line failed in this turn, or in an earlier one since
-    /// which every turn answered NoMemory; 3 Failed in every turn after that, which still offers to the
-    /// desk what waits.
-    #[tactic(auto, using(crate::proofs::sessions::steps::MemoryNeeds::short_of_loss))]
+    /// than 128. Faults, which end the turn: 1 NoMemory for the frame at hand, which stays there, while
+    /// what was done before it stands; 2 Line, where a call on the line failed in this turn; 3 Failed in
+    /// every turn after that, which still offers to the desk what waits.
     pub fn turn(&mut self) -> Result<Turn, SessionFault>
         ensures turns { IfOk result (λ says. TakesTurn (line_by L.received L.sent L.calls L.failures L.empty_reads L.stalled_writes)
             self.old self.new (turn_answer says)) }
@@ -170,8 +155,7 @@ impl<L: SerialLine, R: Wait + Drop> Session<L, R> {
             (standing_of (line_by L.received L.sent L.calls L.failures L.empty_reads L.stalled_writes) self.new) }
         ensures lost { IfErr result (λ why. LeavesLost why self.new) }
         ensures failed { has_lost_line self.old ≡ true → result ≡ Err fault.Failed }
-        ensures memory { result ≡ Err fault.NoMemory → IsShortOfMemory
-            (standing_of (line_by L.received L.sent L.calls L.failures L.empty_reads L.stalled_writes) self.new) }
+        ensures memory { result ≡ Err fault.NoMemory → self.new.machine.deframer.next ≢ None }
         ensures takes { TakesMore self.old.driver self.new.driver }
         ensures full { IfOk result (λ says. HasNoPlace self.new.driver (turn_answer says)) }
         ensures beyond { L.other_side self.new.line ≡ L.other_side self.old.line }
@@ -183,9 +167,7 @@ impl<L: SerialLine, R: Wait + Drop> Session<L, R> {
         if self.is_faulty() {
             return Err(self.lose_line());
         }
-        let Ok(checked) = self.check_backlogs() else {
-            return Err(SessionFault::NoMemory);
-        };
+        let checked = self.check_backlogs();
         let sent = self.send_on();
         let wrote = self.write_on();
         if self.is_faulty() {
@@ -198,9 +180,7 @@ impl<L: SerialLine, R: Wait + Drop> Session<L, R> {
         if self.is_faulty() {
             return Err(self.lose_line());
         }
-        let Ok(took) = self.take_one() else {
-            return Err(SessionFault::NoMemory);
-        };
+        let took = self.take_one();
         let moved = placed | checked | sent | wrote | got | read | took;
         Ok(self.answer(moved))
     }

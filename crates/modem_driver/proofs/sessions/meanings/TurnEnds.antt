@@ -8,7 +8,7 @@ use Rattle.modem_history.specs.EveryTurn.{GoesFault}
 use Rattle.modem_driver.specs.declared.session.error.SessionFault.{SessionFault}
 use Rattle.modem_driver.specs.SessionStates.{Machine, MachineLoses}
 use Rattle.modem_driver.specs.SessionTurns.{HasTurned, LosesOr, fault_of}
-use Rattle.modem_driver.specs.TurnSteps.{TurnState, StandingFits, Leads, Places, Checks, ChecksPart, SendsOn, Writes, Gets, ReadsOn, TakesOne, KeepsAside, view_of, inside}
+use Rattle.modem_driver.specs.TurnSteps.{TurnState, StandingFits, Leads, Places, Checks, SendsOn, Writes, Gets, ReadsOn, TakesOne, KeepsAside, view_of, inside}
 use Rattle.modem_driver.proofs.sessions.meanings.WholeTurns.{Went, one_at_most, has_turned, placed, went_placed, went_step, went_wrote, went_read, went_took, went_aside, offers_what_waits}
 use Rattle.modem_driver.proofs.sessions.meanings.TurnFaults.{has_failed, places_alone, none_loses, wants_memory, loses_line}
 
@@ -106,11 +106,6 @@ pub lost_reading : {s0 s1 s2 s3 s4 s5 s6 : TurnState} {m1 m2 m3 m4 m5 m6 : Bool}
 lost_reading {s0} {s1} {s2} {s3} {s4} {s5} {s6} {m1} {m2} {m3} {m4} {m5} {m6} why s p k n w g r l sound = lost_after why s0 s6 s (record (placed p) { write = w.write; read = r.read }) ((k.acts ++ n.acts) ++ g.acts) refl (read p k n w g r) l (inl sound)
 
 -- ## There is no memory
-
-pub checks_in_vain : {s0 s1 : TurnState} {m1 : Bool} → (s : TurnState) (p : Places s0 s1 m1) → ChecksPart s1 s → s0.machine.faulty ≡ false → s0.machine.core.lost ≡ false → FaultBy s0 s TurnFault.NoMemory
-checks_in_vain {s0} {s1} {m1} s p k sound live =
-    in_vain s0 s (placed p) k.acts
-    (one_at_most s0 s (placed p) k.acts (went_step s0 s1 s (placed p) 0 0 [] k.acts refl (went_placed s0 s1 m1 p) k.leads k.adds (ap (λ (s : TurnState). s.line) k.stays) (ap (λ (s : TurnState). s.driver) k.stays) (ap (λ (s : TurnState). s.machine.unfed) k.stays) (λ end e. ap (λ (s : TurnState). s.machine.course) k.stays ∙ e))) (inl sound) live
 
 pub gets_in_vain : {s0 s1 s2 s3 s4 : TurnState} {m1 m2 m3 m4 : Bool} → (s : TurnState) (p : Places s0 s1 m1) (k : Checks s1 s2 m2) (n : SendsOn s2 s3 m3) (w : Writes s3 s4 m4) → s ≡ s4 → s0.machine.faulty ≡ false → s0.machine.core.lost ≡ false → FaultBy s0 s TurnFault.NoMemory
 gets_in_vain {s0} {s1} {s2} {s3} {s4} {m1} {m2} {m3} {m4} s p k n w same sound live =

@@ -26,7 +26,7 @@ use Rattle.modem_driver.specs.BacklogChecks.{ChecksOne, SettlesOne}
 use Rattle.modem_driver.specs.LineQueues.{AreFewOnEach}
 use Rattle.modem_history.specs.EveryTurn.{is_check}
 use Rattle.modem_driver.specs.SessionStates.{Machine, MachineGoes, seen_by, end_of}
-use Rattle.modem_driver.specs.TurnSteps.{Leads, AddsAll, Checks, ChecksPart, turn_state, is_more}
+use Rattle.modem_driver.specs.TurnSteps.{Leads, AddsAll, Checks, turn_state, is_more}
 use Rattle.modem_driver.proofs.sessions.steps.CoreCalls.{FitsMachine}
 use Rattle.modem_driver.proofs.sessions.steps.CollectedActs.{told_both}
 use Rattle.modem_driver.proofs.sessions.steps.ListenedLines.{heard_both}
@@ -287,14 +287,3 @@ checks_all first now number moved last any l d = by_last (subst (λ (n : ℕ). C
       stays = ap (turn_state l d) so.stays;
     }
 
-part_of : (first now new : Machine) (number : ℕ) (moved : Bool) → ChecksSo first now number moved → new ≡ now → (l : LineView) (d : DriverView) → ChecksPart (turn_state l d first) (turn_state l d new)
-part_of first now new number moved so same l d = subst (λ (k : Machine). ChecksPart (turn_state l d first) (turn_state l d k)) (sym same) (record {
-  acts = so.acts;
-  leads = leads_by first now so.acts so.goes l d;
-  adds = adds_none first now number moved so l d;
-  stays = ap (turn_state l d) so.stays;
-})
-
-pub checks_part : (first now new : Machine) (number : ℕ) (moved : Bool) (r : Result Bool SessionFault) → ChecksSo first now number moved → new ≡ now → OnErr r ((l : LineView) (d : DriverView) → ChecksPart (turn_state l d first) (turn_state l d new))
-checks_part first now new number moved (Ok done) so same = tt
-checks_part first now new number moved (Err why) so same = part_of first now new number moved so same

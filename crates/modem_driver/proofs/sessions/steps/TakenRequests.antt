@@ -11,7 +11,7 @@ use Rattle.modem_history.specs.Turns.{request_given}
 use Rattle.modem_driver.specs.declared.session.error.SessionFault.{SessionFault}
 use Rattle.modem_driver.specs.SessionStates.{AreFormed, TakesMore}
 use Rattle.modem_driver.specs.SessionTurns.{LosesOr}
-use Rattle.modem_driver.specs.TurnSteps.{TurnState, Places, Checks, ChecksPart, SendsOn, Writes, Gets, ReadsOn, TakesOne, KeepsAside}
+use Rattle.modem_driver.specs.TurnSteps.{TurnState, Places, Checks, SendsOn, Writes, Gets, ReadsOn, TakesOne, KeepsAside}
 use Rattle.modem_driver.proofs.sessions.steps.OutcomeCounts.{is_caller}
 
 -- ## None, and one after the other
@@ -52,9 +52,6 @@ lost_driver SessionFault.Failed old new h = ap (λ (s : TurnState). s.driver) h.
 
 pub checked_driver : {s1 s2 : TurnState} {m2 : Bool} → Checks s1 s2 m2 → s2.driver ≡ s1.driver
 checked_driver {s1} {s2} {m2} k = ap (λ (s : TurnState). s.driver) k.stays
-
-pub part_driver : {s1 s2 : TurnState} → ChecksPart s1 s2 → s2.driver ≡ s1.driver
-part_driver {s1} {s2} k = ap (λ (s : TurnState). s.driver) k.stays
 
 pub wrote_driver : {s1 s2 s3 s4 : TurnState} {m2 m3 m4 : Bool} → Checks s1 s2 m2 → SendsOn s2 s3 m3 → Writes s3 s4 m4 → s4.driver ≡ s1.driver
 wrote_driver {s1} {s2} {s3} {s4} {m2} {m3} {m4} k n w = ap (λ (s : TurnState). s.driver) w.stays ∙ (ap (λ (s : TurnState). s.driver) n.stays ∙ checked_driver k)

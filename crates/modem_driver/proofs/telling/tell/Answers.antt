@@ -16,8 +16,8 @@ loop-place-preserved-in-Some c =
     let len = c.len.ensures.value in
     let h1 : c.loop-place.place < length hand = omega (arith, test, len) in
     let looked : c.index-as_slice-place.result ≡ slice_index_or hand c.loop-place.place c.index-as_slice-place.result = c.index-as_slice-place.is ∙ ap (λ (v : List Request). slice_index_or v c.loop-place.place c.index-as_slice-place.result) c.as_slice.ensures in
-    told_on says c.loop-place.place hand c.args.hand.now c.loop-place.acts c.args.acts.now c.loop-place.invariant h1 c.index-as_slice-place.result c.remove-request.result c.in-Some.answer c.remove-request.new.self c.push.new.self
-    looked (ap (λ (r : Request). says r.ask) c.index-as_slice-place.is ∙ (sym c.told_by.ensures ∙ c.in-Some.is)) c.remove-request.ensures.value c.remove-request.ensures.items c.push.ensures
+    told_on says c.loop-place.place hand c.args.hand.now c.loop-place.acts c.args.acts.now c.loop-place.invariant h1 c.index-as_slice-place.result c.remove-asked.result c.in-Some.answer c.remove-asked.new.self c.push.new.self
+    looked (ap (λ (r : Request). says r.ask) c.index-as_slice-place.is ∙ (sym c.told_by.ensures ∙ c.in-Some.is)) c.remove-asked.ensures.value c.remove-asked.ensures.items c.push.ensures
 
 -- src/telling.rt:119:5
 pub loop-place-preserved-in-Some-2 : goal.loop-place-preserved-in-Some-2
@@ -28,5 +28,5 @@ loop-place-preserved-in-Some-2 c =
     let len = c.len.ensures.value in
     let h1 : c.loop-place.place < length hand = omega (arith, test, len) in
     let looked : c.index-as_slice-place.result ≡ slice_index_or hand c.loop-place.place c.index-as_slice-place.result = c.index-as_slice-place.is ∙ ap (λ (v : List Request). slice_index_or v c.loop-place.place c.index-as_slice-place.result) c.as_slice.ensures in
-    told_on says c.loop-place.place hand c.args.hand.now c.loop-place.acts c.args.acts.now c.loop-place.invariant h1 c.index-as_slice-place.result c.remove-request.result c.in-Some.answer c.remove-request.new.self c.push.new.self
-    looked (ap (λ (r : Request). says r.ask) c.index-as_slice-place.is ∙ (sym c.told_by.ensures ∙ c.in-Some.is)) c.remove-request.ensures.value c.remove-request.ensures.items c.push.ensures
+    told_on says c.loop-place.place hand c.args.hand.now c.loop-place.acts c.args.acts.now c.loop-place.invariant h1 c.index-as_slice-place.result c.remove-asked.result c.in-Some.answer c.remove-asked.new.self c.push.new.self
+    looked (ap (λ (r : Request). says r.ask) c.index-as_slice-place.is ∙ (sym c.told_by.ensures ∙ c.in-Some.is)) c.remove-asked.ensures.value c.remove-asked.ensures.items c.push.ensures

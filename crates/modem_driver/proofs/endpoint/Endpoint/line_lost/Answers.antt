@@ -1,8 +1,7 @@
 -- Frames at hand were handled alone.
 use Rattle.std.proofs.Common.{subst}
-use Rattle.std.specs.Prelude.{OnErr}
 use Rattle.modem_driver.specs.Endpoints.{EndpointState, Refuses}
-use Rattle.modem_driver.proofs.endpoints.Requests.{always_err, refuses, refused_by}
+use Rattle.modem_driver.proofs.endpoints.Requests.{always_err, refuses}
 use Rattle.modem_driver.proofs.endpoint.Endpoint.line_lost.Goals as goal
 
 pub returns-then-self-clause-refused : goal.returns-then-self-clause-refused
@@ -10,12 +9,6 @@ returns-then-self-clause-refused c =
     let e = c.self.inside in
     subst (λ (v : EndpointState). Refuses v (record { machine = c.handle_frames-frames.new.self; next = e.next })) c.self.view_is
     (refuses e.machine c.handle_frames-frames.new.self e.next c.handle_frames-frames.ensures.handles)
-
-pub returns-clause-refused : goal.returns-clause-refused
-returns-clause-refused c =
-    let e = c.self.inside in
-    subst (λ (v : EndpointState). OnErr c.lose_line.result (Refuses v (record { machine = c.lose_line.new.self; next = e.next }))) c.self.view_is
-    (refused_by c.lose_line.result e.machine c.handle_frames-frames.new.self c.lose_line.new.self e.next c.handle_frames-frames.ensures.handles c.lose_line.ensures.err)
 
 pub returns-in_err-frames-clause-refused : goal.returns-in_err-frames-clause-refused
 returns-in_err-frames-clause-refused c =

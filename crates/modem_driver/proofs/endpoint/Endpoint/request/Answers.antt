@@ -1,8 +1,9 @@
 -- Frames at hand were handled alone.
-use Rattle.std.proofs.Common.{sym, subst}
-use Rattle.modem_driver.specs.Endpoints.{EndpointState, Refuses}
-use Rattle.modem_driver.specs.SessionStates.{Machine}
-use Rattle.modem_driver.proofs.endpoints.Requests.{refuses}
+use Rattle.std.proofs.Common.{◌≡◌, ◌<◌, ◌+◌, ℕ, false, length, refl, sym, ◌∙◌, subst, arith}
+use Rattle.std.specs.Prelude.{nat_le}
+use Rattle.std.proofs.lemmas.Bool.Decides.{nat_tests}
+use Rattle.modem_driver.specs.Endpoints.{EndpointState, Numbers, Refuses}
+use Rattle.modem_driver.proofs.endpoints.Requests.{numbers, refuses}
 use Rattle.modem_driver.proofs.endpoint.Endpoint.request.Goals as goal
 
 pub returns-in_default-clause-refused : goal.returns-in_default-clause-refused
@@ -17,9 +18,14 @@ returns-then-self-clause-refused c =
     subst (λ (v : EndpointState). Refuses v (record { machine = c.handle_frames-handled.new.self; next = e.next })) c.self.view_is
     (refuses e.machine c.handle_frames-handled.new.self e.next c.handle_frames-handled.ensures.handles)
 
-pub returns-in-Err-clause-refused : goal.returns-in-Err-clause-refused
-returns-in-Err-clause-refused c =
+pub returns-clause-takes : goal.returns-clause-takes
+returns-clause-takes c =
     let e = c.self.inside in
-    subst (λ (k : Machine). Refuses c.args.self.now (record { machine = k; next = e.next })) (sym c.in-Err.ensures.err)
-    (subst (λ (v : EndpointState). Refuses v (record { machine = c.handle_frames-handled.new.self; next = e.next })) c.self.view_is
-    (refuses e.machine c.handle_frames-handled.new.self e.next c.handle_frames-handled.ensures.handles))
+    let k = c.handle_frames-handled.new.self in
+    let n = length k.core.hand + length k.unplaced in
+    let room : n < 128 = not_full n (sym c.is_full.ensures ∙ c.if-is_full.false) in
+    subst (λ (v : EndpointState). Numbers v (record { machine = c.take_request.new.self; next = e.next + 1 }) c.args.ask e.next) c.self.view_is
+    (numbers e.machine k c.take_request.new.self e.next (e.next + 1) c.args.ask c.handle_frames-handled.ensures.handles c.in-Ok.ensures.lacks (c.handle_frames-handled.ensures.aside ∙ c.self.invariant.bare) room c.take_request.ensures.takes refl)
+  where
+    not_full : (n : ℕ) → nat_le 128 n ≡ false → n < 128
+    not_full n h = grind (arith, nat_tests)

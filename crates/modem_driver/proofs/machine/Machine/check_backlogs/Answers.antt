@@ -5,8 +5,7 @@ use Rattle.modem_driver.specs.Holding.{CallsForNothing}
 use Rattle.modem_driver.specs.BacklogChecks.{ChecksOne}
 use Rattle.modem_driver.specs.LineQueues.{AreFewOnEach}
 use Rattle.modem_driver.specs.SessionStates.{Machine}
-use Rattle.modem_driver.proofs.sessions.steps.Backlogs.{checks_few, checks_first, checks_more, checks_all, checks_part, same_number}
-use Rattle.modem_driver.proofs.sessions.steps.MemoryNeeds.{still_owes}
+use Rattle.modem_driver.proofs.sessions.steps.Backlogs.{checks_few, checks_first, checks_more, checks_all, same_number}
 use Rattle.modem_driver.proofs.machine.Machine.check_backlogs.Goals as goal
 
 pub loop-number-init : goal.loop-number-init
@@ -16,8 +15,8 @@ pub loop-number-preserved : goal.loop-number-preserved
 loop-number-preserved c =
     let n = c.loop-number.number in
     let same = same_number c.new.result c.unwrap.result n c.new.ensures.number c.unwrap.ensures in
-    checks_more c.args.self.now c.loop-number.self c.check_backlog.new.self n c.in_ok-moved.field-0 c.loop-number.moved
-    (subst (λ (m : ℕ). ChecksOne m c.loop-number.self c.check_backlog.new.self c.in_ok-moved.field-0) same c.in_ok-moved.ensures.checks) c.loop-number.invariant
+    checks_more c.args.self.now c.loop-number.self c.check_backlog-moved.new.self n c.check_backlog-moved.result c.loop-number.moved
+    (subst (λ (m : ℕ). ChecksOne m c.loop-number.self c.check_backlog-moved.new.self c.check_backlog-moved.result) same c.check_backlog-moved.ensures) c.loop-number.invariant
 
 pub returns-clause-checks : goal.returns-clause-checks
 returns-clause-checks c =
@@ -25,15 +24,8 @@ returns-clause-checks c =
     let over = c.loop-number-test.false in
     checks_all c.args.self.now c.loop-number.self c.loop-number.number c.loop-number.moved (omega arith) c.loop-number.invariant
 
-pub returns-in_err-moved-clause-part : goal.returns-in_err-moved-clause-part
-returns-in_err-moved-clause-part c = checks_part c.args.self.now c.loop-number.self c.check_backlog.new.self c.loop-number.number c.loop-number.moved c.from_residual.result c.loop-number.invariant c.in_err-moved.ensures.err
-
 pub returns-clause-stays : goal.returns-clause-stays
 returns-clause-stays c = c.loop-number.invariant.stays
-
-pub returns-in_err-moved-clause-stays : goal.returns-in_err-moved-clause-stays
-returns-in_err-moved-clause-stays c =
-    subst (λ (k : Machine). k ≡ record c.args.self.now { core = k.core }) (sym c.in_err-moved.ensures.err) c.loop-number.invariant.stays
 
 pub returns-then-is_few-clause-checks : goal.returns-then-is_few-clause-checks
 returns-then-is_few-clause-checks c =
@@ -41,6 +33,3 @@ returns-then-is_few-clause-checks c =
     let few : AreFewOnEach k.unannounced = subst (λ (x : Machine). AreFewOnEach x.unannounced) c.self.view_is (c.is_few.ensures c.if-is_few.true) in
     let free : CallsForNothing k.core = subst (λ (x : Machine). CallsForNothing x.core) c.self.view_is (c.holds_none.ensures c.if-holds_none.true) in
     checks_all k k 62 false refl (checks_few k 61 (omega arith) few free)
-
-pub returns-in_err-moved-clause-owes : goal.returns-in_err-moved-clause-owes
-returns-in_err-moved-clause-owes c = still_owes c.check_backlog.new.self c.from_residual.result c.in_err-moved.ensures.owes

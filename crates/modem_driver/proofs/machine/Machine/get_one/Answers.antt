@@ -1,5 +1,5 @@
 -- What the frame called for waits, or the frame stays at hand.
-use Rattle.std.proofs.Common.{◌≡◌, ◌∷◌, ap, sym, ◌∙◌, subst, refl, false, true}
+use Rattle.std.proofs.Common.{◌≡◌, ◌≤◌, List, ◌∷◌, length, ap, sym, ◌∙◌, subst, refl, false, true, arith}
 use Rattle.std.specs.Prelude.{map, find, option_map, Err}
 use Rattle.mux_frame.specs.Deframing.{HandsOver}
 use Rattle.mux_frame.specs.Frames.{frame_of}
@@ -8,6 +8,9 @@ use Rattle.modem_history.specs.Acts.{Got, act_of}
 use Rattle.modem_driver.specs.declared.machine.course.Course.{Course}
 use Rattle.modem_driver.specs.Endings.{asker_of, course_after, is_answered, is_stop}
 use Rattle.modem_driver.specs.SessionStates.{Machine}
+use Rattle.modem_desk.specs.declared.request.Urc.{Urc}
+use Rattle.modem_driver.specs.Doing.{acts_since, stop_in}
+use Rattle.modem_driver.proofs.cores.DoneCalls.{keeps_since}
 use Rattle.modem_driver.specs.GettingSteps.{MachineGets}
 use Rattle.modem_driver.proofs.sessions.polls.StopProgress.{noted}
 use Rattle.modem_driver.proofs.sessions.steps.FrameAtHand.{gets_moved, gets_none, keeps_from, none_at_hand, stays_at_hand}
@@ -29,22 +32,58 @@ returns-in-Ok-follow-clause-gets c =
     let old : Machine = machine_of k in
     let core = c.follow.new.self in
     let room = c.make_room.new.self in
-    let fed = c.advance.new.self.deframer in
+    let fed = c.advance-in-Ok-follow.new.self.deframer in
     let w = c.keep.new.self in
     let f = frame_of c.in-Some.frame in
     let e = c.in-Ok-follow.ensures in
     let same = c.peek.follows.holds-at-none in
-    let passed = c.advance.ensures.rest ∙ ap (λ (l : LineEnd). record l { deframer = fed }) same in
+    let passed = c.advance-in-Ok-follow.ensures.rest ∙ ap (λ (l : LineEnd). record l { deframer = fed }) same in
     let stop = option_map asker_of (find is_stop k.core.hand) in
     let more = map act_of c.in-Ok-follow.acts.items in
     let acts = Got f ∷ more in
     let course : c.note.new.self ≡ course_after k.course (is_answered stop acts) = noted k.course c.note.new.self c.stop-stop.result stop c.as_slice.result.now c.in-Ok-follow.acts.items c.note.ensures c.stop-stop.ensures c.as_slice.ensures.value ∙ ap (course_after k.course) (sym (came_answers stop f more)) in
     let new : Course → LineEnd → Machine = λ x l. at_end (record old { core = core; unplaced = w.outcomes; unannounced = w.lines; course = x }) l in
-    subst (λ (v : Machine). MachineGets v (new c.note.new.self c.advance.new.self) true) c.self.view_is
+    subst (λ (v : Machine). MachineGets v (new c.note.new.self c.advance-in-Ok-follow.new.self) true) c.self.view_is
     (subst (λ (l : LineEnd). MachineGets old (new c.note.new.self l) true) (sym passed)
     (subst (λ (x : Course). MachineGets old (new x (record k.line_end { deframer = fed })) true) (sym course)
     (gets_moved old core fed room.room w acts f e.past e.holds (keeps_from room w old.unplaced old.unannounced acts c.make_room.ensures.outcomes c.make_room.ensures.lines (keeps_came room w f more c.keep.ensures)) c.in-Ok.ensures.room
-    (sym c.in-Some.ensures.frame) (c.advance.ensures.n1 ∙ ap (λ (l : LineEnd). l.deframer.n1) same) (subst (λ (l : LineEnd). HandsOver l.deframer fed) same c.advance.ensures.past))))
+    (sym c.in-Some.ensures.frame) (c.advance-in-Ok-follow.ensures.n1 ∙ ap (λ (l : LineEnd). l.deframer.n1) same) (subst (λ (l : LineEnd). HandsOver l.deframer fed) same c.advance-in-Ok-follow.ensures.past))))
+
+pub returns-then-is_other-clause-gets : goal.returns-then-is_other-clause-gets
+returns-then-is_other-clause-gets c =
+    let k = c.self.inside in
+    let old : Machine = machine_of k in
+    let core = c.get.new.core in
+    let w = c.get.new.self in
+    let fed = c.advance.new.self.deframer in
+    let f = frame_of c.in-Some.frame in
+    let size = length f.info in
+    let same = c.peek.follows.holds-at-none in
+    let passed = c.advance.ensures.rest ∙ ap (λ (l : LineEnd). record l { deframer = fed }) same in
+    let does = c.in-Some-get.ensures.does in
+    let acts = acts_since (Got f) k.core core does.told in
+    let course : c.go_on.new.self ≡ course_after k.course (is_answered (stop_in k.core) acts) = c.go_on.ensures ∙ ap (course_after k.course) does.answered_is in
+    let new : Course → List Urc → LineEnd → Machine = λ x us l. at_end (record old { core = core; unplaced = w.outcomes; unannounced = us; course = x }) l in
+    let after = course_after k.course (is_answered (stop_in k.core) acts) in
+    subst (λ (v : Machine). MachineGets v (new c.go_on.new.self w.lines c.advance.new.self) true) c.self.view_is
+    (subst (λ (l : LineEnd). MachineGets old (new c.go_on.new.self w.lines l) true) (sym passed)
+    (subst (λ (x : Course). MachineGets old (new x w.lines (record k.line_end { deframer = fed })) true) (sym course)
+    (subst (λ (us : List Urc). MachineGets old (new after us (record k.line_end { deframer = fed })) true) (sym c.get.ensures.lines)
+    (gets_moved old core fed size (record { outcomes = w.outcomes; lines = k.waiting.lines; room = size }) acts f does.past does.holds
+    (keeps_since (Got f) k.core core k.waiting.outcomes w.outcomes does.told k.waiting.lines size (λ xs. refl) (λ xs. refl) does.adds) (omega arith)
+    (sym c.in-Some.ensures.frame) (c.advance.ensures.n1 ∙ ap (λ (l : LineEnd). l.deframer.n1) same) (subst (λ (l : LineEnd). HandsOver l.deframer fed) same c.advance.ensures.past)))))
+
+pub returns-in_default-get-clause-gets : goal.returns-in_default-get-clause-gets
+returns-in_default-get-clause-gets c =
+    let k = c.self.inside in
+    let old : Machine = machine_of k in
+    let core = c.get.new.core in
+    let w = c.get.new.self in
+    let e = c.in_default-get.ensures in
+    let new : LineEnd → Machine = λ l. at_end (record old { core = core; unplaced = w.outcomes; unannounced = w.lines }) l in
+    subst (λ (v : Machine). MachineGets v (new c.peek.follows.lender-at-none) false) c.self.view_is
+    (subst (λ (l : LineEnd). MachineGets old (new l) false) (sym c.peek.follows.holds-at-none)
+    (gets_none old core old.deframer w.outcomes w.lines (stays_at_hand old (frame_of c.in-Some.frame) c.in-Some.ensures.frame e.never_full e.no_room) e.stays refl e.untold c.get.ensures.lines))
 
 pub returns-in-Err-NoRoom-clause-gets : goal.returns-in-Err-NoRoom-clause-gets
 returns-in-Err-NoRoom-clause-gets c =

@@ -1,0 +1,91 @@
+-- What a call does, by the acts that are read off it.
+use Rattle.std.specs.Prelude.{◌≡◌, ◌||◌, ℕ, ◌+◌, ◌≤◌, Bool, true, false, List, [], ◌∷◌, ◌++◌, length, map, drop, refl, Option, Some, None}
+use Rattle.std.specs.List.{list_any}
+use Rattle.std.proofs.Common.{ap, sym, ◌∙◌, subst, append-nil}
+use Rattle.mux_frame.specs.Frames.{Frame}
+use Rattle.modem_desk.specs.declared.request.Ask.{Ask}
+use Rattle.modem_desk.specs.declared.request.Answer.{Answer}
+use Rattle.modem_desk.specs.declared.request.Request.{Request}
+use Rattle.modem_desk.specs.declared.request.Outcome.{Outcome}
+use Rattle.modem_history.specs.Acts.{Act, Sent, Told, Lost, act_of}
+use Rattle.modem_history.specs.declared.act.Act.TheVariants as code
+use Rattle.modem_history.specs.Sessions.{heard_as}
+use Rattle.modem_history.specs.Turns.{outcomes_told, lines_heard}
+use Rattle.modem_desk.specs.declared.request.Urc.{Urc}
+use Rattle.modem_driver.specs.WaitingLists.{WaitingLists, Keeps}
+use Rattle.modem_driver.specs.declared.machine.course.Asker.{Asker}
+use Rattle.modem_driver.specs.declared.telling.Happened.TheVariants as happened
+use Rattle.modem_driver.specs.Cores.{Core, Handles, state_shown}
+use Rattle.modem_driver.specs.Doing.{Adds, Does, acts_since, outcomes_to, stop_in}
+use Rattle.modem_driver.specs.Endings.{is_answered, is_end_of}
+use Rattle.modem_driver.specs.Holding.{KeepsHeld}
+use Rattle.modem_driver.specs.Telling.{told_by, told_to, left_by}
+use Rattle.modem_driver.proofs.cores.LineLoss.{lost_handles}
+use Rattle.modem_driver.proofs.holds.OtherCalls.{keeps_lost}
+use Rattle.modem_driver.proofs.requests.ToldOutcomes.{told_back}
+
+-- what was sent ends no Stop
+sent_ends : (stop : Asker) (fs : List Frame) (acts : List Act) → list_any (is_end_of stop) (map Sent fs ++ acts) ≡ list_any (is_end_of stop) acts
+sent_ends stop [] acts = refl
+sent_ends stop (f ∷ fs) acts = sent_ends stop fs acts
+
+-- nor does a call's first act
+pub answered_since : (stop : Option Asker) (a : Act) (fs : List Frame) (acts : List Act) → ((s : Asker) → is_end_of s a ≡ false) → is_answered stop (a ∷ (map Sent fs ++ acts)) ≡ is_answered stop acts
+answered_since None a fs acts h = refl
+answered_since (Some s) a fs acts h = ap (λ (b : Bool). b || list_any (is_end_of s) (map Sent fs ++ acts)) (h s) ∙ sent_ends s fs acts
+
+-- the core handled it, and told those in hand what they are told
+pub does_telling : (old new : Core) (was now : List Outcome) (a : Act) (answered : Bool) (says : Ask → Option Answer) → ((s : Asker) → is_end_of s a ≡ false)
+    → Handles old new a (a ∷ (map Sent (drop (length old.station.queue) new.station.queue) ++ map act_of (told_to says old.hand)))
+    → KeepsHeld old new a (a ∷ (map Sent (drop (length old.station.queue) new.station.queue) ++ map act_of (told_to says old.hand)))
+    → Adds was now (outcomes_to says old.hand) → answered ≡ is_answered (stop_in old) (map act_of (told_to says old.hand)) → Does old new was now a answered
+does_telling old new was now a answered says h past holds adds ends =
+    let fs = drop (length old.station.queue) new.station.queue in
+    let same : a ∷ (map Sent fs ++ map act_of (told_to says old.hand)) ≡ acts_since a old new (outcomes_to says old.hand) = ap (λ (x : List Act). a ∷ (map Sent fs ++ x)) (sym (told_back says old.hand)) in
+    record {
+      told = outcomes_to says old.hand;
+      past = subst (Handles old new a) same past;
+      holds = subst (KeepsHeld old new a) same holds;
+      adds = adds;
+      answered_is = ends ∙ (sym (answered_since (stop_in old) a fs (map act_of (told_to says old.hand)) h) ∙ ap (is_answered (stop_in old)) same);
+    }
+
+pub none_since : (xs : List Frame) → drop (length xs) xs ≡ []
+none_since [] = refl
+none_since (x ∷ xs) = none_since xs
+
+-- a loss of the line
+pub loss_does : (old new : Core) (was now : List Outcome) (answered : Bool) → new ≡ record old { hand = left_by (told_by happened.Lost false (λ d. state_shown old.station true d)) old.hand; lost = true }
+    → Adds was now (outcomes_to (told_by happened.Lost false (λ d. state_shown old.station true d)) old.hand)
+    → answered ≡ is_answered (stop_in old) (map act_of (told_to (told_by happened.Lost false (λ d. state_shown old.station true d)) old.hand)) → Does old new was now Lost answered
+loss_does old new was now answered n adds ends =
+    let says = told_by happened.Lost false (λ d. state_shown old.station true d) in
+    let none : [] ≡ drop (length old.station.queue) new.station.queue = sym (ap (λ (x : Core). drop (length old.station.queue) x.station.queue) n ∙ none_since old.station.queue) in
+    let handles : Handles old new Lost (Lost ∷ map act_of (told_to says old.hand)) = lost_handles old new false (code.Lost ∷ told_to says old.hand) n refl in
+    let since : Handles old new Lost (Lost ∷ (map Sent (drop (length old.station.queue) new.station.queue) ++ map act_of (told_to says old.hand)))
+    = subst (λ (fs : List Frame). Handles old new Lost (Lost ∷ (map Sent fs ++ map act_of (told_to says old.hand)))) none handles in
+    does_telling old new was now Lost answered says (λ s. refl) since (keeps_lost old new _ since) adds ends
+
+-- ## What waits
+
+outcomes_since : (fs : List Frame) (told : List Outcome) → outcomes_told (map Sent fs ++ map Told told) ≡ told
+outcomes_since [] [] = refl
+outcomes_since [] (o ∷ told) = ap (λ (os : List Outcome). o ∷ os) (outcomes_since [] told)
+outcomes_since (f ∷ fs) told = outcomes_since fs told
+
+none_heard : (fs : List Frame) (told : List Outcome) → lines_heard (map Sent fs ++ map Told told) ≡ []
+none_heard [] [] = refl
+none_heard [] (o ∷ told) = none_heard [] told
+none_heard (f ∷ fs) told = none_heard fs told
+
+-- what the call told waits, and no line
+pub keeps_since : (a : Act) (old new : Core) (was now told : List Outcome) (us : List Urc) (room : ℕ) → ((xs : List Act) → outcomes_told (a ∷ xs) ≡ outcomes_told xs) → ((xs : List Act) → lines_heard (a ∷ xs) ≡ lines_heard xs)
+    → Adds was now told → Keeps (record { outcomes = was; lines = us; room = room }) (record { outcomes = now; lines = us; room = room }) (acts_since a old new told)
+keeps_since a old new was now told us room o h adds =
+    let fs = drop (length old.station.queue) new.station.queue in
+    let all : outcomes_told (acts_since a old new told) ≡ told = o (map Sent fs ++ map Told told) ∙ outcomes_since fs told in
+    let none : lines_heard (acts_since a old new told) ≡ [] = h (map Sent fs ++ map Told told) ∙ none_heard fs told in
+    record {
+      outcomes = λ few. adds (subst (λ (os : List Outcome). length was + length os ≤ 128) all few) ∙ ap (λ (os : List Outcome). was ++ os) (sym all);
+      lines = λ fit. sym (append-nil (map heard_as us)) ∙ ap (λ (hs : List Act). map heard_as us ++ hs) (sym none);
+    }
