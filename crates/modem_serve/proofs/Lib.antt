@@ -1,7 +1,5 @@
 pub mod Answering
 pub mod Ending
-pub mod FirstFrames
-pub mod FirstLaws
 pub mod Feeding
 pub mod Leaving
 pub mod Muxes

@@ -19,8 +19,8 @@ use Rattle.modem_sim.specs.Heard.{modem_after}
 use Rattle.modem_serve.specs.declared.server.Mode.{Mode}
 use Rattle.modem_serve.specs.declared.server.Mode.TheVariants.{Lines, Mux}
 use Rattle.modem_serve.specs.declared.server.Setup.{Setup}
-use Rattle.modem_serve.specs.FirstFrame.{ReadsFirst, first}
-use Rattle.modem_serve.specs.FrontFrames.{IsFrameText, PassesOver}
+use Rattle.mux_capture.specs.FirstFrame.{ReadsFirst, first}
+use Rattle.mux_capture.specs.FrontFrames.{IsFrameText, PassesOver}
 use Rattle.modem_serve.specs.HeldLine.{HeldState}
 use Rattle.modem_serve.specs.InMux.{Closes, ClosesDown, Handles, closes_0, closes_down, mux_end, octets_sent}
 use Rattle.modem_serve.specs.MuxStates.{MuxState}

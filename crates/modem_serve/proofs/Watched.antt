@@ -87,6 +87,7 @@ watched_client Sees setup m mode input x y first watcher is serves =
 record CapturedSoFar (s : Setting) (came went : List ℕ) (first now : CaptureState) : Type 0 where
   passed : List Passed
   exchanged : Exchanged s came went passed
+  n1 : now.n1 ≡ first.n1
   captured : (at_first : Option (List ℕ)) → HasCaptured at_first [] first → HasCaptured at_first passed now
 
 captures_on : (old new : CaptureState) (p : Passed) (at_first : Option (List ℕ)) (passed : List Passed) → Captures old new p → HasCaptured at_first passed old → HasCaptured at_first (passed ++ p ∷ []) new
@@ -94,18 +95,19 @@ unfolding Captures
 captures_on old new p at_first passed captures h = captures at_first passed h
 
 captured_so_far : (s : Setting) (first : CaptureState) (came went : List ℕ) (now : CaptureState) → Seen SeesPassed s first came went now → now.failed ≡ false → CapturedSoFar s came went first now
-captured_so_far s first _ _ _ nothing_yet good = record { passed = []; exchanged = nothing; captured = λ at_first h. h }
+captured_so_far s first _ _ _ nothing_yet good = record { passed = []; exchanged = nothing; n1 = refl; captured = λ at_first h. h }
 captured_so_far s first _ _ _ (seen came went piece more u v w before answers read written) good =
     let second = written good in
     let one = read second.0 in
     let so_far = captured_so_far s first came went u before one.0 in
     record {
-      passed = so_far.passed ++ (record { stamp = one.1.0; direction = ToModem; octets = piece } ∷ record { stamp = second.1.0; direction = FromModem; octets = more } ∷ []);
-      exchanged = turn came went piece more so_far.passed one.1.0 second.1.0 so_far.exchanged answers;
+      passed = so_far.passed ++ (record { stamp = one.2.0; direction = ToModem; octets = piece } ∷ record { stamp = second.2.0; direction = FromModem; octets = more } ∷ []);
+      exchanged = turn came went piece more so_far.passed one.2.0 second.2.0 so_far.exchanged answers;
+      n1 = second.1 ∙ one.1 ∙ so_far.n1;
       captured = λ at_first h.
           subst (λ (l : List Passed). HasCaptured at_first l w)
-          (append_assoc so_far.passed (record { stamp = one.1.0; direction = ToModem; octets = piece } ∷ []) (record { stamp = second.1.0; direction = FromModem; octets = more } ∷ []))
-          (captures_on v w _ at_first _ second.1.1 (captures_on u v _ at_first _ one.1.1 (so_far.captured at_first h)));
+          (append_assoc so_far.passed (record { stamp = one.2.0; direction = ToModem; octets = piece } ∷ []) (record { stamp = second.2.0; direction = FromModem; octets = more } ∷ []))
+          (captures_on v w _ at_first _ second.2.1 (captures_on u v _ at_first _ one.2.1 (so_far.captured at_first h)));
     }
 
 captured_all : (s : Setting) (x y : Option (List ℕ)) (first now : CaptureState) (all : List ℕ) → WatchedAnswers SeesPassed s x y first now all → now.failed ≡ false → CapturesAnswers s x y first now all
@@ -117,6 +119,7 @@ captured_all s x y first now all w good =
       exchanged = so_far.exchanged;
       written = w.written;
       good = good;
+      n1 = so_far.n1;
       captured = so_far.captured;
     }
 

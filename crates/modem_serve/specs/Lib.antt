@@ -1,5 +1,3 @@
-pub mod FirstFrame
-pub mod FrontFrames
 pub mod HeldLine
 pub mod InMux
 pub mod Leaving

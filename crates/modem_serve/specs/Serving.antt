@@ -12,7 +12,7 @@ use Rattle.modem_sim.specs.Heard.{modem_after}
 use Rattle.modem_sim.specs.Steps.{started_with_words}
 use Rattle.modem_serve.specs.declared.fault.BadOption.{BadOption}
 use Rattle.modem_serve.specs.declared.serving.SimOptions.{SimOptions}
-use Rattle.modem_serve.specs.FirstFrame.{ReadsFirst}
+use Rattle.mux_capture.specs.FirstFrame.{ReadsFirst}
 use Rattle.modem_serve.specs.InMux.{Closes, Handles, is_closed_by, mux_end}
 use Rattle.modem_serve.specs.Plain.{Plain, plain_after, plain_begun}
 

@@ -1,5 +1,5 @@
 -- What passes between a client and its modem, in its order.
-use Rattle.std.specs.Prelude.{◌≡◌, ℕ, false, List, [], ◌∷◌, ◌++◌, Option, IfSome}
+use Rattle.std.specs.Prelude.{◌≡◌, ℕ, Bool, true, false, List, [], ◌∷◌, ◌++◌, Option, IfSome}
 use Rattle.std.specs.Io.KnownBytes.{Appends}
 use Rattle.mux_capture.specs.declared.packet.Direction.{Direction}
 use Rattle.mux_capture.specs.declared.packet.Direction.TheVariants.{ToModem, FromModem}
@@ -20,18 +20,33 @@ pub data Exchanged (s : Setting) : (came went : List ℕ) → List Passed → Ty
       (passed ++ (record { stamp = read; direction = ToModem; octets = piece }
       ∷ record { stamp = written; direction = FromModem; octets = more } ∷ []))
 
--- All that a client sends was answered, and all that passed was captured, in its order.
+-- All that a client sends was answered, and all that passed was captured, in its order, by the N1 that the capture began with.
 pub record CapturesAnswers (s : Setting) (before after : Option (List ℕ)) (old new : CaptureState) (all : List ℕ) : Type 0 where
   pub went : List ℕ
   pub passed : List Passed
   pub exchanged : Exchanged s all went passed
   pub written : Appends before after went
   pub good : new.failed ≡ false
+  pub n1 : new.n1 ≡ old.n1
   pub captured : (at_first : Option (List ℕ)) → HasCaptured at_first [] old → HasCaptured at_first passed new
 
 -- of all that the reader has, where that is known
 abbrev pub IsCaptured : SimOptions → (input before after : Option (List ℕ)) → (old new : CaptureState) → Type 0
 IsCaptured options input before after old new = IfSome input (CapturesAnswers (setting_of options) before after old new)
+
+-- A capture that had begun, and reads frames by the N1 of the options, captured all that passed.
+pub record HasCapture (options : SimOptions) (input before after : Option (List ℕ)) : Type 0 where
+  pub at_first : Option (List ℕ)
+  pub first : CaptureState
+  pub last : CaptureState
+  pub begun : HasCaptured at_first [] first
+  pub n1 : first.n1 ≡ options.n1
+  pub captured : IsCaptured options input before after first last
+
+-- where a capture is wanted
+abbrev pub CapturesClient : (wanted : Bool) → SimOptions → (input before after : Option (List ℕ)) → Type 0
+CapturesClient false options input before after = Unit {0}
+CapturesClient true options input before after = HasCapture options input before after
 
 -- ## Watchers
 
@@ -39,7 +54,7 @@ IsCaptured options input before after old new = IfSome input (CapturesAnswers (s
 abbrev pub SeesPassed : (old new : CaptureState) → Direction → List ℕ → Type 0
 SeesPassed old new direction octets =
     new.failed ≡ false
-    → (old.failed ≡ false) × ((stamp : Stamp) × Captures old new (record { stamp = stamp; direction = direction; octets = octets }))
+    → (old.failed ≡ false) × (new.n1 ≡ old.n1) × ((stamp : Stamp) × Captures old new (record { stamp = stamp; direction = direction; octets = octets }))
 
 -- The same pieces, of which a watcher saw each, and each answer.
 pub data Exchanges {X V : Type 0} (Holds : Setting → (came went : List ℕ) → X → Type 0) (Sees : V → V → Direction → List ℕ → Type 0) (s : Setting) (first : V) : (came went : List ℕ) → V → Type 0 where

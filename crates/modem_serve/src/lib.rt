@@ -10,10 +10,8 @@
 #![tactic(auto)]
 
 mod fault;
-mod first_frame;
 mod held_line;
 mod history;
-pub mod laws;
 mod mux;
 mod plain;
 mod requests;

@@ -7,12 +7,12 @@ ghost use Rattle.modem_serve.specs.Standing.{HandlesText, IsEntered, Stands, Ste
 ghost use Rattle.modem_serve.specs.declared.server.Mode.TheVariants.{Lines, Mux};
 
 use crate::fault::ServeFault;
-use crate::first_frame::{Found, first_frame};
 use crate::held_line::HeldLine;
 use crate::mux::{begun, feed};
 use crate::plain::PlainMode;
 use crate::steps::copied;
 use modem_sim::{Modem, Script, Sim, Steps};
+use mux_capture::{Found, first_frame};
 use mux_frame::N1;
 use std::alloc::{AllocError, Global};
 use std::marker::Model;
@@ -151,11 +151,11 @@ fn take_frame(
     let seen = text.len();
     text.extend_from_slice(octets)?;
     match first_frame(setup.alloc, n1.octets, text.as_slice(), seen)? {
-        Found::None(rest) => {
+        Found::None { rest, .. } => {
             let kept = Vec::from_slice(setup.alloc, rest)?;
             Ok((Mode::Mux(Muxed { sim, n1, kept }), Vec::new(setup.alloc)))
         }
-        Found::Frame(frame, behind) => {
+        Found::Frame { frame, behind, .. } => {
             let behind = Vec::from_slice(setup.alloc, behind)?;
             Ok((handle(setup, sim, n1, frame, out)?, behind))
         }

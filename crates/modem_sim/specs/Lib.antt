@@ -3,6 +3,7 @@ pub mod Reading
 pub mod CommandLines
 pub mod Words
 pub mod SettingTexts
+pub mod StateTexts
 pub mod Steps
 pub mod Meanings
 pub mod Laws

@@ -1,6 +1,7 @@
 -- What a modem with words tells of operators, packet contexts, characters and locks (27.007, 5.5, 7.3, 7.4, 10.1.1, 10.1.10, 10.1.14).
 use Rattle.std.specs.Prelude.{ℕ, ◌==◌, Bool, true, false, List, [], ◌∷◌, ◌++◌, if◌then◌else◌, codes}
 use Rattle.std.specs.Fmt.{decimal}
+use Rattle.std.specs.List.{flat_map}
 use Rattle.at_cmds.specs.declared.command.OperChoice.{OperChoice}
 use Rattle.at_cmds.specs.declared.command.OperChoice.TheVariants.{Automatic, Deregister, Manual}
 use Rattle.at_cmds.specs.declared.command.Pdp.{Pdp}
@@ -50,6 +51,14 @@ addresses Ipv4v6 n = codes "," ++ ipv4_text n ++ codes "," ++ ipv6_text n
 abbrev pub address_text : List ℕ → PdpContext → List ℕ
 address_text active c =
     codes "+CGPADDR: " ++ decimal c.cid ++ (if is_active active c then addresses c.pdp c.cid else [])
+
+-- the numbers of the contexts that are defined (27.007, 10.1.14)
+abbrev pub next_number : PdpContext → List ℕ
+next_number c = codes "," ++ decimal c.cid
+
+abbrev pub numbers_text : List PdpContext → List ℕ
+numbers_text [] = codes "+CGPADDR: ()"
+numbers_text (c ∷ more) = codes "+CGPADDR: (" ++ decimal c.cid ++ flat_map next_number more ++ codes ")"
 
 -- the characters of texts (27.007, 5.5)
 abbrev pub charset_text : Charset → List ℕ

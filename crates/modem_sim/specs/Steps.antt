@@ -24,11 +24,12 @@ use Rattle.modem_sim.specs.declared.words.Domain.{Domain}
 use Rattle.modem_sim.specs.declared.words.Domain.TheVariants.{Packet, Evolved}
 use Rattle.modem_sim.specs.declared.words.Form.TheVariants.{Operators}
 use Rattle.modem_sim.specs.declared.words.Word.{Word}
-use Rattle.modem_sim.specs.declared.words.Word.TheVariants.{Reset, Echo, Identity, Manufacturer, Product, Revision, Serial, Subscriber, Capabilities, Functionality, FunctionalityQuery, FunctionalityForms, RegForms, Report, ReportQuery, ReportForms, OperFormat, ContextForms, Activate, ActivityQuery, ActivityForms, Addresses, SetCharset, CharsetQuery, CharsetForms, LockForms, LockQuery, Unlock, Forms, ErrorsQuery, MultiplexerQuery}
+use Rattle.modem_sim.specs.declared.words.Word.TheVariants.{Reset, Echo, Identity, Manufacturer, Product, Revision, Serial, Subscriber, Capabilities, Functionality, FunctionalityQuery, FunctionalityForms, RegForms, Report, ReportQuery, ReportForms, OperFormat, ContextForms, Activate, ActivityQuery, ActivityForms, Addresses, AddressForms, SetCharset, CharsetQuery, CharsetForms, LockForms, LockQuery, Unlock, Forms, ErrorsQuery, MultiplexerQuery}
 use Rattle.modem_sim.specs.CommandLines.{commands_in}
 use Rattle.modem_sim.specs.Contexts.{active_after, is_defined, names, with_context}
-use Rattle.modem_sim.specs.SettingTexts.{activity_text, address_text, charset_text, context_forms, form_texts, lock_text, named_oper_text}
+use Rattle.modem_sim.specs.SettingTexts.{activity_text, address_text, charset_text, context_forms, form_texts, lock_text, named_oper_text, numbers_text}
 use Rattle.modem_sim.specs.Reading.{is_attention, command_of}
+use Rattle.modem_sim.specs.StateTexts.{attached_text, cell_text, context_text, oper_text, pin_text, reg_text, signal_text, whole_context_text}
 use Rattle.modem_sim.specs.Words.{word_of}
 
 -- a SIM with a PIN wants it, and takes three tries
@@ -141,46 +142,6 @@ after_command s (ContextSet cid pdp apn) =
 after_command s (AttachSet on) = record s { attached = on }
 after_command s (ErrorMode n) = record s { errors = n }
 after_command s _ = s
-
--- which PIN is wanted (27.007, 8.3)
-abbrev pub pin_text : Lock → List ℕ
-pin_text Ready = codes "+CPIN: READY"
-pin_text (NeedPin pin tries) = codes "+CPIN: SIM PIN"
-pin_text NeedPuk = codes "+CPIN: SIM PUK"
-
--- the cell, where reports have it: area, cell, and 7 for E-UTRAN (27.007, 7.2)
-abbrev pub cell_text : ℕ → List ℕ
-cell_text n = if n == 2 then codes ",\"00A1\",\"01B2C3D4\",7" else []
-
--- the registration: 1 at home, and the cell, or 0 not registered (27.007, 7.2)
-abbrev pub reg_text : ℕ → Bool → List ℕ
-reg_text n false = codes "+CREG: " ++ decimal n ++ codes ",0"
-reg_text n true = codes "+CREG: " ++ decimal n ++ codes ",1" ++ cell_text n
-
--- strength and errors of the signal (27.007, 8.5)
-abbrev pub signal_text : ℕ → ℕ → List ℕ
-signal_text rssi ber = codes "+CSQ: " ++ decimal rssi ++ codes "," ++ decimal ber
-
--- the operator: how it was chosen, its number, and 7 for E-UTRAN (27.007, 7.3)
-abbrev pub oper_text : OperChoice → List ℕ
-oper_text Automatic = codes "+COPS: 0,2,\"00101\",7"
-oper_text (Manual oper) = codes "+COPS: 1,2," ++ in_quotes oper ++ codes ",7"
-oper_text Deregister = codes "+COPS: 2"
-
--- a context (27.007, 10.1.1)
-abbrev pub context_text : PdpContext → List ℕ
-context_text c =
-    codes "+CGDCONT: " ++ decimal c.cid ++ codes "," ++ in_quotes (pdp_text c.pdp) ++ codes ","
-    ++ in_quotes c.apn
-
--- a context of a modem with words: with an address that the network gives, and without compression
-abbrev pub whole_context_text : PdpContext → List ℕ
-whole_context_text c = context_text c ++ codes ",\"\",0,0"
-
--- whether the modem is attached (27.007, 10.1.9)
-abbrev pub attached_text : Bool → List ℕ
-attached_text true = codes "+CGATT: 1"
-attached_text false = codes "+CGATT: 0"
 
 -- what a command is told before OK
 abbrev pub told_texts : ModemState → Command → List (List ℕ)
@@ -311,6 +272,7 @@ setting_told w s ContextForms = context_forms
 setting_told w s ActivityForms = codes "+CGACT: (0,1)" ∷ []
 setting_told w s ActivityQuery = map (activity_text s.active) s.contexts
 setting_told w s (Addresses which) = map (address_text s.active) (filter (names which) s.contexts)
+setting_told w s AddressForms = numbers_text s.contexts ∷ []
 setting_told w s CharsetForms = codes "+CSCS: (\"GSM\",\"IRA\")" ∷ []
 setting_told w s CharsetQuery = charset_text w.charset ∷ []
 setting_told w s LockForms = codes "+CLCK: (\"SC\")" ∷ []

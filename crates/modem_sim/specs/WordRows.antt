@@ -72,13 +72,15 @@ abbrev pub ValuesAsked : Type 0
 ValuesAsked =
     answers_to (started_with_words unlocked false)
     (codes "AT+CSQ=?;+CMEE=?;+CGATT=?" ∷ codes "AT+COPS=?" ∷ codes "AT+COPS=2;+COPS=?" ∷ codes "AT+CPIN=?;+CGMI=?;+GCAP=?" ∷ codes "AT+CMUX=?;+CMUX?;+CMEE?"
-    ∷ codes "AT+CGDCONT=1,\"IP\",\"a\";+CGDCONT?" ∷ [])
+    ∷ codes "AT+CGPADDR=?" ∷ codes "AT+CGDCONT=1,\"IP\",\"a\";+CGDCONT?" ∷ codes "AT+CGDCONT=3,\"IPV6\",\"b\";+CGPADDR=?" ∷ [])
     ≡ (codes "+CSQ: (0-31,99),(0-7,99)" ∷ codes "+CMEE: (0-2)" ∷ codes "+CGATT: (0,1)" ∷ ok)
     ∷ (codes "+COPS: (2,\"Network 00101\",\"N00101\",\"00101\",7),,(0-3),(0-2)" ∷ ok)
     ∷ (codes "+COPS: (1,\"Network 00101\",\"N00101\",\"00101\",7),,(0-3),(0-2)" ∷ ok)
     ∷ ok
     ∷ (codes "+CMUX: (0),(0),(1-8),(31-32767),(1-255),(0-100),(2-255),(1-255)" ∷ codes "+CMUX: 0,0" ∷ codes "+CMEE: 0" ∷ ok)
+    ∷ (codes "+CGPADDR: ()" ∷ ok)
     ∷ (codes "+CGDCONT: 1,\"IP\",\"a\",\"\",0,0" ∷ ok)
+    ∷ (codes "+CGPADDR: (1,3)" ∷ ok)
     ∷ []
 
 -- so is one that a PIN makes, and the number of the subscriber is in the SIM

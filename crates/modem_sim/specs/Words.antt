@@ -5,7 +5,7 @@ use Rattle.at_text.specs.Octets.{is_digit}
 use Rattle.at_cmds.specs.Params.{◌>>=◌}
 use Rattle.at_cmds.specs.Forms.{is_cid, is_pin, is_run, numeral_in}
 use Rattle.modem_sim.specs.declared.words.Word.{Word}
-use Rattle.modem_sim.specs.declared.words.Word.TheVariants.{Reset, Echo, Usual, Identity, Manufacturer, Product, Revision, Serial, Subscriber, Capabilities, Functionality, FunctionalityQuery, FunctionalityForms, RegForms, Report, ReportQuery, ReportForms, OperFormat, ContextForms, Activate, ActivityQuery, ActivityForms, Addresses, SetCharset, CharsetQuery, CharsetForms, LockForms, LockQuery, Unlock, Forms, ErrorsQuery, MultiplexerQuery}
+use Rattle.modem_sim.specs.declared.words.Word.TheVariants.{Reset, Echo, Usual, Identity, Manufacturer, Product, Revision, Serial, Subscriber, Capabilities, Functionality, FunctionalityQuery, FunctionalityForms, RegForms, Report, ReportQuery, ReportForms, OperFormat, ContextForms, Activate, ActivityQuery, ActivityForms, Addresses, AddressForms, SetCharset, CharsetQuery, CharsetForms, LockForms, LockQuery, Unlock, Forms, ErrorsQuery, MultiplexerQuery}
 use Rattle.modem_sim.specs.declared.words.Charset.TheVariants.{Gsm, Ira}
 use Rattle.modem_sim.specs.declared.words.Form.TheVariants.{Unnamed, Operators, Strength, Errors, Attachment, Multiplexer}
 use Rattle.modem_sim.specs.declared.words.Domain.TheVariants.{Packet, Evolved}
@@ -106,6 +106,7 @@ context_word t =
     else if bytes_eq t (codes "at+cgact=0") then Some (Activate false None)
     else if bytes_eq t (codes "at+cgact=1") then Some (Activate true None)
     else if bytes_eq t (codes "at+cgpaddr") || bytes_eq t (codes "at+cgpaddr=") then Some (Addresses None)
+    else if bytes_eq t (codes "at+cgpaddr=?") then Some AddressForms
     else numbered_word t
 
 -- commands for the characters of texts (27.007, 5.5), and for what the SIM's PIN locks (7.4)

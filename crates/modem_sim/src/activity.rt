@@ -1,9 +1,11 @@
 //! Lines about packet contexts of a modem with words.
 ghost use Rattle.std.specs.Prelude.{◌≡◌, ◌++◌, codes, filter, map, IfOk, OnOk};
 ghost use Rattle.std.specs.Fmt.{decimal};
+ghost use Rattle.std.specs.List.{flat_map};
 ghost use Rattle.modem_sim.specs.Contexts.{names};
-ghost use Rattle.modem_sim.specs.SettingTexts.{activity_text, address_text, addresses, ipv4_text, ipv6_text};
-ghost use Rattle.modem_sim.specs.Steps.{line_of, whole_context_text};
+ghost use Rattle.modem_sim.specs.SettingTexts.{activity_text, address_text, addresses, ipv4_text, ipv6_text, next_number, numbers_text};
+ghost use Rattle.modem_sim.specs.Steps.{line_of};
+ghost use Rattle.modem_sim.specs.StateTexts.{whole_context_text};
 
 use crate::answers::{context_line, push_line, push_quoted};
 use crate::contexts::{ActiveContexts, PdpContext};
@@ -112,6 +114,36 @@ fn address_line(
     if active.has(context) {
         push_addresses(alloc, context.pdp, cid, &mut text)?;
     }
+    Ok(text)
+}
+
+/// Writes the numbers of contexts behind other octets, a comma before each.
+fn push_next_numbers(
+    alloc: Global,
+    contexts: &[PdpContext],
+    text: &mut Vec<u8>,
+) -> Result<(), AllocError>
+    ensures { OnOk result (text.new.items ≡ text.old.items ++ flat_map next_number contexts.now) }
+{
+    for context in contexts {
+        let cid = context.cid;
+        let number = format!(in alloc; ",{cid}")?.into_bytes();
+        text.extend_from_slice(number.as_slice())?;
+    }
+    Ok(())
+}
+
+/// The numbers of the contexts that are defined (27.007, 10.1.14).
+pub(crate) fn numbers_line(alloc: Global, contexts: &[PdpContext]) -> Result<Vec<u8>, AllocError>
+    ensures { IfOk result (λ text. text.items ≡ numbers_text contexts.now) }
+{
+    let [first, more @ ..] = contexts else {
+        return Vec::from_slice(alloc, b"+CGPADDR: ()").map_err(|_| AllocError);
+    };
+    let cid = first.cid;
+    let mut text = format!(in alloc; "+CGPADDR: ({cid}")?.into_bytes();
+    push_next_numbers(alloc, more, &mut text)?;
+    text.push(b')')?;
     Ok(text)
 }
 

@@ -1,7 +1,8 @@
 //! Lines of answers.
 ghost use Rattle.std.specs.Prelude.{◌≡◌, [], ◌∷◌, ◌++◌, map, IfOk, OnOk};
 ghost use Rattle.at_cmds.specs.Forms.{in_quotes};
-ghost use Rattle.modem_sim.specs.Steps.{pin_text, cell_text, reg_text, signal_text, oper_text, context_text, attached_text, told_texts, error_text, line_of, good_answer, is_registered};
+ghost use Rattle.modem_sim.specs.Steps.{told_texts, error_text, line_of, good_answer, is_registered};
+ghost use Rattle.modem_sim.specs.StateTexts.{pin_text, cell_text, reg_text, signal_text, oper_text, context_text, attached_text};
 
 use crate::contexts::PdpContext;
 use crate::state::{Lock, ModemState};

@@ -6,7 +6,7 @@ ghost use Rattle.modem_sim.specs.Reading.{command_of};
 ghost use Rattle.modem_sim.specs.SettingTexts.{context_forms, lock_text, named_oper_text, oper_name};
 ghost use Rattle.modem_sim.specs.Steps.{all_reports, announced, domain_name, line_commands, line_of, nothing_ran, ran_command, ran_next, ran_other, ran_word, refusal_as, registration_text, report_texts, setting_told, status_text, told_as, word_refusal, word_told, worded_step};
 
-use crate::activity::{push_activity, push_contexts_named, push_whole_contexts};
+use crate::activity::{numbers_line, push_activity, push_contexts_named, push_whole_contexts};
 use crate::answers::{error_text, push_line, push_quoted, push_told};
 use crate::command_lines::commands_in;
 use crate::error::SimError;
@@ -229,6 +229,7 @@ fn push_setting_told(
             state.contexts.as_slice(),
             answer,
         ),
+        Word::AddressForms => push_line(answer, numbers_line(alloc, state.contexts.as_slice())?),
         Word::CharsetForms => push_text(alloc, "+CSCS: (\"GSM\",\"IRA\")", answer),
         Word::CharsetQuery => push_text(alloc, words.charset.line(), answer),
         Word::LockForms => push_text(alloc, "+CLCK: (\"SC\")", answer),

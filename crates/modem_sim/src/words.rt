@@ -92,6 +92,8 @@ pub(crate) enum Word {
     ActivityForms,
     /// `AT+CGPADDR`: the addresses of the one context, or of all (27.007, 10.1.14).
     Addresses(Option<u8>),
+    /// `AT+CGPADDR=?`.
+    AddressForms,
     /// `AT+CSCS=` (27.007, 5.5).
     SetCharset(Charset),
     /// `AT+CSCS?`.
@@ -312,6 +314,9 @@ fn context_word(text: &[u8]) -> Option<Word>
     }
     if is(text, b"at+cgpaddr") || is(text, b"at+cgpaddr=") {
         return Some(Word::Addresses(None));
+    }
+    if is(text, b"at+cgpaddr=?") {
+        return Some(Word::AddressForms);
     }
     numbered_word(text)
 }

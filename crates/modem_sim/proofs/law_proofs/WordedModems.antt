@@ -10,7 +10,8 @@ use Rattle.at_cmds.specs.declared.command.OperChoice.TheVariants.{Automatic, Der
 use Rattle.modem_sim.specs.declared.state.ModemState.{ModemState}
 use Rattle.modem_sim.specs.declared.state.Words.{Words}
 use Rattle.modem_sim.specs.Reading.{is_attention, command_of}
-use Rattle.modem_sim.specs.Steps.{after_command, after_refusal, announced, divided_by, is_too_long, line_commands, line_of, nothing_ran, obeyed, obeyed_unless, oper_text, ran_command, ran_text, lock_error, radio_error, refusal_as, refusal_of, refused_by, settled, standard_step, step, Step, told_as, told_texts, worded_answer, worded_by, worded_step}
+use Rattle.modem_sim.specs.Steps.{after_command, after_refusal, announced, divided_by, is_too_long, line_commands, line_of, nothing_ran, obeyed, obeyed_unless, ran_command, ran_text, lock_error, radio_error, refusal_as, refusal_of, refused_by, settled, standard_step, step, Step, told_as, told_texts, worded_answer, worded_by, worded_step}
+use Rattle.modem_sim.specs.StateTexts.{oper_text}
 use Rattle.modem_sim.specs.SettingTexts.{named_oper_text}
 use Rattle.modem_sim.specs.WordLaws.{AnswersAsStandard, IsAsStandard, bare}
 use Rattle.modem_sim.proofs.modem_steps.ReadCommands.{command_reads}

@@ -6,7 +6,8 @@ use Rattle.std.proofs.Math.Seq.{take-suc}
 use Rattle.std.proofs.lemmas.List.{map-append}
 use Rattle.at_text.specs.declared.answer.AnswerLine.{AnswerLine}
 use Rattle.modem_sim.specs.declared.contexts.PdpContext.{PdpContext}
-use Rattle.modem_sim.specs.Steps.{line_of, context_text, cell_text, reg_text}
+use Rattle.modem_sim.specs.Steps.{line_of}
+use Rattle.modem_sim.specs.StateTexts.{context_text, cell_text, reg_text}
 
 -- one more context is one more line
 pub more_contexts : (contexts : List PdpContext) (i : ℕ) (context : PdpContext) → i < length contexts → context ≡ slice_index_or contexts i context → map line_of (map context_text (take (i + 1) contexts)) ≡ map line_of (map context_text (take i contexts)) ++ line_of (context_text context) ∷ []

@@ -18,7 +18,8 @@ use Rattle.modem_sim.specs.declared.state.Lock.{Lock}
 use Rattle.modem_sim.specs.declared.state.Lock.TheVariants.{Ready, NeedPin, NeedPuk}
 use Rattle.modem_sim.specs.declared.state.ModemState.{ModemState}
 use Rattle.modem_sim.specs.Reading.{is_attention, command_of}
-use Rattle.modem_sim.specs.Steps.{Step, line_of, error_text, refusal_of, pin_text, cell_text, reg_text, oper_text, context_text, attached_text, told_texts, good_answer, is_registered, obeyed_unless, step_by}
+use Rattle.modem_sim.specs.Steps.{Step, line_of, error_text, refusal_of, told_texts, good_answer, is_registered, obeyed_unless, step_by}
+use Rattle.modem_sim.specs.StateTexts.{pin_text, cell_text, reg_text, oper_text, context_text, attached_text}
 use Rattle.modem_sim.specs.Laws.{EndsOnce, AnswersWell, AnswersWellAlways, IsStart, reached}
 use Rattle.modem_sim.specs.declared.modem.ModemStart.{ModemStart}
 use Rattle.modem_sim.proofs.modem_steps.AnswerLines.{registered_text}

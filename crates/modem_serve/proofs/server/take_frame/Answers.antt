@@ -13,21 +13,21 @@ first_frame-requires-clause-seen c =
 pub returns-in-None-clause-fewer : goal.returns-in-None-clause-fewer
 returns-in-None-clause-fewer c some =
     keeps_less c.mux.inside.n1.octets c.args.mux c.mux.inside.sim c.mux.inside.kept.items c.args.octets.now c.as_slice.result.now c.in-None.rest.now c.in_ok-kept-in-None.kept.items c.new.result.items
-    (sym c.mux.view_is) (c.as_slice.ensures.value ∙ c.in_ok-extend_from_slice.ensures.items) c.in_ok-kept-in-None.ensures.items c.new.ensures.items (rw c.in-None.is at c.in_ok-rest.ensures) some
+    (sym c.mux.view_is) (c.as_slice.ensures.value ∙ c.in_ok-extend_from_slice.ensures.items) c.in_ok-kept-in-None.ensures.items c.new.ensures.items (let found = rw c.in-None.is at c.in_ok-rest.ensures in (found.1, found.2)) some
 
 pub returns-in-None-clause-steps : goal.returns-in-None-clause-steps
 returns-in-None-clause-steps c = λ m.
     keeps_by (setting_by c.args.setup.now m) c.args.mux c.mux.inside.sim c.mux.inside.n1.octets c.mux.inside.kept.items c.args.octets.now c.as_slice.result.now c.in-None.rest.now c.in_ok-kept-in-None.kept.items c.new.result.items c.args.out.now.items
-    (sym c.mux.view_is) (c.as_slice.ensures.value ∙ c.in_ok-extend_from_slice.ensures.items) c.in_ok-kept-in-None.ensures.items c.new.ensures.items (rw c.in-None.is at c.in_ok-rest.ensures)
+    (sym c.mux.view_is) (c.as_slice.ensures.value ∙ c.in_ok-extend_from_slice.ensures.items) c.in_ok-kept-in-None.ensures.items c.new.ensures.items (let found = rw c.in-None.is at c.in_ok-rest.ensures in (found.1, found.2))
 
 pub returns-clause-fewer : goal.returns-clause-fewer
 returns-clause-fewer c some =
     frame_less c.args.setup.now c.args.mux c.mux.inside.sim c.mux.inside.n1.octets c.mux.inside.kept.items c.args.octets.now c.as_slice.result.now c.in-Frame.frame.now c.in-Frame.behind.now c.in_ok-behind-in-Frame.behind.items
     c.args.out.now.items c.handle.new.out.items c.in_ok-handle-in-Frame.field-0
-    (sym c.mux.view_is) (c.as_slice.ensures.value ∙ c.in_ok-extend_from_slice.ensures.items) c.in_ok-behind-in-Frame.ensures.items (rw c.in-Frame.is at c.in_ok-rest.ensures) c.in_ok-handle-in-Frame.ensures.handles
+    (sym c.mux.view_is) (c.as_slice.ensures.value ∙ c.in_ok-extend_from_slice.ensures.items) c.in_ok-behind-in-Frame.ensures.items (let found = rw c.in-Frame.is at c.in_ok-rest.ensures in (found.1, found.2)) c.in_ok-handle-in-Frame.ensures.handles
 
 pub returns-clause-steps : goal.returns-clause-steps
 returns-clause-steps c = λ m.
     frame_by c.args.setup.now (setting_by c.args.setup.now m) c.args.mux c.mux.inside.sim c.mux.inside.n1.octets c.mux.inside.kept.items c.args.octets.now c.as_slice.result.now c.in-Frame.frame.now c.in-Frame.behind.now c.in_ok-behind-in-Frame.behind.items
     c.args.out.now.items c.handle.new.out.items c.in_ok-handle-in-Frame.field-0 refl
-    (sym c.mux.view_is) (c.as_slice.ensures.value ∙ c.in_ok-extend_from_slice.ensures.items) c.in_ok-behind-in-Frame.ensures.items (rw c.in-Frame.is at c.in_ok-rest.ensures) c.in_ok-handle-in-Frame.ensures.handles
+    (sym c.mux.view_is) (c.as_slice.ensures.value ∙ c.in_ok-extend_from_slice.ensures.items) c.in_ok-behind-in-Frame.ensures.items (let found = rw c.in-Frame.is at c.in_ok-rest.ensures in (found.1, found.2)) c.in_ok-handle-in-Frame.ensures.handles

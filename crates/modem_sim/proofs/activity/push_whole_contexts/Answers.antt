@@ -3,7 +3,8 @@ use Rattle.std.specs.Prelude.{slice_index_or}
 use Rattle.std.proofs.Math.Seq.{take-suc}
 use Rattle.std.proofs.lemmas.List.{map-append}
 use Rattle.modem_sim.specs.declared.contexts.PdpContext.{PdpContext}
-use Rattle.modem_sim.specs.Steps.{line_of, whole_context_text}
+use Rattle.modem_sim.specs.Steps.{line_of}
+use Rattle.modem_sim.specs.StateTexts.{whole_context_text}
 use Rattle.modem_sim.proofs.modem_steps.AnswerLines.{pushed_line}
 use Rattle.modem_sim.proofs.activity.push_whole_contexts.Goals as goal
 

@@ -1,5 +1,6 @@
 use Rattle.std.specs.Prelude.{◌≡◌, ◌++◌, take, map}
-use Rattle.modem_sim.specs.Steps.{line_of, whole_context_text}
+use Rattle.modem_sim.specs.Steps.{line_of}
+use Rattle.modem_sim.specs.StateTexts.{whole_context_text}
 use Rattle.modem_sim.proofs.activity.push_whole_contexts.Given as goal
 
 -- the lines of the contexts so far stand behind those that were there

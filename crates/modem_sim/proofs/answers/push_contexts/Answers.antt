@@ -1,5 +1,6 @@
 use Rattle.std.proofs.Common.{take, map, ◌+◌}
-use Rattle.modem_sim.specs.Steps.{line_of, context_text}
+use Rattle.modem_sim.specs.Steps.{line_of}
+use Rattle.modem_sim.specs.StateTexts.{context_text}
 use Rattle.modem_sim.proofs.modem_steps.AnswerLines.{more_contexts, pushed_line}
 use Rattle.modem_sim.proofs.answers.push_contexts.Goals as goal
 

@@ -1,5 +1,6 @@
 use Rattle.std.proofs.Common.{◌≡◌, ◌++◌, take, map}
-use Rattle.modem_sim.specs.Steps.{line_of, context_text}
+use Rattle.modem_sim.specs.Steps.{line_of}
+use Rattle.modem_sim.specs.StateTexts.{context_text}
 use Rattle.modem_sim.proofs.answers.push_contexts.Given as goal
 
 -- the lines of the contexts so far stand behind those that were there
