@@ -36,7 +36,8 @@ struct run {
 static void put(struct octets *o, const void *octets, size_t length)
 {
 	CHECK(o->length + length <= ROOM);
-	memcpy(o->at + o->length, octets, length);
+	if (length > 0)
+		memcpy(o->at + o->length, octets, length);
 	o->length += length;
 }
 
