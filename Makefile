@@ -1,7 +1,7 @@
 # Builds and installs the library for C, the daemon and modemctl's program, and packs a release of them. It stands in the
 # repository and in the release.
 #
-#   make [TARGET=aarch64-linux-gnu]     in the repository it wants libmodem_c.a (docs/C.md)
+#   make [TARGET=aarch64-linux-gnu]     in the repository it wants the libraries (docs/C.md)
 #   make install PREFIX=/usr/local [DESTDIR=..]
 #   make dist GATE=FILE                 cimbaloty-VERSION.tar.gz; FILE has all that .ci/run said (release/dist)
 TARGET ?=

@@ -3,6 +3,7 @@
  * Each connection is a pseudo-terminal, DIRECTORY/at1 and so on. A program writes a command line and CR there, and reads
  * the answer. Unsolicited lines come to DIRECTORY/events. One loop waits for the line, the terminals and the signals. */
 #define _GNU_SOURCE
+#include "data.h"
 #include "dialect.h"
 #include "events.h"
 #include "log.h"
@@ -21,7 +22,8 @@
 #include <sys/signalfd.h>
 #include <unistd.h>
 
-enum { LINE, INOTIFY, SIGNALS, TERMINALS, ENTRIES = TERMINALS + CONNECTIONS + 1 };
+enum { LINE, INOTIFY, SIGNALS, TERMINALS, ENTRIES = TERMINALS + CONNECTIONS + 1 + LANES };
+enum { PASSES = 16 };   /* of data in a round, before others have their turn */
 enum { TICKS_TO_END = 5, MORE_TO_END = 500 };   /* a stop is given up at the fourth tick; milliseconds */
 
 struct daemon {
@@ -30,9 +32,10 @@ struct daemon {
 	struct modem modem;
 	struct terminals terminals;
 	struct events events;
+	struct data data;
 	struct notify notify;
 	int signals, folder;
-	bool is_ending;
+	bool is_ending, goes_on;        /* goes_on: there is more data to pass at once */
 	int64_t ends_at;
 };
 
@@ -127,6 +130,10 @@ static int time_left(struct daemon *d, int64_t now)
 		due = d->notify.next;
 	if (d->is_ending && d->ends_at < due)
 		due = d->ends_at;
+	if (data_deadline(&d->data) < due)
+		due = data_deadline(&d->data);
+	if (d->goes_on)
+		return 0;
 	if (due == INT64_MAX)
 		return -1;
 	return due <= now ? 0 : due - now > INT_MAX ? INT_MAX : (int)(due - now);
@@ -147,7 +154,9 @@ static bool wait_for_any(struct daemon *d)
 		p[TERMINALS + i].fd = t->ours;
 		p[TERMINALS + i].events = (short)((t->in_length < PENDING ? POLLIN : 0) | (terminal_waits(t) ? POLLOUT : 0));
 	}
-	poll(p, TERMINALS + d->terminals.count + 1, time_left(d, milliseconds()));
+	for (unsigned i = 0; i < d->data.count; i++)
+		p[TERMINALS + d->terminals.count + 1 + i] = (struct pollfd){ d->data.all[i].terminal->ours, data_events(&d->data.all[i]), 0 };
+	poll(p, TERMINALS + d->terminals.total, time_left(d, milliseconds()));
 	return p[LINE].revents & ~POLLOUT;
 }
 
@@ -169,6 +178,12 @@ static void report(struct daemon *d)
 			snprintf(waits, sizeof waits, ", one for %lld s", (long long)(modem_waited(m, i) / 1000));
 		say(LOG_NOTICE, "at%u (%s): %s, opened %lu times; %u programs; %lu commands%s%s", i, t->device, modem_state(m, i), m->openings[i],
 		    t->opens, t->commands, waits, t->is_waiting && t->is_orphan ? ", whose program has left" : "");
+	}
+	for (unsigned i = 0; i < d->data.count; i++) {
+		const struct lane *l = &d->data.all[i];
+
+		say(LOG_NOTICE, "data%u (%s): %s; %u programs; %lu octets came and %lu went", l->dlci, l->terminal->device,
+		    l->carries ? "carries data" : "carries none", l->terminal->opens, l->came, l->went);
 	}
 	say(LOG_NOTICE, "events (%s): %u programs; %lu lines came, %u are kept, %lu weren't", d->terminals.all[0].device,
 	    d->terminals.all[0].opens, d->events.lines, d->events.count, d->events.unkept);
@@ -211,14 +226,20 @@ static void go_round(struct daemon *d)
 
 	take_signals(d, now);
 	terminals_look(&d->terminals);
+	data_look(&d->data, now);
 	modem_turn(&d->modem, now, can_read);
 	take_outcomes(d, now);
 	events_look(&d->events);
 	take_lines(d);
+	d->goes_on = data_turn(&d->data, now);
 	modem_settle(&d->modem, now);
 	for (unsigned i = 1; i <= d->terminals.count; i++)
 		ask(d, i);
 	modem_send(&d->modem, now);
+	for (unsigned pass = 0; d->goes_on && pass < PASSES; pass++) {
+		d->goes_on = data_turn(&d->data, now);
+		modem_send(&d->modem, now);
+	}
 	write_all(d);
 	tell_status(d);
 	notify_alive(&d->notify, now);
@@ -269,6 +290,7 @@ static bool begin(struct daemon *d)
 	if (!lock_folder(d) || !catch_signals(d) || !modem_begin(&d->modem, &d->options, &d->codes, milliseconds())
 	    || !terminals_open(&d->terminals, &d->options))
 		return false;
+	data_open(&d->data, &d->terminals, &d->modem, &d->options);
 	if (events_open(&d->events, &d->terminals, &d->options))
 		return true;
 	say(LOG_ERR, "no memory for %u unsolicited lines: see --keep", d->options.keep);
@@ -280,6 +302,7 @@ static void end(struct daemon *d)
 	modem_end(&d->modem);
 	cimbaloty_dialect_free(&d->codes);
 	events_close(&d->events);
+	data_close(&d->data);
 	terminals_close(&d->terminals);
 	notify_close(&d->notify);
 	if (d->signals >= 0)

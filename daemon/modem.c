@@ -63,7 +63,8 @@ static void begin_line(struct modem *m, int fd, int64_t now)
 		return;
 	}
 	tcflush(m->fd, TCIFLUSH);
-	m->in_at = m->in_length = m->out_at = m->out_length = 0;
+	m->in_at = m->in_length = m->out_at = m->out_length = m->given_at = m->given_length = 0;
+	m->is_blocked = false;
 	cimbaloty_frames_begin(&m->came, (uint16_t)o->n1);
 	cimbaloty_frames_begin(&m->went, (uint16_t)o->n1);
 	entry_begin(&m->entry, o, now);
@@ -97,9 +98,28 @@ static bool write_line(struct modem *m)
 
 /* ---- The entry ---- */
 
+/* A relay, with a lane on each connection that is to carry data; none where none is. False where there is no memory. */
+static bool begin_relay(struct modem *m)
+{
+	const struct options *o = m->options;
+
+	if (o->lanes == 0)
+		return true;
+	if (cimbaloty_data_new_at(&m->relay, (uint16_t)o->n1, o->data, o->lanes) != CIMBALOTY_DATA_OK)
+		return false;
+	for (unsigned i = 0; i < o->lanes; i++)
+		cimbaloty_data_begin(&m->relay, o->data[i], o->carries[o->data[i]] == DATA_BEHIND_CONNECT);
+	return true;
+}
+
 static void be_up(struct modem *m, int64_t now)
 {
+	if (!begin_relay(m)) {
+		give_up(m, now, "no memory");
+		return;
+	}
 	if (cimbaloty_new_with_dialect(&m->c, m->codes, (uint16_t)m->options->n1, CIMBALOTY_ALL_KINDS, CIMBALOTY_ALL_OWN, m->last + 1) != CIMBALOTY_OK) {
+		cimbaloty_data_free(&m->relay);
 		give_up(m, now, "no memory");
 		return;
 	}
@@ -150,21 +170,97 @@ static void count(struct modem *m, const uint8_t *octets, size_t length, int64_t
 	m->came.longer_on = 0;
 }
 
-/* Hands what came to the driver, and what it gives to the line; false where the line has ended. */
-static bool exchange(struct modem *m, int64_t now)
+/* Hands what came to the driver. */
+static void take_in(struct modem *m, int64_t now)
+{
+	size_t taken;
+
+	if (m->in_at == m->in_length)
+		return;
+	cimbaloty_input(&m->c, m->in + m->in_at, m->in_length - m->in_at, &taken);
+	count(m, m->in + m->in_at, taken, now);
+	m->in_at += taken;
+}
+
+/* Hands the driver what waits for it at the relay; false where it doesn't take all. */
+static bool hand_over(struct modem *m)
+{
+	uint8_t room[1024];
+	size_t length, taken;
+
+	while ((length = cimbaloty_data_for_driver_at(&m->relay, room, sizeof room)) > 0) {
+		cimbaloty_input(&m->c, room, length, &taken);
+		cimbaloty_data_handed(&m->relay, taken);
+		if (taken < length)
+			return false;
+	}
+	return true;
+}
+
+/* Hands what came to the relay, and what that has for the driver to the driver. */
+static void take_in_by_relay(struct modem *m, int64_t now)
+{
+	size_t taken;
+
+	m->is_blocked = !hand_over(m);
+	if (m->is_blocked)
+		return;
+	m->is_blocked = cimbaloty_data_from_line_at(&m->relay, m->in + m->in_at, m->in_length - m->in_at, &taken) != CIMBALOTY_DATA_OK;
+	count(m, m->in + m->in_at, taken, now);
+	m->in_at += taken;
+	if (!hand_over(m))
+		m->is_blocked = true;
+}
+
+/* Takes octets of the relay for the line; false where it has none, or there is no room. */
+static bool put_out(struct modem *m)
+{
+	size_t length = cimbaloty_data_to_line_at(&m->relay, m->out + m->out_length, sizeof m->out - m->out_length);
+
+	m->out_length += length;
+	return length > 0 && m->out_length < sizeof m->out;
+}
+
+/* Takes octets for the line: first all that the driver has, and data behind them. */
+static void fill_out_by_relay(struct modem *m)
 {
 	size_t taken;
 
 	for (;;) {
-		if (m->in_at < m->in_length) {
-			cimbaloty_input(&m->c, m->in + m->in_at, m->in_length - m->in_at, &taken);
-			count(m, m->in + m->in_at, taken, now);
-			m->in_at += taken;
+		if (m->given_at == m->given_length) {
+			m->given_at = 0;
+			m->given_length = cimbaloty_output(&m->c, m->given, sizeof m->given);
 		}
-		if (m->out_length == 0) {
-			m->out_length = cimbaloty_output(&m->c, m->out, sizeof m->out);
-			cimbaloty_frames_take(&m->went, m->out, m->out_length);
-		}
+		if (m->given_length == 0)
+			break;
+		taken = cimbaloty_data_from_driver_at(&m->relay, m->given + m->given_at, m->given_length - m->given_at);
+		m->given_at += taken;
+		if (taken == 0 && !put_out(m))
+			return;
+	}
+	while (put_out(m))
+		;
+}
+
+static void fill_out(struct modem *m)
+{
+	if (m->options->lanes)
+		fill_out_by_relay(m);
+	else
+		m->out_length = cimbaloty_output(&m->c, m->out, sizeof m->out);
+	cimbaloty_frames_take(&m->went, m->out, m->out_length);
+}
+
+/* Hands what came to the driver, and what it gives to the line; false where the line has ended. */
+static bool exchange(struct modem *m, int64_t now)
+{
+	for (;;) {
+		if (m->options->lanes)
+			take_in_by_relay(m, now);
+		else
+			take_in(m, now);
+		if (m->out_length == 0)
+			fill_out(m);
 		if (m->out_length == 0)
 			return true;
 		if (!write_line(m))
@@ -180,6 +276,7 @@ void modem_end_line(struct modem *m, int64_t now)
 		return;
 	m->stage = MODEM_LEFT;
 	cimbaloty_line_lost(&m->c);
+	cimbaloty_data_lost(&m->relay);
 	tty_close(m->fd);
 	m->fd = -1;
 	m->retry_at = now;
@@ -206,6 +303,7 @@ void modem_settle(struct modem *m, int64_t now)
 	    || cimbaloty_peek_outcome(&m->c, &o) != CIMBALOTY_NOTHING || cimbaloty_peek_line(&m->c, &u) != CIMBALOTY_NOTHING)
 		return;
 	cimbaloty_free(&m->c);
+	cimbaloty_data_free(&m->relay);
 	m->stage = MODEM_GONE;
 	m->commands = 0;
 	if (m->is_to_end)
@@ -265,9 +363,17 @@ bool modem_waits(const struct modem *m, unsigned dlci)
 	       && (m->connections[0].request || m->connections[dlci].request);
 }
 
+bool modem_carries_data(struct modem *m, unsigned dlci)
+{
+	size_t none;
+
+	return cimbaloty_data_give_at(&m->relay, (uint8_t)dlci, m->out, 0, &none) == CIMBALOTY_DATA_OK;
+}
+
 bool modem_ask(struct modem *m, unsigned dlci, const char *text, size_t length, uint64_t *number)
 {
-	if (m->stage != MODEM_UP || m->stop || length > COMMAND || cimbaloty_command(&m->c, (uint8_t)dlci, text, length, number) != CIMBALOTY_OK)
+	if (m->stage != MODEM_UP || m->stop || m->options->carries[dlci] == DATA || modem_carries_data(m, dlci) || length > COMMAND
+	    || cimbaloty_command(&m->c, (uint8_t)dlci, text, length, number) != CIMBALOTY_OK)
 		return false;
 	m->last = *number;
 	m->commands++;
@@ -324,6 +430,7 @@ void modem_end(struct modem *m)
 		tty_close(m->fd);
 	m->fd = -1;
 	cimbaloty_free(&m->c);
+	cimbaloty_data_free(&m->relay);
 }
 
 short modem_events(const struct modem *m)
@@ -340,7 +447,7 @@ int64_t modem_deadline(struct modem *m, int64_t now)
 	default: break;
 	}
 	int64_t due = watch_deadline(m, now);
-	bool is_refused = m->in_at < m->in_length && m->out_length == 0;        /* memory was refused */
+	bool is_refused = (m->is_blocked || m->in_at < m->in_length) && m->out_length == 0;     /* memory was refused */
 	return is_refused && now + AGAIN < due ? now + AGAIN : due;
 }
 

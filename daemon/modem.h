@@ -3,6 +3,7 @@
 #define MODEM_H
 
 #include "cimbaloty.h"
+#include "cimbaloty_data.h"
 #include "entry.h"
 #include "options.h"
 
@@ -23,13 +24,15 @@ struct connection {
 struct modem {
 	const struct options *options;
 	struct cimbaloty c;
+	struct cimbaloty_data relay;    /* between the line and the driver, where connections carry data; else none */
 	struct cimbaloty_dialect *codes;
 	int fd;
 	enum modem_stage stage;
 	struct entry entry;
 	struct cimbaloty_frames came, went;
-	uint8_t in[1024], out[1024];
-	size_t in_at, in_length, out_at, out_length;
+	uint8_t in[4096], out[4096], given[1024];       /* given: what the driver gave, and the relay has to take */
+	size_t in_at, in_length, out_at, out_length, given_at, given_length;
+	bool is_blocked;        /* octets wait at the relay, for memory or for output to go first */
 	uint64_t last;          /* the last number of a request */
 	size_t commands;        /* under way */
 	struct connection connections[CONNECTIONS + 1];
@@ -65,10 +68,13 @@ void modem_turn(struct modem *m, int64_t now, bool can_read);
 /* Writes what waits for the line, as far as there is room. */
 void modem_send(struct modem *m, int64_t now);
 
+/* Whether data of a connection may be given, as it is open and carries data now. */
+bool modem_carries_data(struct modem *m, unsigned dlci);
+
 /* Whether a connection is about to open: a command for it may wait. */
 bool modem_waits(const struct modem *m, unsigned dlci);
 
-/* Sends a command line; false where it is none, is too long, or the modem isn't there. */
+/* Sends a command line; false where it is none, is too long, the connection carries data, or the modem isn't there. */
 bool modem_ask(struct modem *m, unsigned dlci, const char *text, size_t length, uint64_t *number);
 
 /* Whether a frame longer than N1 was dropped there since a command was asked: its answer isn't whole. */

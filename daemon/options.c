@@ -97,6 +97,19 @@ static const char *take_events(struct options *o, const char *text)
 	return NULL;
 }
 
+static const char *take_carries(struct options *o, const char *text, enum carries what)
+{
+	unsigned place;
+
+	if (!is_number(text, 1, CONNECTIONS, &place))
+		return "the number of a connection, 1 to 61";
+	o->carries[place] = (uint8_t)what;
+	return NULL;
+}
+
+static const char *take_data(struct options *o, const char *text) { return take_carries(o, text, DATA); }
+static const char *take_dial(struct options *o, const char *text) { return take_carries(o, text, DATA_BEHIND_CONNECT); }
+
 static const char *take_mode(struct options *o, const char *text)
 {
 	char *end;
@@ -158,6 +171,8 @@ static const struct word words[] = {
 	{ "limit", "SECONDS", "how long a command may wait for its answer (120)", NUMBER(limit, 1, 86400) },
 	{ "probe", "SECONDS", "after how long a silent modem is probed, 0 never (5)", NUMBER(probe, 0, 86400) },
 	{ "events", "NAME", "unsolicited lines go to at1, at2 .. too; repeatable", BY(take_events) },
+	{ "data", "D", "connection D carries data, on dataD; up to 8 of them", BY(take_data) },
+	{ "dial", "D", "so it does behind the CONNECT line of a command on atD", BY(take_dial) },
 	{ "keep", "N", "unsolicited lines kept while nobody reads, up to 65536 (256)", NUMBER(keep, 0, 65536) },
 	{ "mode", "MODE", "permissions of the terminals in octal, such as 660", BY(take_mode) },
 	{ "group", "GROUP", "group of the terminals", BY(take_group) },
@@ -277,6 +292,21 @@ static int take_option(struct options *o, char *name, const char *next)
 	return joined || !value ? 1 : 2;
 }
 
+static bool complete_data(struct options *o)
+{
+	for (unsigned place = 1; place <= CONNECTIONS; place++) {
+		if (o->carries[place] == LINES)
+			continue;
+		if (place > o->connections || o->lanes == LANES) {
+			fprintf(stderr, "cimbalotyd: data %u: %s\n", place, place > o->connections ? "there is no such connection: see --connections"
+				: "at most 8 connections carry data");
+			return false;
+		}
+		o->data[o->lanes++] = (uint8_t)place;
+	}
+	return true;
+}
+
 /* Fills in what wasn't said, and checks what needs the whole. */
 static bool complete(struct options *o)
 {
@@ -287,6 +317,8 @@ static bool complete(struct options *o)
 			fprintf(stderr, "cimbalotyd: events at%u: there are only %u connections\n", place, o->connections);
 			return false;
 		}
+	if (!complete_data(o))
+		return false;
 	if (!o->t1)
 		o->t1 = o->speed < 57600 ? 300 : 100;
 	if (!*o->entry && o->n1 != 31)

@@ -3,10 +3,14 @@
 #define OPTIONS_H
 
 #include <stdbool.h>
+#include <stdint.h>
 #include <stdio.h>
 #include <sys/types.h>
 
-enum { COMMAND = 256, CONNECTIONS = 61, INITS = 16 };
+enum { COMMAND = 256, CONNECTIONS = 61, INITS = 16, LANES = 8 };
+
+/* What a connection carries: commands; data, from its opening on; or data behind the CONNECT line of a command. */
+enum carries { LINES, DATA, DATA_BEHIND_CONNECT };
 
 struct options {
 	char *tty, *directory;          /* the modem's terminal; the folder for the pseudo-terminals */
@@ -21,6 +25,8 @@ struct options {
 	unsigned t1;                    /* milliseconds */
 	unsigned limit, probe;          /* seconds; probe 0: none */
 	bool events[CONNECTIONS + 1];   /* where unsolicited lines go: 0 is the terminal for events */
+	uint8_t carries[CONNECTIONS + 1], data[LANES];  /* enum carries; the connections that may carry data, in order */
+	unsigned lanes;                 /* how many these are */
 	unsigned keep;                  /* how many unsolicited lines are kept while nobody reads */
 	bool has_mode, has_group;       /* of the pseudo-terminals */
 	mode_t mode;

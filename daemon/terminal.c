@@ -62,8 +62,8 @@ static void close_one(struct terminals *ts, struct terminal *t)
 	t->ours = t->theirs = t->watch = -1;
 }
 
-/* The terminal is hung up for all who have it: another takes its place. The link is never without one. */
-static void make_anew(struct terminals *ts, struct terminal *t, const char *why)
+/* The link is never without a terminal. */
+void terminals_renew(struct terminals *ts, struct terminal *t, const char *why)
 {
 	struct terminal old = *t;
 
@@ -79,24 +79,35 @@ static void make_anew(struct terminals *ts, struct terminal *t, const char *why)
 	say(LOG_NOTICE, "%s %s: it is made anew", t->path, why);
 }
 
+/* The name of the terminal at a place: events, at1, at2 .., and data1, data2 .. by their connections. */
+static void name_of(const struct terminals *ts, unsigned place, char *name, size_t room)
+{
+	if (place == 0)
+		snprintf(name, room, "events");
+	else if (place <= ts->count)
+		snprintf(name, room, "at%u", place);
+	else
+		snprintf(name, room, "data%u", ts->options->data[place - ts->count - 1]);
+}
+
 bool terminals_open(struct terminals *ts, const struct options *o)
 {
-	static const char *const events = "events";
-
-	*ts = (struct terminals){ NULL, o->connections, inotify_init1(IN_NONBLOCK | IN_CLOEXEC), o };
-	ts->all = calloc(ts->count + 1, sizeof *ts->all);
+	*ts = (struct terminals){ .count = o->connections, .total = o->connections + 1 + o->lanes, .watcher = inotify_init1(IN_NONBLOCK | IN_CLOEXEC), .options = o };
+	ts->all = calloc(ts->total, sizeof *ts->all);
 	if (!ts->all || ts->watcher < 0) {
 		say(LOG_ERR, "no pseudo-terminals: %s", strerror(errno));
 		return false;
 	}
-	for (unsigned i = 0; i <= ts->count; i++)
+	ts->data = ts->all + ts->count + 1;
+	for (unsigned i = 0; i < ts->total; i++)
 		ts->all[i].ours = ts->all[i].theirs = ts->all[i].watch = -1;
-	for (unsigned i = 0; i <= ts->count; i++) {
+	for (unsigned i = 0; i < ts->total; i++) {
 		struct terminal *t = &ts->all[i];
 		char name[16];
 
-		snprintf(name, sizeof name, "at%u", i);
-		if (snprintf(t->path, sizeof t->path, "%s/%s", o->directory, i ? name : events) >= (int)sizeof t->path)
+		t->is_data = i > ts->count;
+		name_of(ts, i, name, sizeof name);
+		if (snprintf(t->path, sizeof t->path, "%s/%s", o->directory, name) >= (int)sizeof t->path)
 			errno = ENAMETOOLONG;
 		else if (open_one(ts, t))
 			continue;
@@ -109,7 +120,7 @@ bool terminals_open(struct terminals *ts, const struct options *o)
 
 void terminals_close(struct terminals *ts)
 {
-	for (unsigned i = 0; ts->all && i <= ts->count; i++) {
+	for (unsigned i = 0; ts->all && i < ts->total; i++) {
 		struct terminal *t = &ts->all[i];
 
 		if (t->ours >= 0 && t->path[0])
@@ -128,11 +139,11 @@ void terminals_close(struct terminals *ts)
  * wrote it. Nobody reads what is written to events. */
 static void drain(struct terminals *ts, struct terminal *t)
 {
-	while (t->ours >= 0 && t->in_length < PENDING) {
+	while (t->ours >= 0 && !t->is_data && t->in_length < PENDING) {
 		ssize_t n = read(t->ours, t->in + t->in_length, PENDING - t->in_length);
 
 		if (n < 0 && errno == EIO)
-			make_anew(ts, t, "was hung up");
+			terminals_renew(ts, t, "was hung up");
 		if (n <= 0 || t == ts->all)
 			return;
 		t->in_length += (size_t)n;
@@ -197,8 +208,7 @@ static size_t newcomer(const struct terminal *t)
 	return t->wrote_before ? last_command(t) : t->in_length - t->fresh;
 }
 
-/* The settings are as they were at first; false where it was hung up, so that nothing can be set. */
-static bool reset(const struct terminal *t)
+bool terminal_reset(const struct terminal *t)
 {
 	tcflush(t->theirs, TCIFLUSH);
 	tcflow(t->theirs, TCOON);
@@ -225,12 +235,12 @@ static void clean(struct terminals *ts, struct terminal *t)
 	t->is_orphan = t->is_waiting;
 	if (is_full)
 		tcflush(t->ours, TCIFLUSH);
-	if (!reset(t) && t->opens == 0)
-		make_anew(ts, t, "was hung up");
+	if (!terminal_reset(t) && t->opens == 0)
+		terminals_renew(ts, t, "was hung up");
 	if (t->read_behind)
-		make_anew(ts, t, "is hung up: a program read what another one had left there");
+		terminals_renew(ts, t, "is hung up: a program read what another one had left there");
 	else if (is_full && t->opens > 0 && !is_mixed)
-		make_anew(ts, t, "is hung up: a program came before all was dropped that another one had left there");
+		terminals_renew(ts, t, "is hung up: a program came before all was dropped that another one had left there");
 	else if (is_mixed) {
 		say(LOG_NOTICE, "%s: a program wrote as another one left: what it wrote is answered by ERROR", t->path);
 		terminal_put(t, "ERROR", 5);
@@ -239,10 +249,11 @@ static void clean(struct terminals *ts, struct terminal *t)
 
 static void see_one(struct terminals *ts, const struct inotify_event *e)
 {
-	for (unsigned i = 0; i <= ts->count; i++)
-		if (e->mask & IN_Q_OVERFLOW)
-			make_anew(ts, &ts->all[i], "is hung up, since too much happened at once");
-		else if (ts->all[i].watch == e->wd)
+	for (unsigned i = 0; i < ts->total; i++)
+		if (e->mask & IN_Q_OVERFLOW) {
+			terminals_renew(ts, &ts->all[i], "is hung up, since too much happened at once");
+			ts->all[i].has_left = ts->all[i].is_data;
+		} else if (ts->all[i].watch == e->wd)
 			see(&ts->all[i], e->mask);
 }
 
@@ -269,10 +280,10 @@ void terminals_look(struct terminals *ts)
 {
 	bool is_any = true;
 
-	for (unsigned i = 0; i <= ts->count; i++)
+	for (unsigned i = 0; i < ts->total; i++)
 		ts->all[i].fresh = 0;
 	for (unsigned pass = 0; is_any && pass < PASSES; pass++) {      /* what was seen to be written is read too */
-		for (unsigned i = 0; i <= ts->count; i++) {
+		for (unsigned i = 0; i < ts->total; i++) {
 			drain(ts, &ts->all[i]);
 			if (ts->all[i].has_left)
 				tcflush(ts->all[i].theirs, TCIFLUSH);
@@ -312,24 +323,42 @@ bool terminal_next_line(struct terminal *t)
 	return is_whole;
 }
 
-void terminal_put(struct terminal *t, const char *text, size_t length)
+/* Gives room for so many octets behind those that wait, which stay; NULL where there is no memory. */
+static char *make_room(struct terminal *t, size_t length)
 {
-	size_t whole = t->out_length + length + 4;
+	size_t whole = t->out_length + length;
 
 	if (whole > t->out_room) {
 		char *more = realloc(t->out, whole * 2);
 
 		if (!more) {
-			say(LOG_ERR, "no memory: a line for %s is dropped", t->path);
-			return;
+			say(LOG_ERR, "no memory: octets for %s are dropped", t->path);
+			return NULL;
 		}
 		t->out = more;
 		t->out_room = whole * 2;
 	}
-	memcpy(t->out + t->out_length, "\r\n", 2);
-	memcpy(t->out + t->out_length + 2, text, length);
-	memcpy(t->out + t->out_length + 2 + length, "\r\n", 2);
 	t->out_length = whole;
+	return t->out + whole - length;
+}
+
+void terminal_put(struct terminal *t, const char *text, size_t length)
+{
+	char *room = make_room(t, length + 4);
+
+	if (!room)
+		return;
+	memcpy(room, "\r\n", 2);
+	memcpy(room + 2, text, length);
+	memcpy(room + 2 + length, "\r\n", 2);
+}
+
+void terminal_put_raw(struct terminal *t, const void *octets, size_t length)
+{
+	char *room = make_room(t, length);
+
+	if (room)
+		memcpy(room, octets, length);
 }
 
 size_t terminal_waits(const struct terminal *t)

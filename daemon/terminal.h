@@ -14,7 +14,7 @@
 enum { PENDING = 4096 };
 
 struct terminal {
-	const char *directory, *name;
+	bool is_data;           /* raw octets; who has it reads and writes them, not this module */
 	char path[300], device[64];
 	int ours, theirs, watch;
 	struct termios raw;
@@ -28,7 +28,7 @@ struct terminal {
 	size_t out_at, out_length, out_room;
 	/* who is there */
 	unsigned opens;
-	bool has_left;          /* in this round the last program left, and whether the others wrote before and behind that */
+	bool has_left;          /* in this round the last program left, and whether the others wrote before and behind that; of data: since it was seen off */
 	bool wrote_before, wrote_behind;
 	bool read_behind;       /* one that came then read what the last one hadn't */
 	bool is_last_line;      /* `in` has a line of a program that has left */
@@ -41,6 +41,8 @@ struct terminal {
 struct terminals {
 	struct terminal *all;   /* 0 is for events */
 	unsigned count;         /* of those for commands */
+	struct terminal *data;  /* behind those, for data */
+	unsigned total;         /* of all */
 	int watcher;            /* inotify */
 	const struct options *options;
 };
@@ -48,6 +50,12 @@ struct terminals {
 /* Makes the terminals, and links to them in the folder. False, with what is wrong said, where one can't be made. */
 bool terminals_open(struct terminals *ts, const struct options *o);
 void terminals_close(struct terminals *ts);
+
+/* Hangs a terminal up for all who have it: another takes its place. */
+void terminals_renew(struct terminals *ts, struct terminal *t, const char *why);
+
+/* Sets a terminal as it was at first, and drops what wasn't read; false where it was hung up, so that nothing can be set. */
+bool terminal_reset(const struct terminal *t);
 
 /* Reads what programs wrote, and then sees who came and left. */
 void terminals_look(struct terminals *ts);
@@ -58,6 +66,9 @@ bool terminal_next_line(struct terminal *t);
 
 /* Puts a line into what is to be written, between CR LF and CR LF (V.250, 5.7.1). */
 void terminal_put(struct terminal *t, const char *text, size_t length);
+
+/* Puts octets there as they are. */
+void terminal_put_raw(struct terminal *t, const void *octets, size_t length);
 
 /* How many octets wait to be written, and the writing of them as far as there is room. */
 size_t terminal_waits(const struct terminal *t);

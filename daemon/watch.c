@@ -231,6 +231,18 @@ static void keep_limit(struct modem *m, unsigned dlci)
 		say(LOG_WARNING, "at%u: a command has had no answer for %u s: connection %u is closed and opened again", dlci, m->options->limit, dlci);
 }
 
+bool watch_hang_up(struct modem *m, unsigned dlci)
+{
+	struct connection *k = &m->connections[dlci];
+
+	if (m->stage != MODEM_UP || m->stop || cimbaloty_state(&m->c, (uint8_t)dlci) != CIMBALOTY_IS_OPENED)
+		return true;
+	if (k->request || cimbaloty_close(&m->c, (uint8_t)dlci, &k->request) != CIMBALOTY_OK)
+		return false;
+	m->last = k->request;
+	return true;
+}
+
 void watch_turn(struct modem *m, int64_t now)
 {
 	keep_time(m, now);

@@ -13,6 +13,9 @@ void watch_turn(struct modem *m, int64_t now);
 /* Whether the outcome is of a request of its own; if so, it is dealt with. */
 bool watch_outcome(struct modem *m, const struct cimbaloty_outcome *o, int64_t now);
 
+/* Closes a connection, if it is open; it is opened again then. False where this has to wait. */
+bool watch_hang_up(struct modem *m, unsigned dlci);
+
 int64_t watch_deadline(struct modem *m, int64_t now);
 
 /* In modem.c: the line is lost, or the multiplexer has ended. The driver tells what it has left, and then goes. */

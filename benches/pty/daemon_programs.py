@@ -68,8 +68,9 @@ def unread(build):
 
 
 def told_and_left(build):
-    """A command that a program writes and doesn't wait for is sent; its answer is nobody's, also where the next program comes at once."""
-    line, said = Line(), []
+    """A command that a program writes and doesn't wait for is sent; its answer is nobody's, also where the next program comes at once. A
+    program that came so early that it read the answer is hung up."""
+    line, said, hung = Line(), [], 0
     with Daemon(build, line.path) as daemon:
         for n in range(40):
             with daemon.terminal("at1") as terminal:
@@ -77,12 +78,13 @@ def told_and_left(build):
             if n % 2:
                 time.sleep(0.02)
             with daemon.terminal("at1") as terminal:
-                said.append(terminal.ask(f"AT+HERE{n}", 1))
+                said.append(terminal.ask(f"AT+HERE{n}", 5))
+                hung += is_own(said[-1], f"AT+GONE{n}") and terminal.is_hung_up(5)
         asked = [text for _, text in line.modem.asked]
         errors = said.count(["ERROR"])
         right = sum(is_own(it, f"AT+HERE{n}") for n, it in enumerate(said))
-        check(f"{build.name}: written and left", right + errors == 40 and right >= 30 and sum(it.startswith(b"AT+GONE") for it in asked) >= 30,
-              f"{right} of 40 later commands have their own answers, {errors} ERROR; {len(asked) - right} of those left were sent")
+        check(f"{build.name}: written and left", right + errors + hung == 40 and right >= 30 and sum(it.startswith(b"AT+GONE") for it in asked) >= 30,
+              f"{right} of 40 later commands have their own answers, {errors} ERROR, {hung} programs were hung up; {len(asked) - right} of those left were sent")
     line.end()
 
 
