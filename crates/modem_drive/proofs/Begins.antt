@@ -44,7 +44,7 @@ begins look rules n1 line d s users fits same new whole subscribed shown none_as
 
 -- the same, and it was driven to its end
 pub drove : {X : Type 0} (look : X → LineView) (rules : Rules) (text : List ℕ) (n1 : ℕ) (first line last : X) (s : SessionState X) (users : Users) (input before after silent said : Option (List ℕ)) (p : PlanView) (end : Option DriveFault) (was_bad : Bool) (left : Settled)
-    → HasEntered text (look first) (look line) → Begins look rules n1 line s users → HasDriven look s users (plan_begun input) p before after silent said end left last → was_bad ≡ p.was_bad
+    → HasEntered n1 text (look first) (look line) → Begins look rules n1 line s users → HasDriven look s users (plan_begun input) p before after silent said end left last → was_bad ≡ p.was_bad
     → Drove look rules text n1 first last input before after silent said end was_bad left
 drove {X} look rules text n1 first line last s users input before after silent said p end was_bad left entered b driven bad =
     let asks : AsksOn (plan_begun input) p users.caller.submitted driven.ends.ended.caller.submitted silent said =
@@ -55,7 +55,7 @@ drove {X} look rules text n1 first line last s users input before after silent s
     let order : KeepsOrder driven.ends.ended.channels driven.ends.ended.caller = driven.ends.goes.orders before shown (driven.goes.orders before (b.shown before) b.order) in
     record {
       session = s;
-      entered = subst (λ (x : X). HasEntered text (look first) (look x)) (sym b.at_line) entered;
+      entered = subst (λ (x : X). HasEntered n1 text (look first) (look x)) (sym b.at_line) entered;
       users = users;
       begins = record {
         new = b.new;
@@ -87,7 +87,7 @@ named_by look rules text n1 line last input before after silent said end was_bad
 
 -- the same of what a drive that has begun came to
 pub drove_if : {X : Type 0} (look : X → LineView) (rules : Rules) (text : List ℕ) (n1 : ℕ) (first line : X) (s : SessionState X) (users : Users) (input before after silent said : Option (List ℕ)) (r : Result (X × Driven) DriveFault)
-    → HasEntered text (look first) (look line) → Begins look rules n1 line s users → IfOk r (λ r. DrivesInput look s users input before after silent said r.1.fault r.1.was_bad r.1.left r.0)
+    → HasEntered n1 text (look first) (look line) → Begins look rules n1 line s users → IfOk r (λ r. DrivesInput look s users input before after silent said r.1.fault r.1.was_bad r.1.left r.0)
     → IfOk r (λ r. Drove look rules text n1 first r.0 input before after silent said r.1.fault r.1.was_bad r.1.left)
 drove_if look rules text n1 first line s users input before after silent said (Ok x) entered b h =
     drove look rules text n1 first line x.0 s users input before after silent said h.through x.1.fault x.1.was_bad x.1.left entered b h.driven h.bad_is

@@ -13,7 +13,7 @@ use Rattle.modem_driver.specs.declared.session.error.SessionFault.TheVariants as
 use Rattle.modem_driver.specs.declared.session.polling.Progress.{Progress}
 use Rattle.modem_driver.specs.declared.session.polling.Progress.TheVariants as progress
 use Rattle.modem_drive.specs.Asking.{PlanView}
-use Rattle.modem_drive.specs.Ending.{FailedFor, HasEndedBy, KeepsGiven, SaysBy}
+use Rattle.modem_drive.specs.Ending.{FailedFor, HasEndedBy, IsToldFault, KeepsGiven, SaysBy}
 use Rattle.modem_drive.specs.declared.driving.Went.{Went}
 use Rattle.modem_drive.specs.declared.driving.Went.TheVariants as went
 use Rattle.modem_drive.specs.declared.fault.DriveFault.{DriveFault}
@@ -62,7 +62,7 @@ ended_by said c p (Some fault.HungUp) k s = (s.0, failed s.0 (subst (λ (q : Pro
     failed error.Line h n = h
     failed error.Failed h n = h
 ended_by said c p (Some fault.NoMemory) k s = tt
-ended_by said c p (Some fault.Input) k s = tt
+ended_by said c p (Some fault.Input) k s = s
 ended_by said c p (Some fault.Output) k s = tt
 ended_by said c p (Some fault.NoThread) k s = tt
 ended_by said c p (Some (fault.NoDevice kind)) k s = tt
@@ -73,13 +73,14 @@ ended_by said c p (Some fault.NotOpened) k s = tt
 ended_by said c p (Some fault.Closed) k s = tt
 ended_by said c p (Some (fault.GaveUp cause)) k s = tt
 ended_by said c p (Some (fault.NoCapture kind)) k s = tt
+ended_by said c p (Some fault.Silent) k s = tt
 ended_by said c p (Some fault.Capture) k s = tt
 
--- a fault other than a line that hung up
-other_fault : (said : Progress) (p : PlanView) (f : DriveFault) → Some f ≢ Some fault.HungUp → SaysBy said p (Some f)
-other_fault said p fault.HungUp n = absurd (n refl)
+-- a fault that was told
+other_fault : (said : Progress) (p : PlanView) (f : DriveFault) → IsToldFault (Some f) → SaysBy said p (Some f)
+other_fault said p fault.HungUp n = absurd (n.not_line refl)
 other_fault said p fault.NoMemory n = tt
-other_fault said p fault.Input n = tt
+other_fault said p fault.Input n = absurd (n.not_input refl)
 other_fault said p fault.Output n = tt
 other_fault said p fault.NoThread n = tt
 other_fault said p (fault.NoDevice kind) n = tt
@@ -90,9 +91,10 @@ other_fault said p fault.NotOpened n = tt
 other_fault said p fault.Closed n = tt
 other_fault said p (fault.GaveUp cause) n = tt
 other_fault said p (fault.NoCapture kind) n = tt
+other_fault said p fault.Silent n = tt
 other_fault said p fault.Capture n = tt
 
-pub said_otherwise : (said : Progress) (p : PlanView) (f : DriveFault) (end : Option DriveFault) → went.Ends (Some f) ≡ went.Ends end → Some f ≢ Some fault.HungUp → SaysBy said p end
+pub said_otherwise : (said : Progress) (p : PlanView) (f : DriveFault) (end : Option DriveFault) → went.Ends (Some f) ≡ went.Ends end → IsToldFault (Some f) → SaysBy said p end
 said_otherwise said p f end e n = let same : Some f ≡ end = cc in subst (SaysBy said p) same (other_fault said p f n)
 
 -- what a round says of how it ends, by what its poll says

@@ -83,16 +83,23 @@ abbrev pub FailedFor : SessionFault → Course → Type 0
 FailedFor why c = c ≡ course.Ended (Err why)
 
 -- Without a fault the session ended after a Stop, and the drive was through: the whole input was read, and the reader didn't
--- fail. A line that hung up is one that failed the session.
+-- fail. A line that hung up is one that failed the session. The fault of the input is that its reader failed.
 abbrev pub HasEndedBy : Course → PlanView → Option DriveFault → Type 0
 HasEndedBy c p None = (c ≡ course.Ended (Ok Stopped)) × (p.stopping ≡ true) × (p.input.failed ≡ false)
 HasEndedBy c p (Some fault.HungUp) = (why : SessionFault) × FailedFor why c
+HasEndedBy c p (Some fault.Input) = p.input.failed ≡ true
 HasEndedBy c p (Some _) = Unit {0}
+
+-- neither of the faults that only a poll says
+pub record IsToldFault (f : Option DriveFault) : Type 0 where
+  pub not_line : f ≡ Some fault.HungUp → ⊥
+  pub not_input : f ≡ Some fault.Input → ⊥
 
 -- the same of what a poll gives
 abbrev pub SaysBy : Progress → PlanView → Option DriveFault → Type 0
 SaysBy said p None = (said ≡ progress.Ended (Ok Stopped)) × (p.stopping ≡ true) × (p.input.failed ≡ false)
 SaysBy said p (Some fault.HungUp) = (why : SessionFault) × (said ≡ progress.Ended (Err why)) × (why ≡ error.NoMemory → ⊥)
+SaysBy said p (Some fault.Input) = p.input.failed ≡ true
 SaysBy said p (Some _) = Unit {0}
 
 -- The session went on by polls and ticks while its users submitted what the input asks, took and printed, and bad lines were named;

@@ -33,11 +33,13 @@ fault_words fault.NotSetUp =
 fault_words fault.Refused =
     codes "fault: refused: the modem didn't answer OK to the text that enters the multiplexer (--entry gives another)"
 fault_words fault.NoAnswer =
-    codes "fault: no answer to the text that enters the multiplexer, in two tries: is it the modem's port for AT commands, and its speed right?"
+    codes "fault: no answer to the text that enters the multiplexer, in three tries: is it the modem's port for AT commands, and its speed right?"
 fault_words fault.NotOpened =
     codes "fault: connection 0 isn't open: the modem entered the multiplexer, and refused it or didn't answer"
 fault_words fault.Closed = codes "fault: the modem ended the multiplexer: commands without an answer were told so"
 fault_words fault.HungUp = codes "fault: hung up: the line was lost, and commands without an answer were told so"
+fault_words fault.Silent =
+    codes "fault: the modem stopped answering: a command had no answer for as long as --quiet-for says, and the closing of its connection had none"
 fault_words (fault.NoCapture why) = codes "fault: the capture can't be made"
 fault_words fault.Capture = codes "fault: capture"
 fault_words (fault.GaveUp why) = give_up_words why
@@ -56,6 +58,7 @@ fault_text fault.NoAnswer = Some (fault_words fault.NoAnswer)
 fault_text fault.NotOpened = Some (fault_words fault.NotOpened)
 fault_text fault.Closed = Some (fault_words fault.Closed)
 fault_text fault.HungUp = Some (fault_words fault.HungUp)
+fault_text fault.Silent = Some (fault_words fault.Silent)
 fault_text fault.Capture = Some (fault_words fault.Capture)
 fault_text (fault.GaveUp why) = Some (give_up_words why)
 
@@ -73,5 +76,6 @@ fault_head fault.NoAnswer = None
 fault_head fault.NotOpened = None
 fault_head fault.Closed = None
 fault_head fault.HungUp = None
+fault_head fault.Silent = None
 fault_head fault.Capture = None
 fault_head (fault.GaveUp why) = None

@@ -1,5 +1,7 @@
 -- What contracts see of what is to be asked.
 use Rattle.std.specs.Prelude.{Bool, true, false, List, [], ◌∷◌, Option, None, Some}
+use Rattle.modem_desk.specs.declared.request.Answer.{Answer}
+use Rattle.modem_desk.specs.declared.request.Answer.TheVariants.{NoAnswer}
 use Rattle.modem_desk.specs.declared.request.Ask.{Ask}
 use Rattle.modem_desk.specs.declared.request.Ask.TheVariants as ask
 use Rattle.modem_drive.specs.Asking.{PlanView}
@@ -23,3 +25,8 @@ abbrev pub after_asking : Control → PlanView → PlanView
 after_asking control.Stop p = record p { stopping = true }
 after_asking (control.Open d) p = p
 after_asking (control.Close d) p = p
+
+-- it is the closing of a connection, and the modem didn't answer it
+abbrev pub is_unclosed : Control → Answer → Bool
+is_unclosed (control.Close d) NoAnswer = true
+is_unclosed _ _ = false

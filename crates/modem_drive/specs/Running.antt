@@ -42,9 +42,9 @@ pub record Begins {X : Type 0} (look : X → LineView) (rules : Rules) (n1 : ℕ
   pub order : KeepsOrder users.channels users.caller
   pub dialect : users.dialect ≡ rules
 
--- the multiplexer was entered by this text, at the first try or at the second
-abbrev pub HasEntered : (text : List ℕ) → (first now : LineView) → Type 0
-HasEntered text first now = IsRepliedTo first now false text Good
+-- the multiplexer was entered by this text, at one of three tries
+abbrev pub HasEntered : (n1 : ℕ) (text : List ℕ) → (first now : LineView) → Type 0
+HasEntered n1 text first now = IsRepliedTo first now n1 false text Good
 
 -- nothing of this input was read yet
 abbrev pub plan_begun : Option (List ℕ) → PlanView
@@ -71,7 +71,7 @@ pub record DrivesInput {X : Type 0} (look : X → LineView) (s : SessionState X)
 pub record Drove {X : Type 0} (look : X → LineView) (rules : Rules) (text : List ℕ) (n1 : ℕ) (line last : X)
     (input before after silent said : Option (List ℕ)) (end : Option DriveFault) (was_bad : Bool) (left : Settled) : Type 0 where
   pub session : SessionState X
-  pub entered : HasEntered text (look line) (look session.line)
+  pub entered : HasEntered n1 text (look line) (look session.line)
   pub users : Users
   pub begins : Begins look rules n1 session.line session users
   pub through : PlanView

@@ -116,6 +116,7 @@ path_for device capture fault.NoAnswer = device
 path_for device capture fault.NotOpened = device
 path_for device capture fault.Closed = device
 path_for device capture fault.HungUp = device
+path_for device capture fault.Silent = device
 path_for device capture fault.Capture = device
 path_for device capture (fault.GaveUp cause) = device
 

@@ -65,7 +65,7 @@ struct Waiting {
 pub struct Channels {
     states: [ChannelState; Dlci::COUNT],
     waiting: [Waiting; Dlci::COUNT],
-    quiet_for: Option<Duration>,
+    quiet_for: Duration,
 }
 
 impl Model for Channels {
@@ -79,7 +79,7 @@ impl Model for Channels {
 
 impl Channels {
     /// Connections of which none is open.
-    pub fn new(quiet_for: Option<Duration>) -> Channels
+    pub fn new(quiet_for: Duration) -> Channels
         ensures { result ≡ replicate 62 state.Untold }
     {
         let none = Waiting {
@@ -155,16 +155,15 @@ impl Channels {
         self.set(dlci, state);
     }
 
-    /// How long the commands of a connection may go on to wait, if there is a limit and one waits on an open connection.
+    /// How long the commands of a connection may go on to wait, if one waits on an open connection.
     fn left<K: Clock>(&self, clock: &K, number: usize) -> Option<Duration>
         requires { number < 62 }
     {
         if self.states[number] != ChannelState::Open {
             return None;
         }
-        let quiet_for = self.quiet_for?;
         let waited = self.waiting[number].since?.elapsed(clock).ok()?;
-        Some(quiet_for.saturating_sub(waited))
+        Some(self.quiet_for.saturating_sub(waited))
     }
 
     /// A connection whose commands have waited too long, if there is one.

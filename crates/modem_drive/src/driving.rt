@@ -1,13 +1,12 @@
 //! The loop of a drive: it asks, polls the session, prints what came, and waits.
-ghost use Rattle.std.specs.Prelude.{◌≡◌, ◌≢◌, true, false, IfOk, OnErr, OnOk, Option, None, Some};
+ghost use Rattle.std.specs.Prelude.{◌≡◌, ◌<◌, true, false, IfOk, OnErr, OnOk, Option, None, Some};
 ghost use Rattle.std.specs.Duration.{as_nanos};
 ghost use Rattle.modem_driver.specs.SessionStates.{line_by};
 ghost use Rattle.modem_drive.specs.Asking.{AsksOn, StopsOn};
 ghost use Rattle.modem_drive.specs.Driving.{DrivesOn, IsDue, IsNotDue};
-ghost use Rattle.modem_drive.specs.Ending.{HasEndedBy, KeepsGiven, SaysBy};
+ghost use Rattle.modem_drive.specs.Ending.{HasEndedBy, IsToldFault, KeepsGiven, SaysBy};
 ghost use Rattle.modem_drive.specs.declared.driving.Went.TheVariants as went;
 ghost use Rattle.modem_drive.specs.declared.fault.DriveFault.{DriveFault};
-ghost use Rattle.modem_drive.specs.declared.fault.DriveFault.TheVariants as fault;
 ghost use Rattle.modem_drive.specs.Showing.{GoOn};
 
 use crate::fault::{DriveFault, GiveUp};
@@ -34,15 +33,22 @@ pub struct Ticks {
 }
 
 impl Ticks {
-    /// A tick each `period`.
+    /// A tick each `period`, or each millisecond where that is no time at all.
     pub fn new(period: Duration) -> Ticks
-        ensures { result ≡ record { period = period; last = None } }
+        ensures given { 0 < as_nanos period → result ≡ record { period = period; last = None } }
+        ensures some { 0 < as_nanos result.period }
     {
+        let period = if period.is_zero() {
+            Duration::from_millis(1)
+        } else {
+            period
+        };
         Ticks { period, last: None }
     }
 
     /// Whether one is due now. The first is due a period after they were first wanted.
     fn are_due<K: Clock>(&mut self, clock: &K, wanted: bool) -> bool
+        requires { 0 < as_nanos self.old.period }
         ensures period { self.new.period ≡ self.old.period }
         ensures wanted { result ≡ true → wanted ≡ true }
         ensures due { result ≡ true → IsDue (as_nanos self.old.period) self.old.last self.new.last }
@@ -99,6 +105,8 @@ fn poll<L: SerialLine, R: Wait + Drop, K: Clock>(
     session: &mut Session<L, R>,
     ticks: &mut Ticks,
 ) -> Progress
+    requires { 0 < as_nanos ticks.old.period }
+    ensures period { ticks.new.period ≡ ticks.old.period }
     ensures drives { DrivesOn (line_by L.received L.sent L.calls L.failures L.empty_reads L.stalled_writes) session.old session.new }
     ensures ends { KeepsGiven result session.new.machine.course }
 {
@@ -126,7 +134,7 @@ pub fn show<I: Read, W: Write, K: Clock>(
     ensures goes { OnOk result (GoOn (W.contents output.old) (W.contents output.new) users.old users.new) }
     ensures same { plan.new ≡ plan.old }
     ensures submits_none { OnOk result (users.new.caller.submitted ≡ users.old.caller.submitted) }
-    ensures why { IfOk result (λ shown. shown.fault ≢ Some fault.HungUp) }
+    ensures why { IfOk result (λ shown. IsToldFault shown.fault) }
 {
     let lines = users.show_lines(alloc, output)?;
     match users.show_outcome(clock, alloc, output)? {
@@ -215,6 +223,8 @@ fn round<L: SerialLine, R: Wait + Clock + Drop, I: Read, W: Write, E: Write>(
     output: &mut W,
     faults: &mut E,
 ) -> Result<Went, DriveFault>
+    requires { 0 < as_nanos ticks.old.period }
+    ensures period { ticks.new.period ≡ ticks.old.period }
     ensures drives { DrivesOn (line_by L.received L.sent L.calls L.failures L.empty_reads L.stalled_writes) session.old session.new }
     ensures goes { OnOk result (GoOn (W.contents output.old) (W.contents output.new) users.old users.new) }
     ensures asks { OnOk result (AsksOn plan.old plan.new users.old.caller.submitted users.new.caller.submitted
@@ -238,8 +248,8 @@ fn rest<L: SerialLine, R: Wait + Clock + Drop>(
     bell.wait(rt, ticks.time_left(rt, session.wants_tick(), most));
 }
 
-/// Goes on until the multiplexer has ended, or the drive ends by a fault. It prints all that came by then, and gives the fault, if
-/// there was one. Refused with NoMemory, Output or GaveUp.
+/// Goes on until the multiplexer has ended, or the drive ends by a fault. It prints all that came by then, and gives the fault, if there
+/// was one. Refused with NoMemory, Output or GaveUp. The condition is that T1 isn't 0.
 #[tactic(auto, using(crate::proofs::Lines::stays, crate::proofs::Lines::goes_then, crate::proofs::Drives::drives_none, crate::proofs::Drives::drives_then))]
 pub fn drive_on<L: SerialLine, R: Wait + Clock + Drop, I: Read, W: Write, E: Write>(
     rt: &R,
@@ -252,6 +262,7 @@ pub fn drive_on<L: SerialLine, R: Wait + Clock + Drop, I: Read, W: Write, E: Wri
     output: &mut W,
     faults: &mut E,
 ) -> Result<Option<DriveFault>, DriveFault>
+    requires { 0 < as_nanos ticks.old.period }
     ensures drives { DrivesOn (line_by L.received L.sent L.calls L.failures L.empty_reads L.stalled_writes) session.old session.new }
     ensures goes { OnOk result (GoOn (W.contents output.old) (W.contents output.new) users.old users.new) }
     ensures asks { OnOk result (AsksOn plan.old plan.new users.old.caller.submitted users.new.caller.submitted

@@ -48,7 +48,7 @@ pub enum DriveFault {
     Output,
     /// The device can't be opened, for this reason.
     NoDevice(ErrorKind),
-    /// The device failed or ended before the multiplexer was entered.
+    /// The device is a regular file, or failed or ended before the multiplexer was entered.
     NotSetUp,
     /// The modem refused to enter the multiplexer.
     Refused,
@@ -60,6 +60,8 @@ pub enum DriveFault {
     Closed,
     /// The line was lost.
     HungUp,
+    /// A command had no answer for as long as the settings say, and the modem didn't answer the closing of its connection.
+    Silent,
     /// The file of the capture can't be made, for this reason.
     NoCapture(ErrorKind),
     /// The capture can't be written. All else was done.
@@ -88,7 +90,7 @@ impl DriveFault {
                 "fault: refused: the modem didn't answer OK to the text that enters the multiplexer (--entry gives another)"
             }
             DriveFault::NoAnswer => {
-                "fault: no answer to the text that enters the multiplexer, in two tries: is it the modem's port for AT commands, and its speed right?"
+                "fault: no answer to the text that enters the multiplexer, in three tries: is it the modem's port for AT commands, and its speed right?"
             }
             DriveFault::NotOpened => {
                 "fault: connection 0 isn't open: the modem entered the multiplexer, and refused it or didn't answer"
@@ -98,6 +100,9 @@ impl DriveFault {
             }
             DriveFault::HungUp => {
                 "fault: hung up: the line was lost, and commands without an answer were told so"
+            }
+            DriveFault::Silent => {
+                "fault: the modem stopped answering: a command had no answer for as long as --quiet-for says, and the closing of its connection had none"
             }
             DriveFault::NoCapture(_) => "fault: the capture can't be made",
             DriveFault::Capture => "fault: capture",

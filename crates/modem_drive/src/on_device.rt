@@ -26,12 +26,18 @@ use std::rt::{Clock, Files};
 use std::sync::Wait;
 use std::thread::Threads;
 
-/// The device of this path, opened for reading and for writing.
+/// The device of this path, opened for reading and for writing. A regular file is refused with NotSetUp before it is opened for
+/// writing.
 fn open_device<R: Files<File = File>>(rt: &R, path: &str) -> Result<(File, File), DriveFault> {
     let reader = match File::open(rt, path) {
         Ok(reader) => reader,
         Err(error) => return Err(DriveFault::NoDevice(error.kind())),
     };
+    match reader.metadata() {
+        Ok(found) if found.is_file() => return Err(DriveFault::NotSetUp),
+        Ok(_) => {}
+        Err(error) => return Err(DriveFault::NoDevice(error.kind())),
+    }
     let writer = match OpenOptions::new().write(true).open(rt, path) {
         Ok(writer) => writer,
         Err(error) => return Err(DriveFault::NoDevice(error.kind())),

@@ -1,9 +1,10 @@
 //! What is asked of the desk next: the lines of the input as commands, and what they need.
-ghost use Rattle.std.specs.Prelude.{◌≡◌, ◌≢◌, ℕ, [], List, Option, Some, true, IfSome, OnErr, OnOk};
+ghost use Rattle.std.specs.Prelude.{◌≡◌, ◌≢◌, ℕ, [], List, Option, Some, true, false, IfSome, OnErr, OnOk};
 ghost use Rattle.modem_desk.specs.declared.request.Request.{Request};
 ghost use Rattle.modem_drive.specs.Asking.{AsksOn, IsThrough, ReadsLine, StopsOn};
 ghost use Rattle.modem_drive.specs.Channels.{IsToldNext};
-ghost use Rattle.modem_drive.specs.Plans.{after_asking};
+ghost use Rattle.modem_drive.specs.Ending.{IsToldFault};
+ghost use Rattle.modem_drive.specs.Plans.{after_asking, is_unclosed};
 ghost use Rattle.modem_drive.specs.Showing.{GoOn};
 ghost use Rattle.modem_drive.specs.declared.fault.DriveFault.TheVariants as fault;
 ghost use Rattle.modem_drive.specs.declared.users.Control.TheVariants as control;
@@ -281,7 +282,8 @@ impl<I: Read> Plan<I> {
     /// What an opening was told: the fault by which the drive ends, if it does.
     fn judge_opening(&mut self, dlci: Dlci, answer: &Answer) -> Option<DriveFault>
         ensures same { self.new ≡ self.old }
-        ensures why { result ≢ Some fault.HungUp }
+        ensures why { IsToldFault result }
+        ensures heard { result ≢ Some fault.Silent }
     {
         match answer {
             Answer::Opened | Answer::AlreadyOpen => {
@@ -300,10 +302,13 @@ impl<I: Read> Plan<I> {
     /// What was asked beside commands was told this: the fault by which the drive ends, if it does.
     pub fn judge(&mut self, control: Control, answer: &Answer) -> Option<DriveFault>
         ensures same { self.new ≡ self.old }
-        ensures why { result ≢ Some fault.HungUp }
+        ensures why { IsToldFault result }
+        ensures silent { is_unclosed control answer.now ≡ true → result ≡ Some fault.Silent }
+        ensures heard { is_unclosed control answer.now ≡ false → result ≢ Some fault.Silent }
     {
         match control {
             Control::Open(dlci) => self.judge_opening(dlci, answer),
+            Control::Close(_) if matches!(answer, Answer::NoAnswer) => Some(DriveFault::Silent),
             Control::Stop if matches!(answer, Answer::NotOpen) => Some(DriveFault::Closed),
             Control::Stop | Control::Close(_) => None,
         }

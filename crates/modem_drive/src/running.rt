@@ -1,5 +1,6 @@
 //! A drive, from its line to its end.
-ghost use Rattle.std.specs.Prelude.{◌≡◌, [], ◌∷◌, ℕ, List, Option, IfOk, OnErr, OnOk, map};
+ghost use Rattle.std.specs.Prelude.{◌≡◌, ◌<◌, [], ◌∷◌, ℕ, List, Option, IfOk, OnErr, OnOk, map};
+ghost use Rattle.std.specs.Duration.{as_nanos};
 ghost use Rattle.modem_desk.specs.Ends.{AreSubscribed, IsWhole, place_of, subscription_of};
 ghost use Rattle.at_text.specs.Rules.{dialect_of};
 ghost use Rattle.modem_driver.specs.SessionStates.{FitsAll, beginning_by, line_by};
@@ -18,7 +19,7 @@ use crate::input::Lines;
 use crate::patience::TimeLimit;
 use crate::plan::Plan;
 use crate::results::beside;
-use crate::settings::{Settings, entry_of};
+use crate::settings::{Settings, entry_of, quiet_time};
 use crate::users::Users;
 use at_text::{Dialect, UrcKind};
 use bell::Bell;
@@ -32,7 +33,7 @@ use std::rt::Clock;
 use std::sync::Wait;
 use std::time::Duration;
 
-/// Seconds that an entry waits for an answer, in each of its two tries.
+/// Seconds that an entry waits for an answer, in each of its three tries.
 const ENTRY_SECONDS: u64 = 3;
 
 /// The kinds of lines of the standards, and Other.
@@ -89,7 +90,7 @@ fn copy_of(dialect: &Dialect) -> Result<Dialect, DriveFault>
 fn open_desk(
     alloc: Global,
     dialect: &Dialect,
-    quiet_for: Option<Duration>,
+    quiet_for: Duration,
 ) -> Result<(DriverEnd, Users), DriveFault>
     ensures new { IfOk result (λ r. IsNewDesk dialect.now r.0) }
     ensures whole { IfOk result (λ r. IsWhole r.0.desk (map place_of (r.1.caller ∷ []))) }
@@ -147,7 +148,7 @@ fn begin<L: SerialLine + Drop, R: Wait + Drop>(
     ensures { IfOk result (λ r.
         Begins (line_by L.received L.sent L.calls L.failures L.empty_reads L.stalled_writes) settings.now.dialect.now settings.now.n1 line r.0 r.1) }
 {
-    let (driver, users) = open_desk(alloc, settings.dialect, settings.quiet_for)?;
+    let (driver, users) = open_desk(alloc, settings.dialect, quiet_time(settings.quiet_for))?;
     match make_session(rt, alloc, line, driver, settings.n1, settings.dialect) {
         Ok(session) => Ok((session, users)),
         Err(fault) => Err(fault),
@@ -172,6 +173,7 @@ where
     I: Read,
     W: Write,
     E: Write,
+    requires ticks { 0 < as_nanos ticks.old.period }
     requires whole { IsWhole session.driver.desk (map place_of (users.caller ∷ [])) }
     requires subscribed { AreSubscribed session.driver.desk (map subscription_of users.listeners.items) }
     ensures driven { IfOk result (λ r. HasDriven (line_by L.received L.sent L.calls L.failures L.empty_reads L.stalled_writes)
@@ -256,20 +258,20 @@ fn enter<L: SerialLine, R: Wait + Clock>(
     line: &mut L,
     settings: &Settings<'_>,
 ) -> Result<(), DriveFault>
-    ensures { OnOk result (HasEntered (entry_for (given_text settings.now.entry) settings.now.n1) (line_by L.received L.sent L.calls L.failures L.empty_reads L.stalled_writes line.old)
+    ensures { OnOk result (HasEntered settings.now.n1 (entry_for (given_text settings.now.entry) settings.now.n1) (line_by L.received L.sent L.calls L.failures L.empty_reads L.stalled_writes line.old)
         (line_by L.received L.sent L.calls L.failures L.empty_reads L.stalled_writes line.new)) }
 {
     let text = entry_of(alloc, settings)?;
     let mut limit = TimeLimit::new(rt, bell, Duration::from_secs(ENTRY_SECONDS));
-    enter_by(line, false, text.as_bytes(), &mut limit)?;
+    enter_by(line, settings.n1, false, text.as_bytes(), &mut limit)?;
     Ok(())
 }
 
 /// Drives a modem on a line on which no call waits. It enters the multiplexer, opens connection 0, and opens each other connection when
 /// a line of the input first names it. It submits the lines `D TEXT` as they come, at most 15 at a time. It prints the outcome of each
 /// as `D i answer` and each announced line as `heard KIND D TEXT`, as they come; a kind of the dialect's own has its name. A connection
-/// whose command has had no answer for as long as the settings say is closed, and opened again for the next line. At the end of the
-/// input it waits for what is under way, and ends the multiplexer. `bell` is rung where octets of the line or of the input may have
+/// whose command has had no answer for as long as the settings say is closed, and opened again for the next line; where the modem doesn't
+/// answer that closing either, the drive ends with Silent. At the end of the input it waits for what is under way, and ends the multiplexer. `bell` is rung where octets of the line or of the input may have
 /// come.
 ///
 /// It gives the line, and what the drive came to. Where the line is lost, or the modem ends the multiplexer, each request that waits is

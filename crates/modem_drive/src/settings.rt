@@ -1,5 +1,6 @@
 //! How a device is driven.
-ghost use Rattle.std.specs.Prelude.{◌≡◌, ◌++◌, IfOk, codes};
+ghost use Rattle.std.specs.Prelude.{◌≡◌, ◌*◌, ◌^◌, ◌++◌, IfOk, IfSome, None, codes};
+ghost use Rattle.std.specs.Duration.{as_nanos};
 ghost use Rattle.std.specs.String.{string_bytes};
 ghost use Rattle.modem_drive.specs.Entry.{entry_for, entry_text, given_text};
 
@@ -11,6 +12,9 @@ use std::time::Duration;
 /// N1 where the modem is told none (27.007, 5.7).
 const DEFAULT_N1: u16 = 31;
 
+/// Seconds that a connection may be without an answer where no time is given.
+const QUIET_SECONDS: u64 = 120;
+
 /// How a device is driven.
 #[derive(Clone, Copy)]
 pub struct Settings<'a> {
@@ -20,13 +24,23 @@ pub struct Settings<'a> {
     pub entry: Option<&'a str>,
     /// The time from tick to tick, while something waits for one: T1 (27.010, 5.7.1).
     pub tick: Duration,
-    /// How long a connection may be without an answer to its command before it is closed. `None`: no connection is
-    /// closed for that.
+    /// How long a connection may be without an answer to its command before it is closed. Where it is `None`: 120 seconds.
     pub quiet_for: Option<Duration>,
     /// The codes of the modem.
     pub dialect: &'a Dialect,
     /// The path of a file for a capture of the frames that pass. Where it is `None` there is none.
     pub capture: Option<&'a str>,
+}
+
+/// How long a connection may be without an answer to its command.
+pub fn quiet_time(given: Option<Duration>) -> Duration
+    ensures given { IfSome given (λ time. result ≡ time) }
+    ensures usual { given ≡ None → as_nanos result ≡ 120 * 10 ^ 9 }
+{
+    match given {
+        Some(time) => time,
+        None => Duration::from_secs(QUIET_SECONDS),
+    }
 }
 
 /// What enters the multiplexer where no text is given, and CR.

@@ -1,4 +1,8 @@
 -- One round after the other.
+use Rattle.std.specs.Prelude.{◌<◌}
+use Rattle.std.specs.Duration.{as_nanos}
+use Rattle.std.specs.declared.time.Duration.{Duration}
+use Rattle.std.proofs.Common.{subst, sym}
 use Rattle.modem_driver.specs.SessionStates.{line_by}
 use Rattle.modem_drive.proofs.Asks.{asks_none, asks_then, stops_if, stops_then}
 use Rattle.modem_drive.proofs.Drives.{drives_none, drives_then}
@@ -6,7 +10,7 @@ use Rattle.modem_drive.proofs.Lines.{goes_then, stays}
 use Rattle.modem_drive.proofs.driving.drive_on.Goals as goal
 
 pub loop-init : goal.loop-init
-loop-init g c = record { drives = drives_none (line_by g.L.SerialLine.received g.L.SerialLine.sent g.L.SerialLine.calls g.L.SerialLine.failures g.L.SerialLine.empty_reads g.L.SerialLine.stalled_writes) c.args.session.now; goes = stays _ c.args.users.now; asks = asks_none c.args.plan.now c.args.users.now.caller.submitted (g.E.Write.contents c.args.faults.now) }
+loop-init g c = record { drives = drives_none (line_by g.L.SerialLine.received g.L.SerialLine.sent g.L.SerialLine.calls g.L.SerialLine.failures g.L.SerialLine.empty_reads g.L.SerialLine.stalled_writes) c.args.session.now; goes = stays _ c.args.users.now; asks = asks_none c.args.plan.now c.args.users.now.caller.submitted (g.E.Write.contents c.args.faults.now); timed = c.requires }
 
 pub returns-in_err-round-clause-drives : goal.returns-in_err-round-clause-drives
 returns-in_err-round-clause-drives g c = drives_then (line_by g.L.SerialLine.received g.L.SerialLine.sent g.L.SerialLine.calls g.L.SerialLine.failures g.L.SerialLine.empty_reads g.L.SerialLine.stalled_writes) _ _ _ c.loop.invariant.drives c.round.ensures.drives
@@ -28,6 +32,7 @@ loop-preserved-in-More g c = record {
   drives = drives_then (line_by g.L.SerialLine.received g.L.SerialLine.sent g.L.SerialLine.calls g.L.SerialLine.failures g.L.SerialLine.empty_reads g.L.SerialLine.stalled_writes) _ _ _ c.loop.invariant.drives c.round.ensures.drives;
   goes = goes_then _ _ _ _ _ _ c.loop.invariant.goes c.in_ok-round.ensures.goes;
   asks = asks_then _ _ _ _ _ _ _ _ _ c.loop.invariant.asks c.in_ok-round.ensures.asks;
+  timed = subst (λ (t : Duration). 0 < as_nanos t) (sym c.round.ensures.period) c.loop.invariant.timed;
 }
 
 pub loop-preserved : goal.loop-preserved
@@ -35,4 +40,5 @@ loop-preserved g c = record {
   drives = drives_then (line_by g.L.SerialLine.received g.L.SerialLine.sent g.L.SerialLine.calls g.L.SerialLine.failures g.L.SerialLine.empty_reads g.L.SerialLine.stalled_writes) _ _ _ c.loop.invariant.drives c.round.ensures.drives;
   goes = goes_then _ _ _ _ _ _ c.loop.invariant.goes c.in_ok-round.ensures.goes;
   asks = asks_then _ _ _ _ _ _ _ _ _ c.loop.invariant.asks c.in_ok-round.ensures.asks;
+  timed = subst (λ (t : Duration). 0 < as_nanos t) (sym c.round.ensures.period) c.loop.invariant.timed;
 }
