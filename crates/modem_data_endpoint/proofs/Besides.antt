@@ -1,5 +1,7 @@
 -- The frames that the endpoint got are the first of those due to the driver.
-use Rattle.std.specs.Prelude.{◌≡◌, ℕ, false, List, [], ◌∷◌, ◌++◌, flat_map, None, refl}
+use Rattle.std.specs.Prelude.{◌≡◌, ℕ, true, false, List, [], ◌∷◌, ◌++◌, flat_map, None, refl}
+use Rattle.std.specs.List.{list_all}
+use Rattle.std.proofs.lemmas.Bool.{and_parts}
 use Rattle.std.proofs.Common.{ap, sym, ◌∙◌, subst}
 use Rattle.std.proofs.lemmas.List.{append_assoc, append-nil, append_cancel_left}
 use Rattle.mux_frame.specs.Frames.{Frame}
@@ -10,11 +12,11 @@ use Rattle.mux_frame.specs.Deframing.{Deframes, Deframing, IsDeframed}
 use Rattle.mux_frame.proofs.readings.ComputedReadings.{octets_both, total_reading}
 use Rattle.mux_frame.proofs.readings.LaterTexts.{reads_spelled}
 use Rattle.mux_frame.proofs.readings.TextReadings.{one_reading}
-use Rattle.modem_data.specs.Hops.{Hop, Fed, Handed, Took, Wrote, Passed, RelayFits, for_driver, fed, came, handed_over, taken, went, Hops, BeginsRelay}
+use Rattle.modem_data.specs.Hops.{Hop, Fed, Handed, Took, Wrote, Passed, RelayFits, for_driver, fed, came, handed_over, taken, went, Hops, LineIn, BeginsRelay, is_line_in}
 use Rattle.modem_driver.specs.EndpointLaws.{World, Calls, TellsAll, none_called, called_more}
 use Rattle.modem_driver.specs.SessionStates.{beginning_by}
 use Rattle.modem_history.specs.Sessions.{Beginning, gots, given_on}
-use Rattle.modem_data_endpoint.specs.Beside.{Both, Step, Steps, called, relayed, gave_in, took_out, no_step, more_steps, is_joint, IsJoined, DataLaw, AreSpelled}
+use Rattle.modem_data_endpoint.specs.Beside.{Both, Step, Steps, called, relayed, came_in, gave_in, took_out, no_step, more_steps, is_joint, IsJoined, DataLaw, AreSpelled}
 use Rattle.modem_data_endpoint.proofs.Spelled.{all_due_spelled, handed_spelled}
 
 -- ## Sequences of calls
@@ -22,6 +24,7 @@ use Rattle.modem_data_endpoint.proofs.Spelled.{all_due_spelled, handed_spelled}
 calls_on : (w : World) (x y : Both) → Calls w x.world → Step x y → Calls w y.world
 calls_on w _ _ before (called a v r hops c i o) = called_more w a v before c
 calls_on w _ _ before (relayed a r s hops h j l) = before
+calls_on w _ _ before (came_in a r s hops octets h) = before
 calls_on w _ _ before (gave_in a v r s hops octets c i o l) = called_more w a v before c
 calls_on w _ _ before (took_out a v r s hops octets c i o l) = called_more w a v before c
 
@@ -33,6 +36,7 @@ fits_on : (n1 : ℕ) (ds : List ℕ) (x y : Both) → RelayFits n1 ds x.relay x.
 unfolding Hops
 fits_on n1 ds _ _ h (called a v r hops c i o) = h
 fits_on n1 ds _ _ h (relayed a r s hops hop j l) = l n1 ds hops h
+fits_on n1 ds _ _ h (came_in a r s hops octets k) = k.leads n1 ds hops h
 fits_on n1 ds _ _ h (gave_in a v r s hops octets c i o l) = l n1 ds hops h
 fits_on n1 ds _ _ h (took_out a v r s hops octets c i o l) = l n1 ds hops h
 
@@ -54,6 +58,23 @@ apart_out (Took o) hops e = cc
 apart_out (Wrote o) hops e = refl
 apart_out (Passed p) hops e = refl
 
+-- of octets of the line none pass between the two
+pub none_in : (hs hops : List Hop) → list_all is_line_in hs ≡ true → handed_over (hs ++ hops) ≡ handed_over hops
+none_in [] hops e = refl
+none_in (Fed o ∷ hs) hops e = none_in hs hops e
+none_in (Handed o ∷ hs) hops e = cc
+none_in (Took o ∷ hs) hops e = cc
+none_in (Wrote o ∷ hs) hops e = cc
+none_in (Passed p ∷ hs) hops e = none_in hs hops (and_parts (is_line_in (Passed p)) (list_all is_line_in hs) e).1
+
+pub none_out : (hs hops : List Hop) → list_all is_line_in hs ≡ true → taken (hs ++ hops) ≡ taken hops
+none_out [] hops e = refl
+none_out (Fed o ∷ hs) hops e = none_out hs hops e
+none_out (Handed o ∷ hs) hops e = cc
+none_out (Took o ∷ hs) hops e = cc
+none_out (Wrote o ∷ hs) hops e = cc
+none_out (Passed p ∷ hs) hops e = none_out hs hops (and_parts (is_line_in (Passed p)) (list_all is_line_in hs) e).1
+
 -- octets more at both
 one_more : (new old first since octets : List ℕ) → new ≡ old ++ octets → old ≡ first ++ since → new ≡ first ++ (since ++ octets)
 one_more new old first since octets e h = e ∙ (ap (λ (xs : List ℕ). xs ++ octets) h ∙ append_assoc first since octets)
@@ -61,6 +82,7 @@ one_more new old first since octets e h = e ∙ (ap (λ (xs : List ℕ). xs ++ o
 joined_on : (b : Beginning) (x y : Both) → IsJoined b x → Step x y → IsJoined b y
 joined_on b _ _ h (called a v r hops c i o) = record { received_are = i ∙ h.received_are; sent_are = o ∙ h.sent_are }
 joined_on b _ _ h (relayed a r s hops hop j l) = record { received_are = h.received_are ∙ ap (λ (xs : List ℕ). b.line.received ++ xs) (sym (apart_in hop hops j)); sent_are = h.sent_are ∙ ap (λ (xs : List ℕ). b.line.sent ++ xs) (sym (apart_out hop hops j)) }
+joined_on b _ _ h (came_in a r s hops octets k) = record { received_are = h.received_are ∙ ap (λ (xs : List ℕ). b.line.received ++ xs) (sym (none_in k.hops hops k.only)); sent_are = h.sent_are ∙ ap (λ (xs : List ℕ). b.line.sent ++ xs) (sym (none_out k.hops hops k.only)) }
 joined_on b _ _ h (gave_in a v r s hops octets c i o l) = record { received_are = one_more v.line.received a.line.received b.line.received (handed_over hops) octets i h.received_are; sent_are = o ∙ h.sent_are }
 joined_on b _ _ h (took_out a v r s hops octets c i o l) = record { received_are = i ∙ h.received_are; sent_are = one_more v.line.sent a.line.sent b.line.sent (taken hops) octets o h.sent_are }
 

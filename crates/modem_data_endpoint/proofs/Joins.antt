@@ -1,7 +1,7 @@
 -- What passes between the two.
-use Rattle.std.specs.Prelude.{◌≡◌, ℕ, ◌<◌, ◌≤◌, List, length, take, Option, None, refl}
-use Rattle.std.proofs.Common.{subst, arith}
-use Rattle.std.proofs.lemmas.List.{take_all}
+use Rattle.std.specs.Prelude.{◌≡◌, ℕ, ◌<◌, ◌≤◌, List, length, take, drop, Option, None, refl}
+use Rattle.std.proofs.Common.{subst, ◌∙◌, arith}
+use Rattle.std.proofs.lemmas.List.{drop_all, take_all}
 use Rattle.modem_desk.specs.Ends.{DriverView}
 use Rattle.modem_history.specs.Sessions.{LineView}
 use Rattle.modem_driver.specs.Endpoints.{EndpointState, GivesOctets, Says, TakesOctets}
@@ -15,12 +15,18 @@ use Rattle.modem_data_endpoint.specs.Joined.{HandsOver, HandsAreSteps, TakesOver
 all_of : (o : Option Blocked) (f : EndpointState) (n m : ℕ) → Says f (n ≡ m) o → o ≡ None → n ≡ m
 all_of o f n m says e = (subst (λ (b : Option Blocked). Says f (n ≡ m) b) e says).0
 
-pub hands_over : (r s : Relay) (e f : EndpointState) (n : ℕ) (blocked : Option Blocked) → Hops r s (Handed (take n r.to_driver)) → ((l : LineView) (d : DriverView) → TakesOctets l d e f (take n r.to_driver) blocked) → Says f (n ≡ length r.to_driver) blocked → HandsOver r s e f blocked
-hands_over r s e f n blocked hops takes says = record {
+none_of : (o : Option Blocked) (f : EndpointState) (n m : ℕ) → Says f (n ≡ m) o → o ≡ None → f.machine.deframer.next ≡ None
+none_of o f n m says e = (subst (λ (b : Option Blocked). Says f (n ≡ m) b) e says).1
+
+pub hands_over : (r s : Relay) (e f : EndpointState) (n : ℕ) (blocked : Option Blocked) → Hops r s (Handed (take n r.to_driver)) → s.to_driver ≡ drop n r.to_driver → s.outer ≡ r.outer → ((l : LineView) (d : DriverView) → TakesOctets l d e f (take n r.to_driver) blocked) → Says f (n ≡ length r.to_driver) blocked → HandsOver r s e f blocked
+hands_over r s e f n blocked hops rest same takes says = record {
   octets = take n r.to_driver;
   handed = hops;
   takes = takes;
   all = λ none. let m = all_of blocked f n (length r.to_driver) says none in take_all n r.to_driver (omega (arith, m));
+  none_waits = λ none. let m = all_of blocked f n (length r.to_driver) says none in rest ∙ drop_all n r.to_driver (omega (arith, m));
+  none_at_hand = none_of blocked f n (length r.to_driver) says;
+  same = same;
 }
 
 -- one octet

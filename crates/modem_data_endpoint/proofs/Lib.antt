@@ -1,3 +1,4 @@
 mod Spelled
 mod Besides
 mod Joins
+mod Pairing

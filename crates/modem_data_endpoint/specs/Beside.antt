@@ -9,7 +9,7 @@ use Rattle.modem_history.specs.Sessions.{Beginning, SessionFits, gots, given_on}
 use Rattle.modem_driver.specs.EndpointLaws.{World, Call}
 use Rattle.modem_driver.specs.Endpoints.{BeginsBy}
 use Rattle.modem_driver.specs.SessionStates.{beginning_by, end_of, seen_by}
-use Rattle.modem_data.specs.Hops.{Relay, RelayFits, Hop, Handed, Took, Hops, BeginsRelay, handed_over, taken, for_driver, went}
+use Rattle.modem_data.specs.Hops.{Relay, RelayFits, Hop, Handed, Took, Hops, LineIn, BeginsRelay, handed_over, taken, for_driver, went}
 
 -- an endpoint with its line and its desk's end, and a relay with what passed it
 pub record Both : Type 0 where
@@ -23,7 +23,7 @@ is_joint (Handed octets) = true
 is_joint (Took octets) = true
 is_joint _ = false
 
--- One call: of the endpoint alone; of the relay alone; or of both, where what the endpoint's line gave is what the relay handed over,
+-- One call: of the endpoint alone; of the relay alone, by one hop or, of octets of the line, by several; or of both, where what the endpoint's line gave is what the relay handed over,
 -- or what its line took is what the relay took.
 pub data Step : Both → Both → Type 0 where
   called : (w v : World) (r : Relay) (hops : List Hop) → Call w v → v.line.received ≡ w.line.received
@@ -31,6 +31,8 @@ pub data Step : Both → Both → Type 0 where
       → Step (record { world = w; relay = r; hops = hops }) (record { world = v; relay = r; hops = hops })
   relayed : (w : World) (r s : Relay) (hops : List Hop) (a : Hop) → is_joint a ≡ false → Hops r s a
       → Step (record { world = w; relay = r; hops = hops }) (record { world = w; relay = s; hops = a ∷ hops })
+  came_in : (w : World) (r s : Relay) (hops : List Hop) (octets : List ℕ) (h : LineIn r s octets)
+      → Step (record { world = w; relay = r; hops = hops }) (record { world = w; relay = s; hops = h.hops ++ hops })
   gave_in : (w v : World) (r s : Relay) (hops : List Hop) (octets : List ℕ) → Call w v
       → v.line.received ≡ w.line.received ++ octets → v.line.sent ≡ w.line.sent → Hops r s (Handed octets)
       → Step (record { world = w; relay = r; hops = hops }) (record { world = v; relay = s; hops = Handed octets ∷ hops })

@@ -1,5 +1,5 @@
 -- What passes between a relay and the endpoint behind it, and commands on a connection that carries data.
-use Rattle.std.specs.Prelude.{◌≡◌, ◌↔◌, ℕ, ◌<◌, true, List, ◌∷◌, length, Option, None}
+use Rattle.std.specs.Prelude.{◌≡◌, ◌↔◌, ℕ, ◌<◌, true, List, [], ◌∷◌, length, Option, None}
 use Rattle.mux_frame.specs.declared.dlci.Dlci.{Dlci}
 use Rattle.at_text.specs.declared.command.CommandLine.{CommandLine}
 use Rattle.modem_desk.specs.Ends.{DriverView}
@@ -23,6 +23,9 @@ pub record HandsOver (r s : Relay) (e f : EndpointState) (blocked : Option Block
   pub handed : Hops r s (Handed octets)
   pub takes : (l : LineView) (d : DriverView) → TakesOctets l d e f octets blocked
   pub all : blocked ≡ None → octets ≡ r.to_driver
+  pub none_waits : blocked ≡ None → s.to_driver ≡ []
+  pub none_at_hand : blocked ≡ None → f.machine.deframer.next ≡ None
+  pub same : s.outer ≡ r.outer
 
 -- these octets went from the endpoint to the relay, at which no frame of the driver's waited
 pub record TakesOver (r s : Relay) (e f : EndpointState) : Type 0 where

@@ -1,3 +1,4 @@
 pub mod Beside
 pub mod Joined
+pub mod Pairs
 pub mod Numbered

@@ -1,5 +1,5 @@
 //! Octets between a relay and the endpoint behind it.
-ghost use Rattle.std.specs.Prelude.{◌≡◌, ◌≢◌, [], None, IfOk, IfErr, OnOk, false};
+ghost use Rattle.std.specs.Prelude.{◌≡◌, ◌≢◌, ◌⊎◌, ◌<◌, [], length, None, IfOk, IfErr, OnOk, false};
 ghost use Rattle.modem_desk.specs.Ends.{DriverView};
 ghost use Rattle.modem_desk.specs.declared.request.Ask.TheVariants as Ask;
 ghost use Rattle.modem_history.specs.Sessions.{LineView};
@@ -47,6 +47,7 @@ pub fn take_over(relay: &mut Relay, endpoint: &mut Endpoint) -> Taken
     ensures none_at_hand { result ≡ taken.Nothing → relay.old.inner.next ≡ None }
     ensures still { result ≢ taken.One → relay.new ≡ relay.old }
     ensures unasked { result ≡ taken.RelayFirst → endpoint.new ≡ endpoint.old }
+    ensures first { result ≡ taken.RelayFirst → (0 < length relay.old.to_line) ⊎ (relay.old.inner.next ≢ None) }
 {
     if !relay.wants_driver() {
         return Taken::RelayFirst;

@@ -1,6 +1,7 @@
 //! The law of a relay and an endpoint behind it.
 ghost use Rattle.modem_data_endpoint.specs.Beside.{DataLaw};
 ghost use Rattle.modem_data_endpoint.specs.Joined.{HandsAreSteps, TakesAreSteps};
+ghost use Rattle.modem_data_endpoint.specs.Pairs.{PairLaw};
 
 use modem_driver::laws::endpoints;
 use mux_frame::laws::deframed;
@@ -13,6 +14,14 @@ pub fn beside()
 {
     deframed();
     endpoints();
+}
+
+/// So it is of one sequence of calls of a `DataEndpoint`.
+#[tactic(auto, using(crate::proofs::Pairing::pair_law))]
+pub fn one_sequence()
+    ensures { PairLaw }
+{
+    beside();
 }
 
 /// `hand_over` and `take_over` are steps of the two, which the law speaks of.

@@ -2,6 +2,12 @@
 #![tactic(auto)]
 
 mod between;
+mod both_ways;
+mod data_endpoint;
+mod data_lanes;
+mod data_requests;
 pub mod laws;
 
 pub use between::{CommandRefused, Taken, command, hand_over, take_over};
+pub use both_ways::{DataInput, Output};
+pub use data_endpoint::DataEndpoint;
