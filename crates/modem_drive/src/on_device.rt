@@ -45,20 +45,22 @@ fn open_device<R: Files<File = File>>(rt: &R, path: &str) -> Result<(File, File)
     Ok((reader, writer))
 }
 
-/// A capture into the file of this path, which is made, or emptied where there is one.
+/// A capture into the file of this path, which reads frames by this N1. The file is made, or emptied where there is one.
 #[tactic(auto, using(crate::proofs::OnDevice::has_begun))]
 fn open_capture<R: Files<File = File>>(
     rt: &R,
     alloc: Global,
     path: &str,
+    n1: u16,
 ) -> Result<Capture<File>, DriveFault>
-    ensures { IfOk result HasBegun }
+    ensures begun { IfOk result HasBegun }
+    ensures n1 { IfOk result (λ c. c.n1 ≡ n1) }
 {
     let file = match File::create(rt, path) {
         Ok(file) => file,
         Err(error) => return Err(DriveFault::NoCapture(error.kind())),
     };
-    match Capture::begin(alloc, file) {
+    match Capture::with_n1(alloc, file, n1) {
         Ok(capture) => Ok(capture),
         Err(_) => Err(DriveFault::Capture),
     }
@@ -84,7 +86,7 @@ fn open_all<R: Files<File = File>>(
 {
     let (reader, writer) = open_device(rt, path)?;
     let capture = match settings.capture {
-        Some(path) => Some(open_capture(rt, alloc, path)?),
+        Some(path) => Some(open_capture(rt, alloc, path, settings.entry.n1)?),
         None => None,
     };
     Ok(Opened {
