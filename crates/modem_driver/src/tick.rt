@@ -70,14 +70,7 @@ impl Core {
         let noticed = self.station.tick();
         let ended = ran && !is_running(&self.station);
         let happened = Happened::Tick(has_probe(noticed.as_slice()));
-        tell_on(
-            &mut self.hand,
-            &self.station,
-            false,
-            happened,
-            ended,
-            told,
-        )
+        tell_on(&mut self.hand, &self.station, false, happened, ended, told)
     }
 }
 

@@ -382,11 +382,7 @@ impl Core {
     }
 
     /// Any request, but for what it is told at once, which this gives.
-    fn ask_any(
-        &mut self,
-        request: Request,
-        outcomes: &mut VecDeque<Outcome>,
-    ) -> Option<Answer>
+    fn ask_any(&mut self, request: Request, outcomes: &mut VecDeque<Outcome>) -> Option<Answer>
         requires room { 128 ≤ deque_capacity outcomes.old }
         ensures asks { Asks self.old self.new outcomes.old.items outcomes.new.items request result }
         ensures lanes { self.new.lanes ≡ self.old.lanes }

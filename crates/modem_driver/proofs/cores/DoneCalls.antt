@@ -5,14 +5,13 @@ use Rattle.std.proofs.Common.{ap, sym, ◌∙◌, subst, append-nil}
 use Rattle.mux_frame.specs.Frames.{Frame}
 use Rattle.modem_desk.specs.declared.request.Ask.{Ask}
 use Rattle.modem_desk.specs.declared.request.Answer.{Answer}
-use Rattle.modem_desk.specs.declared.request.Request.{Request}
 use Rattle.modem_desk.specs.declared.request.Outcome.{Outcome}
 use Rattle.modem_history.specs.Acts.{Act, Sent, Told, Lost, act_of}
 use Rattle.modem_history.specs.declared.act.Act.TheVariants as code
 use Rattle.modem_history.specs.Sessions.{heard_as}
 use Rattle.modem_history.specs.Turns.{outcomes_told, lines_heard}
 use Rattle.modem_desk.specs.declared.request.Urc.{Urc}
-use Rattle.modem_driver.specs.WaitingLists.{WaitingLists, Keeps}
+use Rattle.modem_driver.specs.WaitingLists.{Keeps}
 use Rattle.modem_driver.specs.declared.machine.course.Asker.{Asker}
 use Rattle.modem_driver.specs.declared.telling.Happened.TheVariants as happened
 use Rattle.modem_driver.specs.Cores.{Core, Handles, state_shown}

@@ -2,7 +2,7 @@
 use Rattle.std.proofs.Common.{ap, sym, ◌∙◌, subst}
 use Rattle.std.proofs.lemmas.Bool.{and_from}
 use Rattle.std.proofs.lemmas.List.Folds.{list_all-append}
-use Rattle.std.specs.Prelude.{◌≡◌, ℕ, Bool, true, false, List, ◌++◌, Option, None, Some, is_some}
+use Rattle.std.specs.Prelude.{◌≡◌, ℕ, Bool, true, false, List, ◌++◌, Option, is_some}
 use Rattle.std.specs.List.{list_all}
 use Rattle.modem_desk.specs.declared.request.Urc.{Urc}
 use Rattle.modem_desk.specs.Ends.{DriverView}
@@ -15,7 +15,6 @@ use Rattle.modem_driver.specs.Endpoints.{GivesOctets, HandlesAll, HandlesAlone, 
 use Rattle.modem_driver.specs.SessionStates.{Machine}
 use Rattle.modem_driver.specs.TurnSteps.{TurnState, StandingFits, AddsAll, Checks, Leads, turn_state, view_of}
 use Rattle.modem_driver.specs.declared.endpoint.Blocked.{Blocked}
-use Rattle.modem_driver.specs.declared.endpoint.Blocked.TheVariants.{NoMemory}
 use Rattle.modem_driver.proofs.sessions.meanings.TurnFaults.{none_loses}
 use Rattle.modem_driver.proofs.sessions.meanings.WholeTurns.{leads_on}
 
@@ -110,4 +109,3 @@ takes_octets k0 k1 k2 next octets moved why takes checks l d =
           let still = none_loses k1.unannounced t.acts past (t.may k1.unannounced b past f.stands) live in
           subst (λ (p : List Act). HoldsWhereRoom b (view_of (turn_state m d k2)) p) (sym (after_both t.acts c.acts past)) (c.looked b (after past t.acts) g still);
     }
-

@@ -1,5 +1,5 @@
 -- Requests that are taken without memory.
-use Rattle.std.specs.Prelude.{◌≡◌, ◌<◌, ◌≤◌, ◌+◌, ℕ, Bool, true, false, List, [], ◌∷◌, ◌++◌, length, map, refl, Option, Some, None}
+use Rattle.std.specs.Prelude.{◌≡◌, ◌<◌, ◌≤◌, ℕ, Bool, false, List, [], ◌∷◌, ◌++◌, length, map, refl, Option, Some, None}
 use Rattle.std.proofs.Common.{ap, sym, ◌∙◌, subst, append-nil, arith}
 use Rattle.mux_frame.specs.declared.dlci.Dlci.{Dlci}
 use Rattle.mux_station.specs.declared.role.Role.{Role}
@@ -8,7 +8,6 @@ use Rattle.mux_station.specs.declared.error.StationError.{StationError}
 use Rattle.mux_station.specs.Acts as station
 use Rattle.mux_station.specs.Sending.{refused}
 use Rattle.mux_station.specs.Stations.{Station, setting_of, seen_in}
-use Rattle.modem_desk.specs.declared.request.Ask.{Ask}
 use Rattle.modem_desk.specs.declared.request.Ask.TheVariants.{OpenChannel, CloseChannel, Probe, Stop}
 use Rattle.modem_desk.specs.declared.request.Request.{Request}
 use Rattle.modem_history.specs.declared.act.Act as code
@@ -30,7 +29,7 @@ use Rattle.modem_desk.specs.declared.request.Outcome.{Outcome}
 use Rattle.modem_driver.proofs.requests.ToldOutcomes.{told_back}
 use Rattle.modem_driver.proofs.requests.CloseRequests.{close_refused}
 use Rattle.modem_driver.proofs.requests.ProbeRequests.{Probes, probe_accepts, probe_refused, probe_wait}
-use Rattle.modem_driver.proofs.requests.StopRequests.{Stops, stop_accepts, stop_refused}
+use Rattle.modem_driver.proofs.requests.StopRequests.{stop_refused}
 use Rattle.modem_driver.proofs.requests.TakenRequests.{Live, live_of, all_left, none_told}
 
 pub asked_open : (v new : Core) (w : Station) (q : Request) (d : Dlci) → v.station.role ≡ Initiator → v.lost ≡ false → length v.hand < 128 → Opens v w q d
@@ -44,8 +43,8 @@ asked_open v new w q d role lost few o n s past m =
     let new_is = n ∙ ap (λ (rs : List Request). record v { station = w; hand = rs ++ q ∷ [] }) (sym (all_left (state_shown w false) false v.hand waits)) in
     let acts_are : Took q ∷ map Sent (asking Initiator q.ask) ≡ Took q ∷ (map Sent (asking s.role q.ask) ++ map act_of (told_to says v.hand))
     = ap (λ (x : List Act). Took q ∷ x) (sym (append-nil (map Sent (asking Initiator q.ask))))
-        ∙ (ap (λ (x : List code.Act). Took q ∷ (map Sent (asking Initiator q.ask) ++ map act_of x)) (sym (none_told (state_shown w false) false v.hand waits))
-        ∙ ap (λ (r : Role). Took q ∷ (map Sent (asking r q.ask) ++ map act_of (told_to says v.hand))) (sym live.role_is)) in
+    ∙ (ap (λ (x : List code.Act). Took q ∷ (map Sent (asking Initiator q.ask) ++ map act_of x)) (sym (none_told (state_shown w false) false v.hand waits))
+    ∙ ap (λ (r : Role). Took q ∷ (map Sent (asking r q.ask) ++ map act_of (told_to says v.hand))) (sym live.role_is)) in
     subst (λ (x : List Act). GoesOn s new past (Took q) x) (sym acts_are)
     (subst (λ (c : Core). GoesOn s c past (Took q) (Took q ∷ (map Sent (asking s.role q.ask) ++ map act_of (told_to says v.hand)))) (sym new_is) there)
 
@@ -68,7 +67,7 @@ asked_on v new w q e role lost accepts n s past m =
     let there = accept_on s v past q w e live m (accepts s past live m) lost in
     let acts_are : Took q ∷ (map Sent (asking Initiator q.ask) ++ map Told (outcomes_to says v.hand)) ≡ Took q ∷ (map Sent (asking s.role q.ask) ++ map act_of (told_to says v.hand))
     = ap (λ (x : List Act). Took q ∷ (map Sent (asking Initiator q.ask) ++ x)) (told_back says v.hand)
-        ∙ ap (λ (r : Role). Took q ∷ (map Sent (asking r q.ask) ++ map act_of (told_to says v.hand))) (sym live.role_is) in
+    ∙ ap (λ (r : Role). Took q ∷ (map Sent (asking r q.ask) ++ map act_of (told_to says v.hand))) (sym live.role_is) in
     subst (λ (x : List Act). GoesOn s new past (Took q) x) (sym acts_are)
     (subst (λ (c : Core). GoesOn s c past (Took q) (Took q ∷ (map Sent (asking s.role q.ask) ++ map act_of (told_to says v.hand)))) (sym n) there)
 
@@ -83,8 +82,8 @@ asked_probe v new w q octets role lost few o n s past m =
     let new_is = n ∙ ap (λ (rs : List Request). record v { station = w; hand = rs ++ q ∷ [] }) (sym (all_left (state_shown w false) false v.hand waits)) in
     let acts_are : Took q ∷ map Sent (asking Initiator q.ask) ≡ Took q ∷ (map Sent (asking s.role q.ask) ++ map act_of (told_to says v.hand))
     = ap (λ (x : List Act). Took q ∷ x) (sym (append-nil (map Sent (asking Initiator q.ask))))
-        ∙ (ap (λ (x : List code.Act). Took q ∷ (map Sent (asking Initiator q.ask) ++ map act_of x)) (sym (none_told (state_shown w false) false v.hand waits))
-        ∙ ap (λ (r : Role). Took q ∷ (map Sent (asking r q.ask) ++ map act_of (told_to says v.hand))) (sym live.role_is)) in
+    ∙ (ap (λ (x : List code.Act). Took q ∷ (map Sent (asking Initiator q.ask) ++ map act_of x)) (sym (none_told (state_shown w false) false v.hand waits))
+    ∙ ap (λ (r : Role). Took q ∷ (map Sent (asking r q.ask) ++ map act_of (told_to says v.hand))) (sym live.role_is)) in
     subst (λ (x : List Act). GoesOn s new past (Took q) x) (sym acts_are)
     (subst (λ (c : Core). GoesOn s c past (Took q) (Took q ∷ (map Sent (asking s.role q.ask) ++ map act_of (told_to says v.hand)))) (sym new_is) there)
 

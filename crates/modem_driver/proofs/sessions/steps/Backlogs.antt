@@ -4,7 +4,7 @@ use Rattle.std.proofs.lemmas.Bool.{and_from, eqb-true, le-leb, lt-ltb, or_parts}
 use Rattle.std.proofs.lemmas.Bool.Decides.{eqb_tells}
 use Rattle.std.proofs.lemmas.List.{append-nil}
 use Rattle.std.proofs.lemmas.List.Folds.{list_all-append, list_any-append}
-use Rattle.std.specs.Prelude.{◌≡◌, ◌≢◌, ℕ, zero, suc, ◌+◌, ◌≤◌, ◌<◌, ◌==◌, ◌&&◌, ◌||◌, ◌⊎◌, not, Bool, true, false, List, [], ◌∷◌, ◌++◌, length, map, refl, Option, None, Some, if◌then◌else◌, IfSome, Result, Ok, Err, OnErr}
+use Rattle.std.specs.Prelude.{◌≡◌, ◌≢◌, ℕ, zero, suc, ◌+◌, ◌≤◌, ◌<◌, ◌==◌, ◌&&◌, ◌||◌, ◌⊎◌, not, Bool, true, false, List, [], ◌∷◌, ◌++◌, length, map, refl, Option, None, Some, if◌then◌else◌, IfSome}
 use Rattle.std.specs.List.{list_all, list_any}
 use Rattle.mux_station.specs.declared.role.Role.TheVariants.{Initiator}
 use Rattle.mux_station.specs.Opening.{is_open}
@@ -20,7 +20,6 @@ use Rattle.modem_history.specs.Lawful.{Lawful}
 use Rattle.modem_history.specs.Sessions.{Beginning, LineView, SessionView, driving, backlog_in, gots, heard_as}
 use Rattle.modem_history.specs.Turns.{HoldsByBacklog, HoldsWhereRoom, LacksMscRoom, outcomes_told, lines_heard, may_act}
 use Rattle.modem_history.proofs.calls.StatesAfterActs.{after_both}
-use Rattle.modem_driver.specs.declared.session.error.SessionFault.{SessionFault}
 use Rattle.modem_driver.specs.Holding.{CallsForNothing, due_by, flow_due}
 use Rattle.modem_driver.specs.BacklogChecks.{ChecksOne, SettlesOne}
 use Rattle.modem_driver.specs.LineQueues.{AreFewOnEach}
@@ -286,4 +285,3 @@ checks_all first now number moved last any l d = by_last (subst (λ (n : ℕ). C
           all_flowed first now l d b past so.acts (ap (λ (v : Machine). v.unannounced) so.stays) (none_loses first.unannounced so.acts past (so.may b l d past f) live) there (so.flowed b l d past f);
       stays = ap (turn_state l d) so.stays;
     }
-

@@ -1,9 +1,8 @@
 -- A DISC is sent, and the commands of the connection are told, or the station refuses.
-use Rattle.std.specs.Prelude.{◌≡◌, ◌<◌, false, List, [], ◌∷◌, ◌++◌, length, map, Option, Some, None}
+use Rattle.std.specs.Prelude.{◌≡◌, ◌<◌, false, List, [], ◌∷◌, ◌++◌, length, Some, None}
 use Rattle.std.proofs.Common.{ap, sym, ◌∙◌, subst, refl, arith}
 use Rattle.mux_station.specs.Stations.{Station}
 use Rattle.modem_desk.specs.declared.request.Answer.{Answer}
-use Rattle.modem_desk.specs.declared.request.Outcome.{Outcome}
 use Rattle.modem_desk.specs.declared.request.Request.{Request}
 use Rattle.modem_driver.specs.declared.telling.Happened.TheVariants as happened
 use Rattle.modem_driver.specs.Telling.{told_by, left_by}
@@ -22,9 +21,11 @@ returns-in-Err-clause-asks c =
     let new : Core = record v { station = c.close.new.self } in
     let same : new ≡ v = ap (λ (w : Station). record v { station = w }) c.in-Err.ensures.err in
     subst (λ (x : Core). Asks x new was was q (Some c.answer_of.result)) c.self.view_is
-    (subst (λ (a : Answer). Asks v new was was q (Some a)) (sym c.answer_of.ensures)
-    (told_close v new q c.args.dlci c.in-Err.why c.self.invariant.role_is (ap (λ (x : Core). x.lost) c.self.view_is ∙ c.requires.live)
-    (subst (λ (x : Core). length x.hand < 128) (sym c.self.view_is) c.requires.few) c.requires.ask (sym c.in-Err.ensures.refusal) same, refl))
+    (subst (λ (a : Answer). Asks v new was was q (Some a)) (sym c.answer_of.ensures) (
+      told_close v new q c.args.dlci c.in-Err.why c.self.invariant.role_is (ap (λ (x : Core). x.lost) c.self.view_is ∙ c.requires.live)
+          (subst (λ (x : Core). length x.hand < 128) (sym c.self.view_is) c.requires.few) c.requires.ask (sym c.in-Err.ensures.refusal) same,
+      refl,
+    ))
 
 pub returns-clause-asks : goal.returns-clause-asks
 returns-clause-asks c =

@@ -1,9 +1,8 @@
 -- It is told at once.
-use Rattle.std.specs.Prelude.{◌≡◌, ◌<◌, [], ◌∷◌, length, refl, Some}
+use Rattle.std.specs.Prelude.{◌<◌, [], ◌∷◌, length, refl, Some}
 use Rattle.std.proofs.Common.{ap, sym, ◌∙◌, subst}
 use Rattle.modem_history.specs.Acts.{Took}
 use Rattle.modem_history.specs.declared.act.Act.TheVariants as code
-use Rattle.modem_driver.specs.Offers.{refused_command}
 use Rattle.modem_driver.specs.Refusals.{told_act}
 use Rattle.modem_driver.specs.TakenActs.{taken_acts}
 use Rattle.modem_driver.specs.Cores.{Core, Handles}

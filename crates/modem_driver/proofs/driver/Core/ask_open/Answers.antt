@@ -1,11 +1,10 @@
 -- A SABM is sent, or the station refuses.
-use Rattle.std.specs.Prelude.{◌≡◌, ◌<◌, List, [], ◌∷◌, ◌++◌, length, refl, Option, Some, None}
+use Rattle.std.specs.Prelude.{◌≡◌, ◌<◌, List, [], ◌∷◌, ◌++◌, length, Some, None}
 use Rattle.std.proofs.Common.{ap, sym, ◌∙◌, subst}
 use Rattle.mux_station.specs.Stations.{Station}
 use Rattle.modem_desk.specs.declared.request.Answer.{Answer}
 use Rattle.modem_desk.specs.declared.request.Request.{Request}
 use Rattle.modem_history.specs.Acts.{Took}
-use Rattle.modem_driver.specs.Refusals.{refusal_answer}
 use Rattle.modem_driver.specs.TakenActs.{taken_acts}
 use Rattle.modem_driver.specs.Cores.{Core, Handles}
 use Rattle.modem_driver.proofs.requests.AskedRequests.{asked_open, told_open}

@@ -1,5 +1,5 @@
 -- A Test command is sent, or the station refuses.
-use Rattle.std.specs.Prelude.{◌≡◌, ◌<◌, ℕ, List, [], ◌∷◌, ◌++◌, length, Option, Some, None}
+use Rattle.std.specs.Prelude.{◌≡◌, ◌<◌, ℕ, List, [], ◌∷◌, ◌++◌, length, Some, None}
 use Rattle.std.proofs.Common.{ap, sym, ◌∙◌, subst}
 use Rattle.mux_station.specs.Stations.{Station}
 use Rattle.modem_desk.specs.declared.request.Answer.{Answer}

@@ -1,6 +1,6 @@
 -- What is due is done.
 use Rattle.std.specs.Prelude.{◌≡◌, Bool, Option, Some, refl, []}
-use Rattle.std.proofs.Common.{sym, subst, ap, ◌∙◌}
+use Rattle.std.proofs.Common.{sym, subst}
 use Rattle.mux_station.specs.declared.role.Role.TheVariants.{Initiator}
 use Rattle.modem_driver.specs.Cores.{Core}
 use Rattle.modem_driver.specs.Holding.{Flows, acts_due}

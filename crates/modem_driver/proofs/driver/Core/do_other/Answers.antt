@@ -1,16 +1,14 @@
 -- A frame that isn't data of an open connection is handled.
-use Rattle.std.proofs.Common.{◌≡◌, ◌≤◌, ℕ, Bool, List, [], ◌∷◌, ◌++◌, length, ◌∙◌, ap, sym, subst, true, false}
+use Rattle.std.proofs.Common.{◌≡◌, ◌≤◌, Bool, List, ◌∷◌, ◌++◌, length, ◌∙◌, ap, sym, subst, true, false}
 use Rattle.std.specs.Prelude.{Some, None, refl, drop, map, slice_get, ◌&&◌, not, if◌then◌else◌}
 use Rattle.mux_frame.specs.Frames.{Frame, frame_of}
 use Rattle.mux_station.specs.declared.role.ChannelState.{ChannelState}
-use Rattle.mux_station.specs.Acts as station
 use Rattle.mux_station.specs.declared.error.StationError.TheVariants as StationError
 use Rattle.mux_station.specs.Noting.{says_open}
 use Rattle.mux_station.specs.Tables.{have_room, octets_of, by_frame}
 use Rattle.mux_station.specs.Sending.{got_refused}
 use Rattle.mux_station.specs.Stages.{as_shown}
 use Rattle.mux_station.specs.Stations.{Station, channel_at, setting_of, seen_in}
-use Rattle.mux_station.specs.Fitting as station_fits
 use Rattle.modem_desk.specs.declared.request.Request.{Request}
 use Rattle.modem_driver.specs.declared.telling.Happened.TheVariants as happened
 use Rattle.modem_history.specs.Acts.{Act, Got, Sent, act_of}
@@ -23,7 +21,6 @@ use Rattle.modem_driver.specs.Telling.{told_by, told_to, left_by}
 use Rattle.modem_driver.specs.Receiving.{HasRoom, sent_in, answer_room, afresh_if, reads_data}
 use Rattle.mux_frame.specs.Spelling.{most_info}
 use Rattle.modem_driver.specs.Running.{CoreIsIdle}
-use Rattle.modem_driver.specs.Holding.{KeepsHeld}
 use Rattle.modem_driver.proofs.holds.HoldsAndFrames.{other_holds}
 use Rattle.modem_driver.proofs.frames.QueueRoom.{never_full}
 use Rattle.modem_driver.proofs.outgoing.CoreAfterFrame.{sound}

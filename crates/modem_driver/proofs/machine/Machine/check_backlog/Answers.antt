@@ -1,5 +1,5 @@
 -- The core said what the backlog calls for, or there was no room for it.
-use Rattle.std.proofs.Common.{◌≡◌, ap, sym, ◌∙◌, subst, ℕ, Bool, false, refl}
+use Rattle.std.proofs.Common.{◌≡◌, sym, ◌∙◌, subst, ℕ, Bool, false, refl}
 use Rattle.std.specs.Prelude.{not, length, ◌==◌, is_some, Option, Some, None}
 use Rattle.modem_history.specs.Sessions.{backlog_in}
 use Rattle.modem_driver.specs.Cores.{Core}

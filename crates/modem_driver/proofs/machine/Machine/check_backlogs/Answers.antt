@@ -1,5 +1,5 @@
 -- One connection after the other is checked.
-use Rattle.std.proofs.Common.{◌≡◌, sym, subst, arith, ℕ}
+use Rattle.std.proofs.Common.{subst, arith, ℕ}
 use Rattle.std.specs.Prelude.{false, refl}
 use Rattle.modem_driver.specs.Holding.{CallsForNothing}
 use Rattle.modem_driver.specs.BacklogChecks.{ChecksOne}

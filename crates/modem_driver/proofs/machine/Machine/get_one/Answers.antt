@@ -1,5 +1,5 @@
 -- What the frame called for waits, or the frame stays at hand.
-use Rattle.std.proofs.Common.{◌≡◌, ◌≤◌, List, ◌∷◌, length, ap, sym, ◌∙◌, subst, refl, false, true, arith}
+use Rattle.std.proofs.Common.{◌≡◌, List, ◌∷◌, length, ap, sym, ◌∙◌, subst, refl, false, true, arith}
 use Rattle.std.specs.Prelude.{map, find, option_map, Err}
 use Rattle.mux_frame.specs.Deframing.{HandsOver}
 use Rattle.mux_frame.specs.Frames.{frame_of}

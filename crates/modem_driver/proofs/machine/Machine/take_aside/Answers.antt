@@ -1,5 +1,5 @@
 -- What the core told of it waits.
-use Rattle.std.proofs.Common.{◌≡◌, ◌≤◌, [], List, length, ap, sym, ◌∙◌, subst, append-nil}
+use Rattle.std.proofs.Common.{◌≡◌, List, ap, sym, ◌∙◌, subst, append-nil}
 use Rattle.std.specs.Prelude.{map, ◌++◌, Option, None, Some}
 use Rattle.modem_desk.specs.declared.request.Request.{Request}
 use Rattle.modem_desk.specs.declared.request.Urc.{Urc}

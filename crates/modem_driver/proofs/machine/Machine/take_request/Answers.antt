@@ -1,5 +1,5 @@
 -- What the core told of it waits.
-use Rattle.std.proofs.Common.{◌≡◌, [], List, ap, sym, ◌∙◌, refl, subst, append-nil}
+use Rattle.std.proofs.Common.{◌≡◌, List, ap, sym, ◌∙◌, refl, subst, append-nil}
 use Rattle.std.specs.Prelude.{map, ◌++◌, Option, None, Some}
 use Rattle.modem_desk.specs.declared.request.Request.{Request}
 use Rattle.modem_desk.specs.declared.request.Urc.{Urc}
@@ -21,8 +21,10 @@ returns c =
     let t = c.take.ensures.takes in
     let none : k.aside ≡ None = ap (λ (v : Machine). v.aside) c.self.view_is ∙ c.requires in
     let new : Option Request → List Urc → Machine = λ o us. record old { core = core; aside = o; unplaced = w.outcomes; unannounced = us } in
-    record { takes = subst (λ (v : Machine). TakesAside (record v { aside = Some q }) (new k.aside w.lines)) c.self.view_is
-    (subst (λ (o : Option Request). TakesAside old (new o w.lines)) (sym none)
-    (subst (λ (us : List Urc). TakesAside old (new None us)) (sym c.take.ensures.lines)
-    (takes old core 0 q (record { outcomes = w.outcomes; lines = k.waiting.lines; room = 0 }) t.acts refl c.take.ensures.role t.past t.holds
-    (record { outcomes = t.adds; lines = λ fit. sym (append-nil (map heard_as k.waiting.lines)) ∙ ap (λ (hs : List Act). map heard_as k.waiting.lines ++ hs) (sym t.unheard) })))) }
+    record {
+      takes = subst (λ (v : Machine). TakesAside (record v { aside = Some q }) (new k.aside w.lines)) c.self.view_is
+          (subst (λ (o : Option Request). TakesAside old (new o w.lines)) (sym none)
+          (subst (λ (us : List Urc). TakesAside old (new None us)) (sym c.take.ensures.lines)
+          (takes old core 0 q (record { outcomes = w.outcomes; lines = k.waiting.lines; room = 0 }) t.acts refl c.take.ensures.role t.past t.holds
+          (record { outcomes = t.adds; lines = λ fit. sym (append-nil (map heard_as k.waiting.lines)) ∙ ap (λ (hs : List Act). map heard_as k.waiting.lines ++ hs) (sym t.unheard) }))));
+    }
