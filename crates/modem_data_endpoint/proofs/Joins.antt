@@ -4,7 +4,7 @@ use Rattle.std.proofs.Common.{subst, ◌∙◌, arith}
 use Rattle.std.proofs.lemmas.List.{drop_all, take_all}
 use Rattle.modem_desk.specs.Ends.{DriverView}
 use Rattle.modem_history.specs.Sessions.{LineView}
-use Rattle.modem_driver.specs.Endpoints.{EndpointState, GivesOctets, Says, TakesOctets}
+use Rattle.modem_driver.specs.Endpoints.{EndpointState, GivesOctets, MachineSays, TakesOctets}
 use Rattle.modem_driver.specs.EndpointLaws.{gave_octets, took_octets}
 use Rattle.modem_driver.specs.EndpointSteps.{with_received, with_sent}
 use Rattle.modem_driver.specs.declared.endpoint.Blocked.{Blocked}
@@ -12,13 +12,13 @@ use Rattle.modem_data.specs.Hops.{Relay, Handed, Took, Hops}
 use Rattle.modem_data_endpoint.specs.Beside.{gave_in, took_out}
 use Rattle.modem_data_endpoint.specs.Joined.{HandsOver, HandsAreSteps, TakesOver, TakesAreSteps}
 
-all_of : (o : Option Blocked) (f : EndpointState) (n m : ℕ) → Says f (n ≡ m) o → o ≡ None → n ≡ m
-all_of o f n m says e = (subst (λ (b : Option Blocked). Says f (n ≡ m) b) e says).0
+all_of : (o : Option Blocked) (f : EndpointState) (n m : ℕ) → MachineSays f.machine (n ≡ m) o → o ≡ None → n ≡ m
+all_of o f n m says e = (subst (λ (b : Option Blocked). MachineSays f.machine (n ≡ m) b) e says).0
 
-none_of : (o : Option Blocked) (f : EndpointState) (n m : ℕ) → Says f (n ≡ m) o → o ≡ None → f.machine.deframer.next ≡ None
-none_of o f n m says e = (subst (λ (b : Option Blocked). Says f (n ≡ m) b) e says).1
+none_of : (o : Option Blocked) (f : EndpointState) (n m : ℕ) → MachineSays f.machine (n ≡ m) o → o ≡ None → f.machine.deframer.next ≡ None
+none_of o f n m says e = (subst (λ (b : Option Blocked). MachineSays f.machine (n ≡ m) b) e says).1
 
-pub hands_over : (r s : Relay) (e f : EndpointState) (n : ℕ) (blocked : Option Blocked) → Hops r s (Handed (take n r.to_driver)) → s.to_driver ≡ drop n r.to_driver → s.outer ≡ r.outer → ((l : LineView) (d : DriverView) → TakesOctets l d e f (take n r.to_driver) blocked) → Says f (n ≡ length r.to_driver) blocked → HandsOver r s e f blocked
+pub hands_over : (r s : Relay) (e f : EndpointState) (n : ℕ) (blocked : Option Blocked) → Hops r s (Handed (take n r.to_driver)) → s.to_driver ≡ drop n r.to_driver → s.outer ≡ r.outer → ((l : LineView) (d : DriverView) → TakesOctets l d e f (take n r.to_driver) blocked) → MachineSays f.machine (n ≡ length r.to_driver) blocked → HandsOver r s e f blocked
 hands_over r s e f n blocked hops rest same takes says = record {
   octets = take n r.to_driver;
   handed = hops;

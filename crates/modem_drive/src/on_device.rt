@@ -86,7 +86,7 @@ fn open_all<R: Files<File = File>>(
 {
     let (reader, writer) = open_device(rt, path)?;
     let capture = match settings.capture {
-        Some(path) => Some(open_capture(rt, alloc, path, settings.entry.n1)?),
+        Some(path) => Some(open_capture(rt, alloc, path, settings.n1)?),
         None => None,
     };
     Ok(Opened {
