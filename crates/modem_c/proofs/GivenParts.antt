@@ -5,7 +5,7 @@ use Rattle.std.proofs.lemmas.List.{append-nil, append_assoc}
 use Rattle.std.proofs.Math.Seq.{take-add}
 use Rattle.modem_desk.specs.Ends.{DriverView}
 use Rattle.modem_history.specs.Sessions.{LineView}
-use Rattle.modem_driver.specs.Endpoints.{EndpointState, GivesOctets, Says, TakesOctets}
+use Rattle.modem_driver.specs.Endpoints.{EndpointState, GivesOctets, MachineSays, TakesOctets}
 use Rattle.modem_driver.specs.EndpointLaws.{Calls, World, called_more, gave_octets, none_called, took_octets}
 use Rattle.modem_driver.specs.EndpointSteps.{with_received, with_sent}
 use Rattle.modem_driver.specs.declared.endpoint.Blocked.{Blocked}
@@ -79,10 +79,7 @@ all_given e f g h count given before later blocked out takes says gives same non
     }
 
 -- all of no octets was taken
-pub says_of_frames : (e : EndpointState) (all : Type 0) (blocked : Option Blocked) → Says e all blocked → SaysOfFrames e blocked
+pub says_of_frames : (e : EndpointState) (all : Type 0) (blocked : Option Blocked) → MachineSays e.machine all blocked → SaysOfFrames e blocked
 says_of_frames e all None h = (tt, h.1)
 says_of_frames e all (Some OutputFirst) h = h
-says_of_frames e all (Some NoMemory) h = or_all h
-  where
-    or_all : {a b c : Type 0} → a ⊎ (b × c) → a ⊎ (Unit {0} × c)
-    or_all {a} {b} {c} h = ⊎_elim (λ (x : a). inl x) (λ (y : b × c). inr (tt, y.1)) h
+says_of_frames e all (Some NoMemory) h = h

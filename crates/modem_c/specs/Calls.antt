@@ -5,7 +5,7 @@ use Rattle.modem_desk.specs.declared.request.Ask.{Ask}
 use Rattle.modem_desk.specs.Ends.{DriverView}
 use Rattle.modem_history.specs.Acts.{Act}
 use Rattle.modem_history.specs.Sessions.{Beginning, LineView}
-use Rattle.modem_driver.specs.Endpoints.{EndpointFits, EndpointState, GivesOctets, Numbers, Says, TakesOctets}
+use Rattle.modem_driver.specs.Endpoints.{EndpointFits, EndpointState, GivesOctets, MachineSays, Numbers, TakesOctets}
 use Rattle.modem_driver.specs.EndpointLaws.{Calls}
 use Rattle.modem_driver.specs.WaitingTicks.{waiting_ticks}
 use Rattle.modem_driver.specs.EndpointSteps.{with_sent}
@@ -57,9 +57,9 @@ pub data GivesOn : LineView → DriverView → EndpointState → EndpointState �
       → GivesOn l d e f before → TakesOctets (with_sent l before) d f g [] blocked → GivesOn l d e g before
 
 -- What an endpoint answers to input of no octets: nothing blocks it where no frame is at hand; OutputFirst where the frame at
--- hand lacks room; NoMemory.
+-- hand lacks room; NoMemory where a frame is at hand.
 abbrev pub SaysOfFrames : EndpointState → Option Blocked → Type 0
-SaysOfFrames e blocked = Says e (Unit {0}) blocked
+SaysOfFrames e blocked = MachineSays e.machine (Unit {0}) blocked
 
 -- The line took these octets, as `GivesOn` has it. Behind the last of them frames at hand were handled, and connections held
 -- and freed, as far as this answer says. The line took no more.

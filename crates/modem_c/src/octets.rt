@@ -2,7 +2,7 @@
 ghost use Rattle.std.specs.Prelude.{◌≡◌, ◌≢◌, ◌<◌, ◌≤◌, ◌↔◌, ◌+◌, [], length, take, drop, None, Some};
 ghost use Rattle.modem_desk.specs.Ends.{DriverView};
 ghost use Rattle.modem_history.specs.Sessions.{LineView};
-ghost use Rattle.modem_driver.specs.Endpoints.{GivesOctets, HoldsNothingBack, Says, TakesOctets};
+ghost use Rattle.modem_driver.specs.Endpoints.{GivesOctets, HoldsNothingBack, MachineSays, TakesOctets};
 ghost use Rattle.modem_driver.specs.declared.endpoint.Blocked.TheVariants as cause;
 ghost use Rattle.modem_c.specs.Calls.{GivesAll, Goes, Holds, SaysOfFrames, endpoint_of};
 
@@ -38,11 +38,11 @@ pub extern "C" fn cimbaloty_input_at(
         → TakesOctets l d e f (take taken.new octets.now) (Some cause.OutputFirst)) }
     ensures no_memory { result ≡ NO_MEMORY → Goes c.old c.new (λ e f. (l : LineView) (d : DriverView)
         → TakesOctets l d e f (take taken.new octets.now) (Some cause.NoMemory)) }
-    ensures done { result ≡ OK → Holds c.new (λ f. Says f (taken.new ≡ length octets.now) None) }
+    ensures done { result ≡ OK → Holds c.new (λ f. MachineSays f.machine (taken.new ≡ length octets.now) None) }
     ensures wants { result ≡ OUTPUT_FIRST
-        → Holds c.new (λ f. Says f (taken.new ≡ length octets.now) (Some cause.OutputFirst)) }
+        → Holds c.new (λ f. MachineSays f.machine (taken.new ≡ length octets.now) (Some cause.OutputFirst)) }
     ensures waits { result ≡ NO_MEMORY
-        → Holds c.new (λ f. Says f (taken.new ≡ length octets.now) (Some cause.NoMemory)) }
+        → Holds c.new (λ f. MachineSays f.machine (taken.new ≡ length octets.now) (Some cause.NoMemory)) }
     ensures few { taken.new ≤ length octets.now }
     ensures no_driver { (result ≡ NO_DRIVER) ↔ (endpoint_of c.old ≡ None) }
     ensures none { endpoint_of c.old ≡ None → endpoint_of c.new ≡ None }
