@@ -65,12 +65,7 @@ impl StandardLine {
 
 /// Whether some line is of both rules. No where one of the texts has more than 64 octets, as no rule of a dialect has.
 #[tactic(auto, using(crate::proofs::dialects::Meeting::meet_met, crate::proofs::dialects::Meeting::none_in_common))]
-pub fn have_line_in_common(
-    form: Form,
-    text: &[u8],
-    other_form: Form,
-    other_text: &[u8],
-) -> bool
+pub fn have_line_in_common(form: Form, text: &[u8], other_form: Form, other_text: &[u8]) -> bool
     ensures value { result ≡ can_meet (pattern form text.now) (pattern other_form other_text.now) }
     ensures yes { result ≡ true → HaveLineInCommon (pattern form text.now) (pattern other_form other_text.now) }
     ensures no { length text.now ≤ 64 → length other_text.now ≤ 64 → result ≡ false

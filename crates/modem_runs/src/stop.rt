@@ -99,9 +99,7 @@ impl fmt::Display for Stop {
                 DialectFault::NoRule(place, _)
                 | DialectFault::Refused(place, _)
                 | DialectFault::Clashes(place, _),
-            ) => {
-                write!(f, "{words}{place}")
-            }
+            ) => { write!(f, "{words}{place}") }
             _ => f.write_str(words),
         }
     }

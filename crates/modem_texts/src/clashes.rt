@@ -39,9 +39,7 @@ pub enum Clash {
 fn first_in<'a>(form: Form, text: &[u8], lines: &'a [StandardLine]) -> Option<&'a StandardLine>
     ensures { option_copied result ≡ find (λ s. can_meet (pattern form text.now) (standard_pattern s)) lines.now }
 {
-    lines
-        .iter()
-        .find(|line| have_line_in_common(form, text, line.form(), line.text().as_bytes()))
+    lines.iter().find(|line| have_line_in_common(form, text, line.form(), line.text().as_bytes()))
 }
 
 fn first_of(form: Form, text: &[u8], lines: &[StandardLine]) -> Option<StandardLine>

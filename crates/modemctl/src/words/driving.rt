@@ -47,7 +47,9 @@ fn quiet_option<'a>(alloc: Global) -> Arg<'a>
     Arg::new(alloc, "quiet-for")
         .long("quiet-for")
         .value_name("SECONDS")
-        .help("Closes a connection whose command has no answer for so long, 1 to 60000 (default 120)")
+        .help(
+            "Closes a connection whose command has no answer for so long, 1 to 60000 (default 120)",
+        )
         .action(ArgAction::Set)
         .value_parser(value_parser!(u16).range(1..=60000))
 }

@@ -18,10 +18,11 @@ returns-then-clashes_with c =
     c.loop-place.invariant.0 c.in_ok-line.ensures.cut c.loop-place-test.true (c.if-clashes_with.ensures.yes refl)
 
 pub loop-place-preserved : goal.loop-place-preserved
-loop-place-preserved c =
-    (read_on (rule_in c.args.rule) c.args.text.now c.loop-place.left.now c.in_ok-line.line.now c.in_ok-line.rest.now c.loop-place.place
-    c.loop-place.invariant.0 c.in_ok-line.ensures.cut (λ short. c.if-clashes_with.ensures.no short refl),
-    (let less = c.loop-place-test.true in omega (arith, less)))
+loop-place-preserved c = (
+  read_on (rule_in c.args.rule) c.args.text.now c.loop-place.left.now c.in_ok-line.line.now c.in_ok-line.rest.now c.loop-place.place
+      c.loop-place.invariant.0 c.in_ok-line.ensures.cut (λ short. c.if-clashes_with.ensures.no short refl),
+  (let less = c.loop-place-test.true in omega (arith, less)),
+)
 
 pub returns : goal.returns
 returns c =
