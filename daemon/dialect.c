@@ -87,7 +87,18 @@ static bool read_rules(struct cimbaloty_dialect *d, FILE *file, const char *path
 	return !why && !ferror(file);
 }
 
-bool dialect_read(struct cimbaloty_dialect *d, const char *name)
+/* Behind CONNECT there is data: the line ends the answer of the command that dials. */
+static bool add_connect(struct cimbaloty_dialect *d, const char *name)
+{
+	static const char text[] = "CONNECT";
+	uint8_t said = cimbaloty_dialect_add_final(d, CIMBALOTY_PREFIX, text, sizeof text - 1);
+
+	if (said != CIMBALOTY_OK)
+		fprintf(stderr, "cimbalotyd: dialect %s, with CONNECT for --dial: %s\n", name, reason_of(said));
+	return said == CIMBALOTY_OK;
+}
+
+bool dialect_read(struct cimbaloty_dialect *d, const char *name, bool dials)
 {
 	bool is_common = !strcmp(name, "common"), is_dialling = !strcmp(name, "dialling");
 	FILE *file = is_common || is_dialling ? NULL : fopen(name, "re");
@@ -104,6 +115,7 @@ bool dialect_read(struct cimbaloty_dialect *d, const char *name)
 		holds = holds && read_rules(d, file, name);
 		fclose(file);
 	}
+	holds = holds && (!dials || add_connect(d, name));
 	if (!holds)
 		cimbaloty_dialect_free(d);
 	return holds;

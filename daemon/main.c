@@ -312,13 +312,22 @@ static void end(struct daemon *d)
 	options_free(&d->options);
 }
 
+/* Whether data may come behind a command that dials. */
+static bool dials(const struct options *o)
+{
+	for (unsigned place = 1; place <= CONNECTIONS; place++)
+		if (o->carries[place] == DATA_BEHIND_CONNECT)
+			return true;
+	return false;
+}
+
 int main(int argc, char **argv)
 {
 	static struct daemon d = { .codes = CIMBALOTY_DIALECT_NONE, .modem = { .fd = -1 }, .terminals = { .watcher = -1 }, .signals = -1, .folder = -1 };
 	enum options_result result = options_read(&d.options, argc, argv);
 
 	d.notify.fd = -1;
-	if (result != OPTIONS_TAKEN || !dialect_read(&d.codes, d.options.dialect)) {
+	if (result != OPTIONS_TAKEN || !dialect_read(&d.codes, d.options.dialect, dials(&d.options))) {
 		options_free(&d.options);
 		return result == OPTIONS_SHOWN ? 0 : 2;
 	}
