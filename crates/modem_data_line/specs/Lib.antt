@@ -1,0 +1,2 @@
+pub mod DataLines
+pub mod Moving
