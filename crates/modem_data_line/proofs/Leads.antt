@@ -5,7 +5,7 @@ use Rattle.std.proofs.Common.{ap, sym, ◌∙◌, subst, arith, zero, suc}
 use Rattle.std.proofs.lemmas.Bool.{and_from, and_parts}
 use Rattle.std.proofs.lemmas.List.{append_assoc, append-nil, take-append-drop}
 use Rattle.std.proofs.lemmas.List.Folds.{list_all-append}
-use Rattle.modem_data.specs.Passing.{Came, Went, Flowed, Left, Lost}
+use Rattle.modem_data.specs.Passing.{Pass, Came, Went, Flowed, Left, Lost}
 use Rattle.modem_data.specs.Hops.{Relay, RelayFits, Hop, Fed, Handed, Took, Wrote, Passed, Hops, LineIn, DriverOut, still_there, driver_out, OneOut, still_out, went_out, flow_out, left_out, fed, handed_over, taken, wrote, is_line_in}
 use Rattle.modem_data_line.specs.DataLines.{DataLineState, Before, LineFits, LeadsBy, TakesBy, is_of_driver, is_outward, may_go, may_pass, with_taken}
 use Rattle.modem_data_line.specs.Moving.{WritesOn, Feeds, Hands, TakesOn}
@@ -371,3 +371,11 @@ counted_takes r s u v w x octets a h c = record {
   only_after = subst (λ (k : Bool). list_all (may_go k) h.after ≡ true) (sym (ap (λ (y : DataLineState _). y.is_behind) c)) h.only_after;
   leads = λ n1 ds b past f. counted_fits r s n1 ds b (h.after ++ with_taken octets (h.before ++ past)) w x c (h.leads n1 ds b past (counted_fits r s n1 ds b past u v a f));
 }
+
+-- ## Calls of the lanes
+
+pub lanes_lead : {X : Type 0} (r s : X → List ℕ) (v w : DataLineState X) (a : Pass) → Hops v.relay w.relay (Passed a) → w ≡ record v { relay = w.relay } → Leads r s (Passed a ∷ []) v w
+unfolding Hops
+lanes_lead r s v w a h e = lift_out r s (Passed a ∷ []) v w h refl refl refl (ap (λ (x : DataLineState _). r x.line) e)
+    (ap (λ (x : DataLineState _). s x.line) e ∙ sym (append-nil (s v.line)))
+    (ap (λ (x : DataLineState _). x.unfed) e) (ap (λ (x : DataLineState _). x.received) e) (ap (λ (x : DataLineState _). x.sent) e)

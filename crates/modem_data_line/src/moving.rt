@@ -125,7 +125,11 @@ impl<L: SerialLine> DataLine<L> {
     fn read_line(&mut self)
         ensures goes { LeadsBy L.received L.sent (may_pass self.old.is_behind) self.old self.new }
         ensures same { self.new ≡ record self.old {
-          line = self.new.line; relay = self.new.relay; unfed = self.new.unfed; is_lost = self.new.is_lost } }
+          line = self.new.line;
+          relay = self.new.relay;
+          unfed = self.new.unfed;
+          is_lost = self.new.is_lost;
+        } }
         ensures asked { self.old.unfed ≡ [] → (self.new.is_lost ≡ true) ⊎ IsAsked L.received L.empty_reads self.old.line self.new.line }
     {
         if !self.unfed.is_empty() {
@@ -171,7 +175,11 @@ impl<L: SerialLine> DataLine<L> {
     fn take_in(&mut self)
         ensures goes { LeadsBy L.received L.sent (may_pass self.old.is_behind) self.old self.new }
         ensures same { self.new ≡ record self.old {
-          line = self.new.line; relay = self.new.relay; unfed = self.new.unfed; is_lost = self.new.is_lost } }
+          line = self.new.line;
+          relay = self.new.relay;
+          unfed = self.new.unfed;
+          is_lost = self.new.is_lost;
+        } }
         ensures asked { self.old.relay.to_driver ≡ [] → self.old.unfed ≡ []
             → (self.new.is_lost ≡ true) ⊎ IsAsked L.received L.empty_reads self.old.line self.new.line }
         ensures blocks { self.old.relay.to_driver ≡ [] → self.new.unfed ≢ [] → self.new.relay.outer.next ≢ None }
@@ -190,7 +198,12 @@ impl<L: SerialLine> DataLine<L> {
     pub(crate) fn pass_in(&mut self, room: &mut [u8]) -> usize
         ensures goes { LeadsBy L.received L.sent (may_pass self.old.is_behind) self.old self.new }
         ensures same { self.new ≡ record self.old {
-          line = self.new.line; relay = self.new.relay; unfed = self.new.unfed; received = self.new.received; is_lost = self.new.is_lost } }
+          line = self.new.line;
+          relay = self.new.relay;
+          unfed = self.new.unfed;
+          received = self.new.received;
+          is_lost = self.new.is_lost;
+        } }
         ensures came { self.new.received ≡ self.old.received ++ take result room.new }
         ensures few { result ≤ length room.old }
         ensures all { result < length room.old → self.new.relay.to_driver ≡ [] }
@@ -208,7 +221,11 @@ impl<L: SerialLine> DataLine<L> {
     fn write_first(&mut self)
         ensures goes { LeadsBy L.received L.sent is_of_driver self.old self.new }
         ensures same { self.new ≡ record self.old {
-          line = self.new.line; relay = self.new.relay; is_lost = self.new.is_lost; is_behind = true } }
+          line = self.new.line;
+          relay = self.new.relay;
+          is_lost = self.new.is_lost;
+          is_behind = true;
+        } }
     {
         self.is_behind = true;
         self.write_one();
@@ -247,7 +264,12 @@ impl<L: SerialLine> DataLine<L> {
     pub(crate) fn pass_out(&mut self, octets: &[u8]) -> usize
         ensures takes { TakesBy L.received L.sent (take result octets.now) self.old self.new }
         ensures same { self.new ≡ record self.old {
-          line = self.new.line; relay = self.new.relay; sent = self.new.sent; is_lost = self.new.is_lost; is_behind = self.new.is_behind } }
+          line = self.new.line;
+          relay = self.new.relay;
+          sent = self.new.sent;
+          is_lost = self.new.is_lost;
+          is_behind = self.new.is_behind;
+        } }
         ensures went { self.new.sent ≡ self.old.sent ++ take result octets.now }
         ensures few { result ≤ length octets.now }
         ensures behind { self.new.is_behind ≡ nat_lt result (length octets.now) }

@@ -50,10 +50,14 @@ impl<L: SerialLine> SerialLine for DataLine<L> {
         ensures goes { LeadsBy L.received L.sent (may_pass self.old.is_behind) self.old self.new }
         ensures call { MatchResult result
             (λ n. self.new ≡ record self.old {
-              line = self.new.line; relay = self.new.relay; unfed = self.new.unfed; is_lost = self.new.is_lost;
+              line = self.new.line;
+              relay = self.new.relay;
+              unfed = self.new.unfed;
+              is_lost = self.new.is_lost;
               received = self.old.received ++ take n buffer.new;
               calls = one_more self.old.calls;
-              empty_reads = counted_if_none (length buffer.old) n self.old.empty_reads })
+              empty_reads = counted_if_none (length buffer.old) n self.old.empty_reads;
+            })
             (λ _. self.new ≡ record self.old { calls = one_more self.old.calls; failures = self.old.failures + 1 }) }
         ensures last { OnErr result (self.old.failures < u64.MAX) }
         ensures fails { OnErr result ((self.old.is_lost ≡ true) × (self.old.relay.to_driver ≡ [])) }
@@ -77,11 +81,14 @@ impl<L: SerialLine> SerialLine for DataLine<L> {
         ensures takes { IfOk result (λ n. TakesBy L.received L.sent (take n octets.now) self.old self.new) }
         ensures call { MatchResult result
             (λ n. self.new ≡ record self.old {
-              line = self.new.line; relay = self.new.relay; is_lost = self.new.is_lost;
+              line = self.new.line;
+              relay = self.new.relay;
+              is_lost = self.new.is_lost;
               is_behind = nat_lt n (length octets.now);
               sent = self.old.sent ++ take n octets.now;
               calls = one_more self.old.calls;
-              stalled_writes = counted_if_none (length octets.now) n self.old.stalled_writes })
+              stalled_writes = counted_if_none (length octets.now) n self.old.stalled_writes;
+            })
             (λ _. self.new ≡ record self.old { calls = one_more self.old.calls; failures = self.old.failures + 1 }) }
         ensures last { OnErr result (self.old.failures < u64.MAX) }
         ensures fails { OnErr result (self.old.is_lost ≡ true) }
