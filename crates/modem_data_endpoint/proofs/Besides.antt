@@ -12,7 +12,7 @@ use Rattle.mux_frame.specs.Deframing.{Deframes, Deframing, IsDeframed}
 use Rattle.mux_frame.proofs.readings.ComputedReadings.{octets_both, total_reading}
 use Rattle.mux_frame.proofs.readings.LaterTexts.{reads_spelled}
 use Rattle.mux_frame.proofs.readings.TextReadings.{one_reading}
-use Rattle.modem_data.specs.Hops.{Relay, Hop, Fed, Handed, Took, Wrote, Passed, RelayFits, for_driver, fed, came, handed_over, taken, went, Hops, LineIn, BeginsRelay, is_line_in}
+use Rattle.modem_data.specs.Hops.{Relay, Hop, Fed, Handed, Took, Wrote, Passed, RelayFits, for_driver, fed, came, handed_over, taken, went, Hops, BeginsRelay, is_line_in}
 use Rattle.modem_driver.specs.EndpointLaws.{World, Calls, TellsAll, none_called, called_more}
 use Rattle.modem_driver.specs.SessionStates.{beginning_by, end_of, seen_by}
 use Rattle.modem_history.specs.Acts.{Act}

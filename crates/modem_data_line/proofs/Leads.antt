@@ -1,12 +1,12 @@
 -- What leads a line with its relay from one state to the next.
-use Rattle.std.specs.Prelude.{◌≡◌, ◌≢◌, ℕ, ◌≤◌, ◌<◌, length, Bool, true, false, List, [], ◌∷◌, ◌++◌, take, drop, refl}
+use Rattle.std.specs.Prelude.{◌≡◌, ◌≢◌, ℕ, ◌≤◌, ◌<◌, length, Bool, true, false, List, [], ◌∷◌, ◌++◌, take, refl}
 use Rattle.std.specs.List.{list_all}
 use Rattle.std.proofs.Common.{ap, sym, ◌∙◌, subst, arith, zero, suc}
 use Rattle.std.proofs.lemmas.Bool.{and_from, and_parts}
-use Rattle.std.proofs.lemmas.List.{append_assoc, append-nil, take-append-drop}
+use Rattle.std.proofs.lemmas.List.{append_assoc, append-nil}
 use Rattle.std.proofs.lemmas.List.Folds.{list_all-append}
 use Rattle.modem_data.specs.Passing.{Pass, Came, Went, Flowed, Left, Lost}
-use Rattle.modem_data.specs.Hops.{Relay, RelayFits, Hop, Fed, Handed, Took, Wrote, Passed, Hops, LineIn, DriverOut, still_there, driver_out, OneOut, still_out, went_out, flow_out, left_out, fed, handed_over, taken, wrote, is_line_in}
+use Rattle.modem_data.specs.Hops.{Relay, RelayFits, Hop, Fed, Handed, Took, Wrote, Passed, Hops, DriverOut, still_there, driver_out, OneOut, still_out, went_out, flow_out, left_out, fed, handed_over, taken, wrote, is_line_in}
 use Rattle.modem_data_line.specs.DataLines.{DataLineState, Before, LineFits, LeadsBy, TakesBy, is_of_driver, is_outward, may_go, may_pass, with_taken}
 use Rattle.modem_data_line.specs.Moving.{WritesOn, Feeds, Hands, TakesOn}
 

@@ -1,12 +1,11 @@
 -- Any calls have one past; a session behind it reads the line's frames but data.
-use Rattle.std.specs.Prelude.{◌≡◌, ℕ, ◌≤◌, Bool, List, [], ◌∷◌, ◌++◌, refl}
-use Rattle.std.proofs.Common.{ap, sym, ◌∙◌, subst}
+use Rattle.std.specs.Prelude.{◌≡◌, ℕ, List, [], ◌∷◌, ◌++◌, refl}
+use Rattle.std.proofs.Common.{ap, sym, ◌∙◌}
 use Rattle.std.proofs.lemmas.List.{append-nil}
 use Rattle.mux_frame.specs.Deframing.{IsDeframed}
-use Rattle.modem_data.specs.Passing.{Pass}
-use Rattle.modem_data.specs.Hops.{Relay, Hop, Passed, Hops, BeginsRelay, handed_over, taken}
+use Rattle.modem_data.specs.Hops.{Relay, Passed, BeginsRelay, handed_over, taken}
 use Rattle.modem_data_endpoint.proofs.Besides.{frames_told}
-use Rattle.modem_data_line.specs.DataLines.{DataLineState, new_data_line, Before, LineFits, LeadsBy, TakesBy, with_taken}
+use Rattle.modem_data_line.specs.DataLines.{DataLineState, new_data_line, Before, with_taken}
 use Rattle.modem_data_line.specs.LineLaws.{LineCall, led, took, of_lanes, LineCalls, no_call, more_calls, before_of, HasPast, HaveOnePast, TellsSession}
 use Rattle.modem_data_line.proofs.Leads.{lanes_lead}
 

@@ -1,9 +1,8 @@
 -- A line with a relay before the end that a driver reads and writes. A past is written newest first.
-use Rattle.std.specs.Prelude.{◌≡◌, ◌⊎◌, ◌≢◌, ℕ, ◌<◌, Bool, true, false, List, [], ◌∷◌, ◌++◌, length, None}
-use Rattle.std.specs.List.{list_all, list_any}
-use Rattle.serial_line.specs.Counts.{one_more}
+use Rattle.std.specs.Prelude.{◌≡◌, ℕ, Bool, true, false, List, [], ◌∷◌, ◌++◌}
+use Rattle.std.specs.List.{list_all}
 use Rattle.modem_data.specs.Passing.{Came, Went, Flowed, Left, Lost}
-use Rattle.modem_data.specs.Hops.{Relay, RelayFits, Hop, Fed, Handed, Took, Wrote, Passed, HoldsNothing, BeginsRelay, fed, handed_over, taken, wrote}
+use Rattle.modem_data.specs.Hops.{Relay, RelayFits, Hop, Fed, Handed, Took, Wrote, Passed, fed, handed_over, taken, wrote}
 
 -- a line with its relay, as contracts see it
 pub record DataLineState (X : Type 0) : Type 0 where

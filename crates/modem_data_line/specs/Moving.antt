@@ -1,7 +1,7 @@
 -- Octets between a line and its relay, the one or the other way.
-use Rattle.std.specs.Prelude.{◌≡◌, ◌≢◌, ◌⊎◌, ℕ, Bool, true, false, List, ◌∷◌, ◌++◌, length, None}
+use Rattle.std.specs.Prelude.{◌≡◌, ◌≢◌, ◌⊎◌, ℕ, Bool, true, false, List, ◌++◌, length, None}
 use Rattle.serial_line.specs.Counts.{one_more}
-use Rattle.modem_data.specs.Hops.{Relay, Hop, Hops, HoldsNothing, LineIn, Handed, Took, Wrote}
+use Rattle.modem_data.specs.Hops.{Relay, Hop, Hops, HoldsNothing, LineIn, Handed, Wrote}
 use Rattle.modem_data_line.specs.DataLines.{DataLineState, Before, LineFits, with_taken}
 
 -- the line took these of the relay

@@ -1,6 +1,5 @@
-use Rattle.std.specs.Prelude.{◌≡◌, ℕ, ◌==◌, List, [], length, true, refl}
-use Rattle.std.proofs.Common.{ap, ◌∙◌, sym, inr}
-use Rattle.modem_data_line.specs.DataLines.{DataLineState}
+use Rattle.std.specs.Prelude.{refl}
+use Rattle.std.proofs.Common.{◌∙◌, sym, inr}
 use Rattle.modem_data_line.proofs.Leads.{reads_line, loses_reading}
 use Rattle.modem_data_line.proofs.Asked.{is_asked, none_left}
 use Rattle.modem_data_line.proofs.data_line.DataLine.read_line.Goals as goal

@@ -1,5 +1,5 @@
-use Rattle.std.specs.Prelude.{◌≡◌, ◌⊎◌, ℕ, Bool, true, List}
-use Rattle.std.proofs.Common.{ap, sym, ◌∙◌, subst}
+use Rattle.std.specs.Prelude.{◌≡◌, ◌⊎◌, Bool, true}
+use Rattle.std.proofs.Common.{ap, sym, subst}
 use Rattle.modem_data_line.specs.DataLines.{DataLineState, LeadsBy, may_pass}
 use Rattle.modem_data_line.specs.Moving.{IsAsked}
 use Rattle.modem_data_line.proofs.Leads.{leads_then}

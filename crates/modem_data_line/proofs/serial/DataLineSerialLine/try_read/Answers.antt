@@ -1,5 +1,5 @@
-use Rattle.std.specs.Prelude.{◌≡◌, ◌⊎◌, true, List, refl}
-use Rattle.std.proofs.Common.{ap, sym, ◌∙◌}
+use Rattle.std.specs.Prelude.{refl}
+use Rattle.std.proofs.Common.{ap, ◌∙◌}
 use Rattle.modem_data_line.specs.DataLines.{DataLineState}
 use Rattle.modem_data_line.proofs.Leads.{counted_round}
 use Rattle.modem_data_line.proofs.Asked.{asked_or}
