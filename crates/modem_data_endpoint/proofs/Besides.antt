@@ -1,5 +1,5 @@
 -- The frames that the endpoint got are the first of those due to the driver.
-use Rattle.std.specs.Prelude.{◌≡◌, ℕ, true, false, List, [], ◌∷◌, ◌++◌, flat_map, None, refl}
+use Rattle.std.specs.Prelude.{◌≡◌, ℕ, ◌≤◌, true, false, List, [], ◌∷◌, ◌++◌, flat_map, None, refl}
 use Rattle.std.specs.List.{list_all}
 use Rattle.std.proofs.lemmas.Bool.{and_parts}
 use Rattle.std.proofs.Common.{ap, sym, ◌∙◌, subst}
@@ -12,11 +12,12 @@ use Rattle.mux_frame.specs.Deframing.{Deframes, Deframing, IsDeframed}
 use Rattle.mux_frame.proofs.readings.ComputedReadings.{octets_both, total_reading}
 use Rattle.mux_frame.proofs.readings.LaterTexts.{reads_spelled}
 use Rattle.mux_frame.proofs.readings.TextReadings.{one_reading}
-use Rattle.modem_data.specs.Hops.{Hop, Fed, Handed, Took, Wrote, Passed, RelayFits, for_driver, fed, came, handed_over, taken, went, Hops, LineIn, BeginsRelay, is_line_in}
+use Rattle.modem_data.specs.Hops.{Relay, Hop, Fed, Handed, Took, Wrote, Passed, RelayFits, for_driver, fed, came, handed_over, taken, went, Hops, BeginsRelay, is_line_in}
 use Rattle.modem_driver.specs.EndpointLaws.{World, Calls, TellsAll, none_called, called_more}
-use Rattle.modem_driver.specs.SessionStates.{beginning_by}
-use Rattle.modem_history.specs.Sessions.{Beginning, gots, given_on}
-use Rattle.modem_data_endpoint.specs.Beside.{Both, Step, Steps, called, relayed, came_in, gave_in, took_out, no_step, more_steps, is_joint, IsJoined, DataLaw, AreSpelled}
+use Rattle.modem_driver.specs.SessionStates.{beginning_by, end_of, seen_by}
+use Rattle.modem_history.specs.Acts.{Act}
+use Rattle.modem_history.specs.Sessions.{Beginning, SessionFits, SessionView, gots, given_on}
+use Rattle.modem_data_endpoint.specs.Beside.{Both, Step, Steps, called, relayed, came_in, gave_in, took_out, no_step, more_steps, is_joint, IsJoined, DataLaw, AreSpelled, TellsFrames}
 use Rattle.modem_data_endpoint.proofs.Spelled.{all_due_spelled, handed_spelled}
 
 -- ## Sequences of calls
@@ -110,6 +111,24 @@ no_more xs ys e = ap (λ (zs : List ℕ). xs ++ zs) e ∙ append-nil xs
 
 -- ## The law
 
+pub frames_told : IsDeframed → (n1 : ℕ) (ds : List ℕ) (b : Beginning) (v : SessionView) (r : Relay) (hops : List Hop) (past : List Act) → n1 ≤ 32767 → SessionFits b v past → RelayFits n1 ds r hops
+    → b.n1 ≡ n1 → v.line.received ≡ b.line.received ++ handed_over hops → v.line.sent ≡ b.line.sent ++ taken hops → TellsFrames n1 v r hops past
+frames_told law n1 ds b v r hops past high fits relay same read written_all =
+    let octets = fits.received in
+    let bound = octets.bound ∙ same in
+    let parts : handed_over hops ≡ octets.fed ++ v.unfed = append_cancel_left b.line.received (handed_over hops) (octets.fed ++ v.unfed) (sym read ∙ (octets.received_are ∙ append_assoc b.line.received octets.fed v.unfed)) in
+    let written = fits.sent in
+    let gone : taken hops ≡ written.since = append_cancel_left b.line.sent (taken hops) written.since (sym written_all ∙ written.sent_are) in
+    let came_all = subst (λ (n : ℕ). AreSpelled n (came hops)) relay.outer_n1 (handed_spelled (fed hops) (came hops) r.outer relay.line_in) in
+    let due_all = all_due_spelled n1 hops high came_all in
+    let all_in : octets.fed ++ (v.unfed ++ r.to_driver) ≡ flat_map spelled (for_driver hops) = sym (append_assoc octets.fed v.unfed r.to_driver) ∙ (ap (λ (xs : List ℕ). xs ++ r.to_driver) (sym parts) ∙ relay.to_driver_is) in
+    record {
+      got_are = λ aside on_way. first_of n1 octets.fed (v.unfed ++ r.to_driver) (gots past) (for_driver hops) v.deframer bound octets.deframes due_all (octets_both v.unfed r.to_driver aside on_way) all_in;
+      all_got = λ aside on_way none. all_of n1 octets.fed (gots past) (for_driver hops) v.deframer law bound octets.deframes due_all none (sym (no_more octets.fed v.unfed aside) ∙ (sym parts ∙ (sym (no_more (handed_over hops) r.to_driver on_way) ∙ relay.to_driver_is)));
+      went_are = λ sp o. first_of n1 (taken hops) v.unwritten (went hops) (given_on past) r.inner relay.inner_n1 relay.driver_out sp o (ap (λ (xs : List ℕ). xs ++ v.unwritten) gone ∙ written.frames_are);
+      all_went = λ sp o none. all_of n1 (taken hops) (went hops) (given_on past) r.inner law relay.inner_n1 relay.driver_out sp none (gone ∙ (sym (no_more written.since v.unwritten o) ∙ written.frames_are));
+    }
+
 pub data_law : IsDeframed → TellsAll → DataLaw
 unfolding DataLaw BeginsRelay TellsAll
 data_law law tells_all dialect n1 ds kinds x y same some high begins starts none steps =
@@ -119,21 +138,14 @@ data_law law tells_all dialect n1 ds kinds x y same some high begins starts none
     let fit = all_fit n1 ds x y first steps in
     let at_first : IsJoined b x = subst (λ (hops : List Hop). IsJoined b (record x { hops = hops })) (sym none) (record { received_are = sym (append-nil x.world.line.received); sent_are = sym (append-nil x.world.line.sent) }) in
     let joined = all_joined b x y at_first steps in
-    let octets = told.fits.received in
-    let k = y.world.endpoint.machine in
-    let parts : handed_over y.hops ≡ octets.fed ++ k.unfed = append_cancel_left b.line.received (handed_over y.hops) (octets.fed ++ k.unfed) (sym joined.received_are ∙ (octets.received_are ∙ append_assoc b.line.received octets.fed k.unfed)) in
-    let written = told.fits.sent in
-    let gone : taken y.hops ≡ written.since = append_cancel_left b.line.sent (taken y.hops) written.since (sym joined.sent_are ∙ written.sent_are) in
-    let came_all = subst (λ (n : ℕ). AreSpelled n (came y.hops)) fit.outer_n1 (handed_spelled (fed y.hops) (came y.hops) y.relay.outer fit.line_in) in
-    let due_all = all_due_spelled n1 y.hops high came_all in
-    let all_in : octets.fed ++ (k.unfed ++ y.relay.to_driver) ≡ flat_map spelled (for_driver y.hops) = sym (append_assoc octets.fed k.unfed y.relay.to_driver) ∙ (ap (λ (xs : List ℕ). xs ++ y.relay.to_driver) (sym parts) ∙ fit.to_driver_is) in
+    let frames = frames_told law n1 ds b (seen_by y.world.line (end_of y.world.driver) y.world.endpoint.machine) y.relay y.hops told.past high told.fits fit refl joined.received_are joined.sent_are in
     record {
       past = told.past;
       fits = told.fits;
       relay_fits = fit;
       joined = joined;
-      got_are = λ wait. first_of n1 octets.fed (k.unfed ++ y.relay.to_driver) (gots told.past) (for_driver y.hops) k.deframer octets.bound octets.deframes due_all (octets_both k.unfed y.relay.to_driver wait.aside wait.on_way) all_in;
-      all_got = λ t. all_of n1 octets.fed (gots told.past) (for_driver y.hops) k.deframer law octets.bound octets.deframes due_all t.none_at_hand (sym (no_more octets.fed k.unfed t.none_aside) ∙ (sym parts ∙ (sym (no_more (handed_over y.hops) y.relay.to_driver t.none_on_way) ∙ fit.to_driver_is)));
-      went_are = λ sp o. first_of n1 (taken y.hops) k.unwritten (went y.hops) (given_on told.past) y.relay.inner fit.inner_n1 fit.driver_out sp o (ap (λ (xs : List ℕ). xs ++ k.unwritten) gone ∙ written.frames_are);
-      all_went = λ sp o. all_of n1 (taken y.hops) (went y.hops) (given_on told.past) y.relay.inner law fit.inner_n1 fit.driver_out sp o.none_at_hand (gone ∙ (sym (no_more written.since k.unwritten o.none_unwritten) ∙ written.frames_are));
+      got_are = λ wait. frames.got_are wait.aside wait.on_way;
+      all_got = λ t. frames.all_got t.none_aside t.none_on_way t.none_at_hand;
+      went_are = frames.went_are;
+      all_went = λ sp o. frames.all_went sp o.none_unwritten o.none_at_hand;
     }

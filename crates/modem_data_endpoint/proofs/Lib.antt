@@ -1,4 +1,4 @@
 mod Spelled
-mod Besides
+pub mod Besides
 mod Joins
 mod Pairing

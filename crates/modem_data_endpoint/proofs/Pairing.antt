@@ -1,18 +1,18 @@
 -- The calls of a relay and an endpoint as one value are steps of the two.
-use Rattle.std.specs.Prelude.{◌≡◌, ◌≢◌, ◌⊎◌, ℕ, ◌<◌, ◌≤◌, ◌&&◌, Bool, true, false, List, [], ◌∷◌, ◌++◌, length, drop, take, Option, None, refl}
+use Rattle.std.specs.Prelude.{◌≡◌, ◌≢◌, ◌⊎◌, ℕ, ◌<◌, Bool, true, false, List, [], ◌∷◌, ◌++◌, length, take, Option, None, refl}
 use Rattle.std.specs.List.{list_all, list_any}
 use Rattle.std.proofs.Common.{ap, sym, ◌∙◌, subst, arith, inl, inr}
-use Rattle.std.proofs.lemmas.Bool.{and_from, and_parts}
+use Rattle.std.proofs.lemmas.Bool.{and_from}
 use Rattle.std.proofs.lemmas.List.{append_assoc, append-nil}
 use Rattle.std.proofs.lemmas.List.Folds.{list_all-append}
 use Rattle.modem_desk.specs.Ends.{DriverView}
 use Rattle.modem_history.specs.Sessions.{LineView}
 use Rattle.modem_driver.specs.Endpoints.{EndpointState, GivesOctets, HoldsNothingBack}
-use Rattle.modem_driver.specs.EndpointLaws.{World, gave_octets}
+use Rattle.modem_driver.specs.EndpointLaws.{gave_octets}
 use Rattle.modem_driver.specs.EndpointSteps.{with_received, with_sent}
 use Rattle.modem_driver.specs.declared.endpoint.Blocked.{Blocked}
 use Rattle.modem_data.specs.Passing.{Came, Went, Flowed, Left}
-use Rattle.modem_data.specs.Hops.{Relay, Hop, Fed, Handed, Took, Wrote, Passed, Hops, HopsBy, HoldsNothing, LineIn, DriverOut, still_there, driver_out, OneOut, still_out, went_out, flow_out, left_out, fed, handed_over, taken, wrote, is_line_in}
+use Rattle.modem_data.specs.Hops.{Relay, Hop, Fed, Handed, Took, Wrote, Passed, Hops, HoldsNothing, LineIn, DriverOut, still_there, driver_out, OneOut, still_out, went_out, flow_out, left_out, fed, handed_over, taken, wrote, is_line_in}
 use Rattle.modem_data_endpoint.specs.Beside.{Both, Step, Steps, DataLaw, called, relayed, came_in, no_step, more_steps, is_joint}
 use Rattle.modem_data_endpoint.specs.Joined.{HandsOver, TakesOver, HandsAreSteps, TakesAreSteps}
 use Rattle.modem_data_endpoint.specs.Pairs.{Pair, joined, seen, is_inward, is_outward, is_beside, CarriesIn, TakesAll, CarriesOut, NextOut, took_one, relay_first, none_behind, PairCall, took_line, gave_line, of_endpoint, of_lanes, PairCalls, no_call, more_calls, PairLaw}

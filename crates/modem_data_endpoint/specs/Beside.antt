@@ -5,7 +5,7 @@ use Rattle.mux_frame.specs.Frames.{Frame}
 use Rattle.at_text.specs.Dialects.{Dialect}
 use Rattle.at_text.specs.declared.unsolicited.UrcKind.{UrcKind}
 use Rattle.modem_history.specs.Acts.{Act}
-use Rattle.modem_history.specs.Sessions.{Beginning, SessionFits, gots, given_on}
+use Rattle.modem_history.specs.Sessions.{Beginning, SessionFits, SessionView, gots, given_on}
 use Rattle.modem_driver.specs.EndpointLaws.{World, Call}
 use Rattle.modem_driver.specs.Endpoints.{BeginsBy}
 use Rattle.modem_driver.specs.SessionStates.{beginning_by, end_of, seen_by}
@@ -68,6 +68,15 @@ pub record IsOut (x : Both) : Type 0 where
 -- each of the frames has a spelling
 abbrev pub AreSpelled : ℕ → List Frame → Type 0
 AreSpelled n1 fs = All (HasSpelling n1) fs
+
+-- A driver with this history stands behind a relay: it read what the relay handed over, and wrote what the relay took. The frames that
+-- the history got are the first of those due to the driver, and all of them where nothing waits on the way. The frames of the driver's
+-- that went to the line are the first of those that the history gave on, and all of them where none waits.
+pub record TellsFrames (n1 : ℕ) (v : SessionView) (r : Relay) (hops : List Hop) (past : List Act) : Type 0 where
+  pub got_are : AreOctets v.unfed → AreOctets r.to_driver → GoesOn (gots past) (for_driver hops)
+  pub all_got : v.unfed ≡ [] → r.to_driver ≡ [] → v.deframer.next ≡ None → gots past ≡ for_driver hops
+  pub went_are : AreSpelled n1 (given_on past) → AreOctets v.unwritten → GoesOn (went hops) (given_on past)
+  pub all_went : AreSpelled n1 (given_on past) → v.unwritten ≡ [] → r.inner.next ≡ None → went hops ≡ given_on past
 
 -- One history tells all of the endpoint, and the relay fits what passed it. The frames that the history got are the first of those due
 -- to the driver: the frames of the line but data. Those of the driver's that went to the line are the first of those that the history

@@ -3,7 +3,7 @@ ghost use Rattle.std.specs.Prelude.{◌≡◌};
 ghost use Rattle.serial_line.specs.Counts.{counted_if_none};
 
 /// Counts a call that could move so many octets and moved `count`, if it moved none though it could.
-pub(crate) fn count_if_none(calls: &mut u64, could: usize, count: usize)
+pub fn count_if_none(calls: &mut u64, could: usize, count: usize)
     ensures { calls.new ≡ counted_if_none could count calls.old }
 {
     if could > 0 && count == 0 {

@@ -6,7 +6,7 @@ use std::marker::Model;
 
 /// All octets that passed, in order. It takes no memory, and does nothing when the program runs.
 #[derive(Drop)]
-pub(crate) struct History {
+pub struct History {
     octets: Tag,
 }
 
@@ -26,7 +26,8 @@ impl<'a> Names<(&'a Tag, &'a [u8])> for Longer {
 }
 
 impl History {
-    pub(crate) fn new() -> History
+    /// Nothing has passed.
+    pub fn new() -> History
         ensures { result ≡ [] }
     {
         History {
@@ -34,7 +35,8 @@ impl History {
         }
     }
 
-    pub(crate) fn push(&mut self, octets: &[u8])
+    /// These pass next.
+    pub fn push(&mut self, octets: &[u8])
         ensures { self.new ≡ self.old ++ octets.now }
     {
         self.octets = Tag::of::<(&Tag, &[u8]), Longer>(&(&self.octets, octets));

@@ -19,9 +19,11 @@ mod stream_line;
 mod tape;
 mod thread_line;
 
+pub use counting::count_if_none;
 pub use cut_line::CutLine;
 pub use cuts::Cut;
 pub use errors::LineError;
+pub use history::History;
 pub use line::{LineFault, SerialLine};
 pub use read_buffer::ReadBuffer;
 pub use stream_line::{StreamLine, ZeroRead};

@@ -1,0 +1,5 @@
+//! Tests of data beside a driver's frames.
+#![tactic(auto)]
+
+#[cfg(test)]
+mod lines;

@@ -1,0 +1,3 @@
+mod Leads
+mod Asked
+mod LineLaws

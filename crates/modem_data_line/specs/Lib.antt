@@ -1,0 +1,3 @@
+pub mod DataLines
+pub mod Moving
+pub mod LineLaws

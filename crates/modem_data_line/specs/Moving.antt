@@ -1,0 +1,36 @@
+-- Octets between a line and its relay, the one or the other way.
+use Rattle.std.specs.Prelude.{◌≡◌, ◌≢◌, ◌⊎◌, ℕ, Bool, true, false, List, ◌++◌, length, None}
+use Rattle.serial_line.specs.Counts.{one_more}
+use Rattle.modem_data.specs.Hops.{Relay, Hop, Hops, HoldsNothing, LineIn, Handed, Wrote}
+use Rattle.modem_data_line.specs.DataLines.{DataLineState, Before, LineFits, with_taken}
+
+-- the line took these of the relay
+pub record WritesOn (before after : List ℕ) (old new : Relay) : Type 0 where
+  pub octets : List ℕ
+  pub went : after ≡ before ++ octets
+  pub wrote : Hops old new (Wrote octets)
+
+-- the relay took the first of those that wait for it
+pub record Feeds (old new : Relay) (before after : List ℕ) : Type 0 where
+  pub octets : List ℕ
+  pub taken : before ≡ octets ++ after
+  pub comes : LineIn old new octets
+
+-- the relay handed these to the driver
+abbrev pub Hands : Relay → Relay → List ℕ → Type 0
+Hands old new octets = Hops old new (Handed octets)
+
+-- Nothing may go to the line: where the driver has offered more than was taken, nothing of the driver's waits at the relay; else
+-- nothing at all.
+abbrev pub NothingGoes : (is_behind : Bool) → (old new : Relay) → Type 0
+NothingGoes true old new = (length old.to_line ≡ 0) × (old.inner.next ≡ None)
+NothingGoes false old new = HoldsNothing new
+
+-- the line was asked for octets: it gave some, or had none
+abbrev pub IsAsked : {X : Type 0} (received : X → List ℕ) (empty_reads : X → ℕ) → (old new : X) → Type 0
+IsAsked received empty_reads old new = (received new ≢ received old) ⊎ (empty_reads new ≡ one_more (empty_reads old))
+
+-- these octets of the driver's were taken, if there are any, whatever passed before
+unfoldable pub TakesOn : {X : Type 0} (received sent : X → List ℕ) (octets : List ℕ) (old new : DataLineState X) → Type 0
+TakesOn received sent octets old new = (n1 : ℕ) (ds : List ℕ) (b : Before) (past : List Hop) → LineFits received sent n1 ds b old past
+    → LineFits received sent n1 ds b new (with_taken octets past)

@@ -1,0 +1,97 @@
+//! What callers of data ask.
+ghost use Rattle.std.specs.Prelude.{◌≡◌, ◌≢◌, ◌↔◌, ◌-◌, ◌⊎◌, length, take, drop, min, true, false, Err, IfOk, OnOk, OnErr};
+ghost use Rattle.mux_station.specs.Opening.{is_open};
+ghost use Rattle.mux_station.specs.declared.role.Role.TheVariants.{Initiator};
+ghost use Rattle.modem_data.specs.declared.error.DataError.TheVariants as error;
+ghost use Rattle.modem_data.specs.DataLanes.{most_to_go};
+ghost use Rattle.modem_data.specs.Switching.{Idle as idle, Data as in_data, is_behind_lines, is_idle};
+ghost use Rattle.modem_data.specs.Passing.{Began, EndedLane, Gave, Read, IsOver, carries, data_came, data_read, given, left, to_go, unread, wire};
+ghost use Rattle.modem_data.specs.PipeSets.{IsNotData, OfEachPast};
+ghost use Rattle.modem_data.specs.Hops.{Hops, Passed};
+ghost use Rattle.serial_line.specs.Counts.{one_more};
+ghost use Rattle.modem_data_line.specs.DataLines.{LeadsBy, may_go};
+ghost use Rattle.modem_data_line.specs.Moving.{NothingGoes};
+
+use crate::data_line::DataLine;
+use modem_data::{DataError, Reading};
+use mux_frame::Dlci;
+use serial_line::SerialLine;
+
+impl<L: SerialLine> DataLine<L> {
+    /// A lane of a connection begins, as `Relay::begin` says.
+    pub fn begin(&mut self, dlci: Dlci, by_connect: bool) -> Result<(), DataError>
+        ensures began { OnOk result (Hops self.old.relay self.new.relay (Passed (Began dlci.number by_connect))) }
+        ensures not_data { result ≡ Err error.NotData → IsNotData self.old.relay.pipes dlci.number }
+        ensures under_way { result ≡ Err error.UnderWay → OfEachPast self.old.relay.pipes (λ past. is_idle (carries dlci.number past) ≡ false) }
+        ensures unread { result ≡ Err error.Unread → OfEachPast self.old.relay.pipes (λ past.
+            (carries dlci.number past ≡ idle) × (data_read dlci.number past ≢ data_came dlci.number past)) }
+        ensures err { OnErr result (self.new ≡ self.old) }
+        ensures beside { self.new ≡ record self.old { relay = self.new.relay } }
+    {
+        self.relay.begin(dlci, by_connect)
+    }
+
+    /// The lane of a connection is over, from the next frame on, as `Relay::lines` says.
+    pub fn lines(&mut self, dlci: Dlci) -> Result<(), DataError>
+        ensures ended { OnOk result (Hops self.old.relay self.new.relay (Passed (EndedLane dlci.number))) }
+        ensures not_data { OnErr result ((result ≡ Err error.NotData) × IsNotData self.old.relay.pipes dlci.number) }
+        ensures err { OnErr result (self.new ≡ self.old) }
+        ensures beside { self.new ≡ record self.old { relay = self.new.relay } }
+    {
+        self.relay.lines(dlci)
+    }
+
+    /// Whether data is under way on a connection, as `Relay::is_behind_lines` says. A command that is submitted for it then goes among the data: don't.
+    pub fn is_behind_lines(&self, dlci: Dlci) -> bool
+        ensures { OfEachPast self.now.relay.pipes (λ past. result ≡ is_behind_lines (carries dlci.number past)) }
+    {
+        self.relay.is_behind_lines(dlci)
+    }
+
+    /// Gives the first octets of data that wait, as `Relay::read` does.
+    pub fn read(&mut self, dlci: Dlci, room: &mut [u8]) -> Result<Reading, DataError>
+        ensures count { IfOk result (λ r. OfEachPast self.old.relay.pipes (λ past. r.count ≡ min (unread dlci.number past) (length room.old))) }
+        ensures read { IfOk result (λ r. Hops self.old.relay self.new.relay (Passed (Read dlci.number (take r.count room.new)))) }
+        ensures over { IfOk result (λ r. OfEachPast self.new.relay.pipes (λ past. r.is_over ≡ true ↔ IsOver dlci.number past)) }
+        ensures behind { IfOk result (λ r. drop r.count room.new ≡ drop r.count room.old) }
+        ensures not_data { OnErr result ((result ≡ Err error.NotData) × IsNotData self.old.relay.pipes dlci.number) }
+        ensures err { OnErr result ((self.new ≡ self.old) × (room.new ≡ room.old)) }
+        ensures beside { self.new ≡ record self.old { relay = self.new.relay } }
+    {
+        self.relay.read(dlci, room)
+    }
+
+    /// Takes the first octets to be sent as data, as `Relay::give` does. They leave by the driver's calls, and by `flush`.
+    pub fn give(&mut self, dlci: Dlci, octets: &[u8]) -> Result<usize, DataError>
+        ensures count { IfOk result (λ count. OfEachPast self.old.relay.pipes (λ past.
+            count ≡ min (length octets.now) (most_to_go - (length (given dlci.number past) - length (left dlci.number past))))) }
+        ensures gave { IfOk result (λ count. Hops self.old.relay self.new.relay (Passed (Gave dlci.number (take count octets.now)))) }
+        ensures not_data { result ≡ Err error.NotData → IsNotData self.old.relay.pipes dlci.number }
+        ensures not_open { result ≡ Err error.NotOpen → OfEachPast self.old.relay.pipes (λ past. is_open Initiator dlci.number (wire past) ≡ false) }
+        ensures no_data { result ≡ Err error.Lines → OfEachPast self.old.relay.pipes (λ past. ¬ (carries dlci.number past ≡ in_data)) }
+        ensures err { OnErr result (self.new ≡ self.old) }
+        ensures beside { self.new ≡ record self.old { relay = self.new.relay } }
+    {
+        self.relay.give(dlci, octets)
+    }
+
+    /// How many octets were given on a connection and haven't left, as `Relay::to_go` says.
+    pub fn to_go(&self, dlci: Dlci) -> Result<usize, DataError>
+        ensures count { IfOk result (λ count. OfEachPast self.now.relay.pipes (λ past. count ≡ to_go dlci.number past)) }
+        ensures not_data { OnErr result ((result ≡ Err error.NotData) × IsNotData self.now.relay.pipes dlci.number) }
+    {
+        self.relay.to_go(dlci)
+    }
+
+    /// Writes once what may go to the line, and says whether the line took octets. For where the driver rests: after data was given, call it until it
+    /// says no. The driver sees nothing of it.
+    pub fn flush(&mut self) -> bool
+        ensures goes { LeadsBy L.received L.sent (may_go self.old.is_behind) self.old self.new }
+        ensures beside { self.new ≡ record self.old { line = self.new.line; relay = self.new.relay; is_lost = self.new.is_lost } }
+        ensures tried { result ≡ false → self.new.is_lost ≡ false
+            → (L.stalled_writes self.new.line ≡ one_more (L.stalled_writes self.old.line))
+            ⊎ NothingGoes self.old.is_behind self.old.relay self.new.relay }
+    {
+        self.write_one()
+    }
+}

@@ -1,0 +1,85 @@
+//! A line with a relay before the driver.
+ghost use Rattle.std.specs.Prelude.{◌≡◌, MatchResult};
+ghost use Rattle.modem_data_line.specs.DataLines.{new_data_line};
+
+use modem_data::Relay;
+use serial_line::{History, ReadBuffer, SerialLine};
+use std::alloc::Global;
+use std::marker::Model;
+
+/// A line on which some connections carry data. A driver reads and writes it as its line (`SerialLine`); callers of data use the calls
+/// beside, such as `give` and `read`, for example by `Session::line_mut`.
+///
+/// - What the line itself gives goes to the relay, and its frames but data go on to the driver.
+/// - What the driver writes goes to the relay, and its frames to the line, before data. Data leaves only where all that the driver
+///   offered last was taken.
+/// - Each call of the driver's writes the line too. Where the driver rests, call `flush` once data was given.
+/// - A fault of the line is told by the next call.
+///
+/// Contracts see the line itself, the relay, what waits between the two, and what the driver read and wrote here.
+#[derive(Drop)]
+pub struct DataLine<L: SerialLine> {
+    pub(crate) line: L,
+    pub(crate) relay: Relay,
+    pub(crate) unfed: ReadBuffer,
+    pub(crate) received: History,
+    pub(crate) sent: History,
+    pub(crate) is_behind: bool,
+    pub(crate) is_lost: bool,
+    pub(crate) calls: u64,
+    pub(crate) failures: u64,
+    pub(crate) empty_reads: u64,
+    pub(crate) stalled_writes: u64,
+}
+
+impl<L: SerialLine> Model for DataLine<L> {
+    ghost use Rattle.modem_data_line.specs.DataLines.{DataLineState};
+
+    ghost Value = { DataLineState L };
+
+    ghost view = { λ l. record {
+      line = l.line;
+      relay = l.relay;
+      unfed = l.unfed;
+      received = l.received;
+      sent = l.sent;
+      is_behind = l.is_behind;
+      is_lost = l.is_lost;
+      calls = l.calls;
+      failures = l.failures;
+      empty_reads = l.empty_reads;
+      stalled_writes = l.stalled_writes;
+    } };
+}
+
+impl<L: SerialLine> DataLine<L> {
+    /// This line and this relay, between which nothing has passed. Refused for memory, it hands both back.
+    pub fn new(alloc: Global, line: L, relay: Relay) -> Result<DataLine<L>, (L, Relay)>
+        ensures { MatchResult result (λ l. l ≡ new_data_line line relay) (λ back. (back.0 ≡ line) × (back.1 ≡ relay)) }
+    {
+        let Ok(unfed) = ReadBuffer::new(alloc) else {
+            return Err((line, relay));
+        };
+        Ok(DataLine {
+            line,
+            relay,
+            unfed,
+            received: History::new(),
+            sent: History::new(),
+            is_behind: false,
+            is_lost: false,
+            calls: 0,
+            failures: 0,
+            empty_reads: 0,
+            stalled_writes: 0,
+        })
+    }
+
+    /// The line itself and the relay. Octets that wait at the relay for the line or the driver are its own to give.
+    pub fn into_parts(self) -> (L, Relay)
+        ensures line { result.0 ≡ self.line }
+        ensures relay { result.1 ≡ self.relay }
+    {
+        (self.line, self.relay)
+    }
+}
