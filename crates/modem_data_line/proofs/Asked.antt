@@ -1,6 +1,6 @@
 -- A read that counted gave octets, or none.
-use Rattle.std.specs.Prelude.{◌≡◌, ◌≢◌, ◌==◌, ◌<◌, true, ◌⊎◌, ℕ, List, [], ◌∷◌, ◌++◌, length, drop, min, None, refl}
-use Rattle.std.proofs.Common.{ap, sym, ◌∙◌, inl, inr, arith}
+use Rattle.std.specs.Prelude.{◌≡◌, ◌≢◌, ◌==◌, ◌<◌, ◌≤◌, true, ◌⊎◌, ℕ, List, [], ◌∷◌, ◌++◌, length, take, drop, min, None, refl}
+use Rattle.std.proofs.Common.{ap, sym, ◌∙◌, inl, inr, arith, zero, suc}
 use Rattle.std.proofs.lemmas.List.{nil_from_length}
 use Rattle.std.proofs.lemmas.Bool.{eqb-true}
 use Rattle.serial_line.specs.Counts.{one_more, counted_if_none}
@@ -10,6 +10,12 @@ use Rattle.modem_data_line.specs.Moving.{IsAsked}
 grown_differs : (xs : List ℕ) (y : ℕ) (ys : List ℕ) → xs ++ (y ∷ ys) ≢ xs
 grown_differs [] y ys e = cc
 grown_differs (x ∷ xs) y ys e = grown_differs xs y ys (ap (λ (l : List ℕ). drop 1 l) e)
+
+-- octets that a line took are more than it had taken
+pub sent_more : (xs ys zs : List ℕ) (n : ℕ) → zs ≡ xs ++ take n ys → n ≤ length ys → 0 < n → zs ≢ xs
+sent_more xs ys zs zero e few some = let no : ⊥ = omega (arith, some) in absurd no
+sent_more xs [] zs (suc n) e few some = let no : ⊥ = omega (arith, few) in absurd no
+sent_more xs (y ∷ ys) zs (suc n) e few some = λ q. grown_differs xs y (take n ys) (sym e ∙ q)
 
 asked : (r0 r1 unfed : List ℕ) (n e0 e1 : ℕ) → r1 ≡ r0 ++ unfed → n ≡ length unfed → e1 ≡ counted_if_none 512 n e0 → (r1 ≢ r0) ⊎ (e1 ≡ one_more e0)
 asked r0 r1 [] n e0 e1 cm c e = inr (e ∙ ap (λ (k : ℕ). counted_if_none 512 k e0) c)

@@ -41,7 +41,8 @@ impl<L: SerialLine> DataLine<L> {
         self.relay.lines(dlci)
     }
 
-    /// Whether data is under way on a connection, as `Relay::is_behind_lines` says. A command that is submitted for it then goes among the data: don't.
+    /// Whether data is under way on a connection, as `Relay::is_behind_lines` says. A command that is submitted for it then would go
+    /// among the data.
     pub fn is_behind_lines(&self, dlci: Dlci) -> bool
         ensures { OfEachPast self.now.relay.pipes (λ past. result ≡ is_behind_lines (carries dlci.number past)) }
     {
@@ -83,11 +84,12 @@ impl<L: SerialLine> DataLine<L> {
         self.relay.to_go(dlci)
     }
 
-    /// Writes once what may go to the line, and says whether the line took octets. For where the driver rests: after data was given, call it until it
-    /// says no. The driver sees nothing of it.
+    /// Writes once what may go to the line, and says whether the line took octets. Where the driver rests, call it until it says no,
+    /// once data was given. The driver sees nothing of it.
     pub fn flush(&mut self) -> bool
         ensures goes { LeadsBy L.received L.sent (may_go self.old.is_behind) self.old self.new }
         ensures beside { self.new ≡ record self.old { line = self.new.line; relay = self.new.relay; is_lost = self.new.is_lost } }
+        ensures some { result ≡ true → L.sent self.new.line ≢ L.sent self.old.line }
         ensures tried { result ≡ false → self.new.is_lost ≡ false
             → (L.stalled_writes self.new.line ≡ one_more (L.stalled_writes self.old.line))
             ⊎ NothingGoes self.old.is_behind self.old.relay self.new.relay }

@@ -9,7 +9,8 @@ use crate::data_line::DataLine;
 use modem_data::Relay;
 use serial_line::{LineFault, ReadBuffer, SerialLine};
 
-/// Writes the octets that wait at the relay, once.
+/// Writes the octets that wait at the relay, once, and says how many the line took.
+#[tactic(auto, using(crate::proofs::Asked::sent_more))]
 fn write<L: SerialLine>(line: &mut L, relay: &mut Relay) -> Result<usize, LineFault>
     ensures wrote { OnOk result (WritesOn (L.sent line.old) (L.sent line.new) relay.old relay.new) }
     ensures none_went { OnErr result (L.sent line.new ≡ L.sent line.old) }
@@ -17,6 +18,7 @@ fn write<L: SerialLine>(line: &mut L, relay: &mut Relay) -> Result<usize, LineFa
     ensures none_came { L.received line.new ≡ L.received line.old }
     ensures called { L.calls line.new ≡ one_more (L.calls line.old) }
     ensures no_read { L.empty_reads line.new ≡ L.empty_reads line.old }
+    ensures grew { IfOk result (λ n. 0 < n → L.sent line.new ≢ L.sent line.old) }
     ensures stalled { IfOk result (λ n. n ≡ 0 → 0 < length relay.old.to_line
         → L.stalled_writes line.new ≡ one_more (L.stalled_writes line.old)) }
 {
@@ -87,6 +89,7 @@ impl<L: SerialLine> DataLine<L> {
         ensures called { L.calls self.new.line ≡ one_more (L.calls self.old.line) }
         ensures none_came { L.received self.new.line ≡ L.received self.old.line }
         ensures no_read { L.empty_reads self.new.line ≡ L.empty_reads self.old.line }
+        ensures some { result ≡ true → L.sent self.new.line ≢ L.sent self.old.line }
         ensures stalled { result ≡ false → 0 < length self.old.relay.to_line → self.new.is_lost ≡ false
             → L.stalled_writes self.new.line ≡ one_more (L.stalled_writes self.old.line) }
     {
@@ -107,6 +110,7 @@ impl<L: SerialLine> DataLine<L> {
         ensures same { self.new ≡ record self.old { line = self.new.line; relay = self.new.relay; is_lost = self.new.is_lost } }
         ensures none_came { L.received self.new.line ≡ L.received self.old.line }
         ensures no_read { L.empty_reads self.new.line ≡ L.empty_reads self.old.line }
+        ensures some { result ≡ true → L.sent self.new.line ≢ L.sent self.old.line }
         ensures tried { result ≡ false → self.new.is_lost ≡ false
             → (L.stalled_writes self.new.line ≡ one_more (L.stalled_writes self.old.line))
             ⊎ NothingGoes self.old.is_behind self.old.relay self.new.relay }
