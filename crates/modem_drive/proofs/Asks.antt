@@ -1,17 +1,23 @@
--- What the lines of the input ask is submitted.
-use Rattle.std.specs.Prelude.{◌≡◌, ℕ, ◌+◌, Bool, true, false, List, [], ◌∷◌, ◌++◌, filter, length, map, Option, None, Some, Result, Ok, Err, IfSome, OnErr, OnOk, refl, if◌then◌else◌}
-use Rattle.std.proofs.Common.{ap, arith, sym, subst, append-nil, ◌∙◌}
-use Rattle.std.proofs.lemmas.List.{map-append}
-use Rattle.std.proofs.lemmas.List.Elements.{filter-append}
+-- What the lines of the input ask is submitted, on each connection in order.
+use Rattle.std.specs.Prelude.{◌≡◌, ℕ, zero, suc, ◌+◌, Bool, true, false, List, [], ◌∷◌, ◌++◌, flat_map, length, Option, None, Some, Result, Ok, Err, IfSome, OnErr, OnOk, refl, replicate}
+use Rattle.std.proofs.Common.{ap, append_assoc, arith, inl, inr, sym, subst, append-nil, ◌∙◌}
+use Rattle.std.proofs.lemmas.Grind.{flat_map-append}
+use Rattle.std.proofs.lemmas.List.{length-append}
 use Rattle.std.specs.Io.KnownBytes.{Consumes, IsAtEnd}
+use Rattle.mux_frame.specs.declared.dlci.Dlci.{Dlci}
 use Rattle.modem_desk.specs.declared.request.Ask.{Ask}
+use Rattle.modem_desk.specs.declared.request.Ask.TheVariants as ask
 use Rattle.modem_desk.specs.declared.request.Request.{Request}
 use Rattle.modem_texts.specs.Input.{input_lines}
-use Rattle.modem_drive.specs.Asking.{AsksOn, HasAsked, IsThrough, LinesAsk, PlanView, NamesRead, ReadsAll, ReadsLine, StopsOn, asks_of, is_command}
+use Rattle.modem_texts.specs.Words.{IsCommand}
+use Rattle.modem_texts.specs.Writing.{IsBegun}
+use Rattle.modem_texts.specs.declared.line_fault.LineFault.{LineFault}
+use Rattle.modem_drive.specs.Asking.{AsksOn, HasAsked, IsThrough, LinesAsk, PlanView, NamesRead, ReadsAll, ReadsLine, StopsOn, submitted_on, text_on, texts_on, waits_at}
 use Rattle.modem_drive.specs.Input.{HasRead, LinesView, Reads}
 use Rattle.modem_drive.specs.Plans.{after_asking}
 use Rattle.modem_drive.specs.Running.{plan_begun}
-use Rattle.modem_drive.specs.Saying.{NamesBad}
+use Rattle.modem_drive.specs.Saying.{IsBadFor, NamesBad, bad_text}
+use Rattle.modem_drive.specs.Showing.{control_ask}
 use Rattle.modem_drive.specs.declared.users.Control.{Control}
 use Rattle.modem_drive.specs.declared.users.Control.TheVariants as control
 use Rattle.modem_drive.proofs.Said.{names_at, names_none}
@@ -42,14 +48,16 @@ pub stops_either : {T E : Type 0} (r : Result T E) (p q : PlanView) (a b : List 
 stops_either (Ok x) p q a b u v asks stops = stops_here p q a b u v asks
 stops_either (Err why) p q a b u v asks stops = stops
 
--- no line was asked
-pub asks_same : (p q : PlanView) (a b : List Request) (said : Option (List ℕ)) → q ≡ p → asks_of b ≡ asks_of a → AsksOn p q a b said said
+-- nothing was submitted, and the same waits
+pub asks_same : (p q : PlanView) (a b : List Request) (said : Option (List ℕ)) → q ≡ p → ((d : ℕ) → submitted_on d b ≡ submitted_on d a) → AsksOn p q a b said said
 asks_same p q a b said plan submitted = subst (λ (x : PlanView). AsksOn p x a b said said) (sym plan) (record {
   on = λ first silent h. record {
     lines = h.lines;
     read = h.read;
     counted = h.counted;
-    asked = subst (λ (l : List Ask). LinesAsk h.lines (l ++ p.next)) (sym submitted) h.asked;
+    asks = h.asks;
+    asked = h.asked;
+    in_turn = λ d. h.in_turn d ∙ ap (λ (l : List (List ℕ)). l ++ waits_at p.waiting d) (sym (submitted d));
     named = h.named;
     through = h.through;
   };
@@ -60,23 +68,50 @@ length_more [] line = refl
 length_more (l ∷ lines) line = let more = length_more lines line in omega (arith, more)
 
 -- a line was read
-pub asks_read : (old mid new : PlanView) (line : List ℕ) (rs : List Request) (said more : Option (List ℕ)) → old.next ≡ [] → old.stopping ≡ false → Reads old.input mid.input (line ∷ []) → mid ≡ record old { input = mid.input }
+pub asks_read : (old mid new : PlanView) (line : List ℕ) (rs : List Request) (said more : Option (List ℕ)) → old.stopping ≡ false → Reads old.input mid.input (line ∷ []) → mid ≡ record old { input = mid.input }
     → ReadsLine mid new line said more → AsksOn old new rs rs said more
 unfolding Reads
-asks_read old mid new line rs said more none going reads stays h = record {
+asks_read old mid new line rs said more going reads stays h = record {
   on = λ first silent k.
-      let before : LinesAsk k.lines (asks_of rs) = subst (LinesAsk k.lines) (ap (λ (l : List Ask). asks_of rs ++ l) none ∙ append-nil (asks_of rs)) k.asked in
       let count : mid.count ≡ length k.lines = ap (λ (p : PlanView). p.count) stays ∙ k.counted in
       let was : NamesBad k.lines mid.was_bad silent said = subst (λ (b : Bool). NamesBad k.lines b silent said) (sym (ap (λ (p : PlanView). p.was_bad) stays)) k.named in
       record {
         lines = k.lines ++ line ∷ [];
         read = subst (λ (l : LinesView). HasRead first l (k.lines ++ line ∷ [])) (sym (ap (λ (p : PlanView). p.input) h.stays)) (reads first k.lines k.read);
         counted = ap (λ (p : PlanView). p.count) h.stays ∙ ap (λ (n : ℕ). n + 1) count ∙ sym (length_more k.lines line);
-        asked = LinesAsk.ask_next k.lines (asks_of rs) line new.next before h.asks;
+        asks = k.asks ++ h.said;
+        asked = LinesAsk.ask_next k.lines k.asks line h.said k.asked h.asks;
+        in_turn = λ d.
+            flat_map-append (text_on d) k.asks h.said
+            ∙ ap (λ (l : List (List ℕ)). l ++ texts_on d h.said) (k.in_turn d)
+            ∙ append_assoc (submitted_on d rs) (waits_at old.waiting d) (texts_on d h.said)
+            ∙ ap (λ (l : List (List ℕ)). submitted_on d rs ++ l) (ap (λ (p : PlanView). waits_at p.waiting d ++ texts_on d h.said) (sym stays) ∙ sym (h.waits d));
         named = names_at k.lines mid.count line mid.was_bad new.was_bad silent said more count was h.names;
         through = λ e. absurd (apart (sym e ∙ ap (λ (p : PlanView). p.stopping) h.stays ∙ ap (λ (p : PlanView). p.stopping) stays ∙ going));
       };
 }
+
+-- it is a command
+pub reads_command : (old view : PlanView) (number : ℕ) (waiting : List (List (List ℕ))) (line text : List ℕ) (d : Dlci) (said : Option (List ℕ)) → view ≡ old → number ≡ view.count + 1
+    → ((e : ℕ) → waits_at waiting e ≡ waits_at view.waiting e ++ text_on e (ask.Command d text)) → IsCommand line d.number text → ReadsLine old (record view { count = number; waiting = waiting }) line said said
+reads_command old view number waiting line text d said same next behind command = subst (λ (p : PlanView). ReadsLine p (record view { count = number; waiting = waiting }) line said said) same (record {
+  said = ask.Command d text ∷ [];
+  asks = command;
+  waits = λ e. behind e ∙ ap (λ (l : List (List ℕ)). waits_at view.waiting e ++ l) (sym (append-nil (text_on e (ask.Command d text))));
+  names = inl (inr (record { dlci = d.number; text = text; command = command }), refl, refl);
+  stays = ap (λ (n : ℕ). record view { count = n; waiting = waiting }) next;
+})
+
+-- it is a bad one
+pub reads_bad : (old view : PlanView) (number : ℕ) (line : List ℕ) (why : LineFault) (said more : Option (List ℕ)) → view ≡ old → number ≡ view.count + 1
+    → IsBadFor line why → IsBegun said more (bad_text number why) → ReadsLine old (record view { count = number; was_bad = true }) line said more
+reads_bad old view number line why said more same next bad begun = subst (λ (p : PlanView). ReadsLine p (record view { count = number; was_bad = true }) line said more) same (record {
+  said = [];
+  asks = bad.none;
+  waits = λ d. sym (append-nil (waits_at view.waiting d));
+  names = inr (why, bad, refl, subst (λ (n : ℕ). IsBegun said more (bad_text n why)) next begun);
+  stays = ap (λ (n : ℕ). record view { count = n; was_bad = true }) next;
+})
 
 -- of the same line
 pub reads_same : (old new : PlanView) (line same : List ℕ) (said more : Option (List ℕ)) → line ≡ same → ReadsLine old new line said more → ReadsLine old new same said more
@@ -90,51 +125,73 @@ asks_waits old new rs said going reads stays = record {
     lines = h.lines;
     read = subst (HasRead first new.input) (append-nil h.lines) (reads first h.lines h.read);
     counted = ap (λ (p : PlanView). p.count) stays ∙ h.counted;
-    asked = subst (λ (l : List Ask). LinesAsk h.lines (asks_of rs ++ l)) (sym (ap (λ (p : PlanView). p.next) stays)) h.asked;
+    asks = h.asks;
+    asked = h.asked;
+    in_turn = λ d. h.in_turn d ∙ ap (λ (p : PlanView). submitted_on d rs ++ waits_at p.waiting d) (sym stays);
     named = subst (λ (b : Bool). NamesBad h.lines b silent said) (sym (ap (λ (p : PlanView). p.was_bad) stays)) h.named;
     through = λ e. absurd (apart (sym e ∙ ap (λ (p : PlanView). p.stopping) stays ∙ going));
   };
 }
 
-asks_append : (rs : List Request) (r : Request) (b : Bool) → is_command r.ask ≡ b → asks_of (rs ++ r ∷ []) ≡ asks_of rs ++ (if b then r.ask ∷ [] else [])
-asks_append rs r b is =
-    ap (filter is_command) (map-append (λ (q : Request). q.ask) rs (r ∷ []))
-    ∙ filter-append is_command (map (λ (q : Request). q.ask) rs) (r.ask ∷ [])
-    ∙ ap (λ (c : Bool). asks_of rs ++ (if c then r.ask ∷ [] else [])) is
+-- a request more
+pub submitted_more : (new old : List Request) (r : Request) → new ≡ old ++ r ∷ [] → (d : ℕ) → submitted_on d new ≡ submitted_on d old ++ text_on d r.ask
+submitted_more new old r e d =
+    ap (submitted_on d) e ∙ flat_map-append (λ (q : Request). text_on d q.ask) old (r ∷ [])
+    ∙ ap (λ (l : List (List ℕ)). submitted_on d old ++ l) (append-nil (text_on d r.ask))
 
-pub asks_command : (new old : List Request) (r : Request) → new ≡ old ++ r ∷ [] → is_command r.ask ≡ true → asks_of new ≡ asks_of old ++ r.ask ∷ []
-asks_command new old r e is = ap asks_of e ∙ asks_append old r true is
+pub one_longer : (new old : List Request) (r : Request) → new ≡ old ++ r ∷ [] → length new ≡ length old + 1
+one_longer new old r e = ap (length {A = Request}) e ∙ length-append old (r ∷ [])
 
-pub asks_other : (new old : List Request) (r : Request) → new ≡ old ++ r ∷ [] → is_command r.ask ≡ false → asks_of new ≡ asks_of old
-asks_other new old r e is = ap asks_of e ∙ asks_append old r false is ∙ append-nil (asks_of old)
+no_text : (a : Control) (d : ℕ) → text_on d (control_ask a) ≡ []
+no_text (control.Open e) d = refl
+no_text (control.Close e) d = refl
+no_text control.Stop d = refl
+
+-- that isn't a command
+pub submitted_other : (new old : List Request) (r : Request) (a : Control) → new ≡ old ++ r ∷ [] → r.ask ≡ control_ask a → (d : ℕ) → submitted_on d new ≡ submitted_on d old
+submitted_other new old r a e is d =
+    submitted_more new old r e d ∙ ap (λ (l : List (List ℕ)). submitted_on d old ++ l) (ap (text_on d) is ∙ no_text a d) ∙ append-nil (submitted_on d old)
 
 -- of the same plan
 pub asks_from : (view old new : PlanView) (a b : List Request) (said more : Option (List ℕ)) → view ≡ old → AsksOn view new a b said more → AsksOn old new a b said more
 asks_from view old new a b said more same h = subst (λ (p : PlanView). AsksOn p new a b said more) same h
 
--- the command that was next was submitted
-pub asks_submitted : (old new : PlanView) (a b : List Request) (said : Option (List ℕ)) → new ≡ record old { next = [] } → asks_of b ≡ asks_of a ++ old.next → AsksOn old new a b said said
-asks_submitted old new a b said same more = subst (λ (p : PlanView). AsksOn old p a b said said) (sym same) (record {
+none_behind : (xs ys : List (List ℕ)) → xs ++ ys ≡ [] → ys ≡ []
+none_behind [] ys e = e
+none_behind (x ∷ xs) ys e = absurd cc
+
+-- the first command that waited on its connection was submitted
+pub asks_submitted : (old new : PlanView) (a b : List Request) (what : Ask) (said : Option (List ℕ)) → new ≡ record old { waiting = new.waiting }
+    → ((d : ℕ) → waits_at old.waiting d ≡ text_on d what ++ waits_at new.waiting d) → ((d : ℕ) → submitted_on d b ≡ submitted_on d a ++ text_on d what) → AsksOn old new a b said said
+asks_submitted old new a b what said same taken more = subst (λ (p : PlanView). AsksOn old p a b said said) (sym same) (record {
   on = λ first silent h. record {
     lines = h.lines;
     read = h.read;
     counted = h.counted;
-    asked = subst (LinesAsk h.lines) (sym more ∙ sym (append-nil (asks_of b))) h.asked;
+    asks = h.asks;
+    asked = h.asked;
+    in_turn = λ d.
+        h.in_turn d ∙ ap (λ (l : List (List ℕ)). submitted_on d a ++ l) (taken d)
+        ∙ sym (append_assoc (submitted_on d a) (text_on d what) (waits_at new.waiting d)) ∙ ap (λ (l : List (List ℕ)). l ++ waits_at new.waiting d) (sym (more d));
     named = h.named;
-    through = λ e. let t = h.through e in record { ended = t.ended; no_text = t.no_text; no_next = refl };
+    through = λ e.
+        let t = h.through e in
+        record { ended = t.ended; no_text = t.no_text; none_waits = λ d. none_behind (text_on d what) (waits_at new.waiting d) (sym (taken d) ∙ t.none_waits d) };
   };
 })
 
 -- a Stop was asked
-pub asks_stops : (old new : PlanView) (a b : List Request) (said : Option (List ℕ)) → IsThrough old → new ≡ record old { stopping = true } → asks_of b ≡ asks_of a → AsksOn old new a b said said
+pub asks_stops : (old new : PlanView) (a b : List Request) (said : Option (List ℕ)) → IsThrough old → new ≡ record old { stopping = true } → ((d : ℕ) → submitted_on d b ≡ submitted_on d a) → AsksOn old new a b said said
 asks_stops old new a b said through same none = subst (λ (p : PlanView). AsksOn old p a b said said) (sym same) (record {
   on = λ first silent h. record {
     lines = h.lines;
     read = h.read;
     counted = h.counted;
-    asked = subst (λ (l : List Ask). LinesAsk h.lines (l ++ old.next)) (sym none) h.asked;
+    asks = h.asks;
+    asked = h.asked;
+    in_turn = λ d. h.in_turn d ∙ ap (λ (l : List (List ℕ)). l ++ waits_at old.waiting d) (sym (none d));
     named = h.named;
-    through = λ e. record { ended = through.ended; no_text = through.no_text; no_next = through.no_next };
+    through = λ e. record { ended = through.ended; no_text = through.no_text; none_waits = through.none_waits };
   };
 })
 
@@ -143,6 +200,12 @@ asks_stops old new a b said through same none = subst (λ (p : PlanView). AsksOn
 consumed_none : (a : Option (List ℕ)) → Consumes a a []
 consumed_none None = tt
 consumed_none (Some a) = refl
+
+none_waits_at : (n d : ℕ) → waits_at (replicate n []) d ≡ []
+none_waits_at zero zero = refl
+none_waits_at zero (suc d) = refl
+none_waits_at (suc n) zero = refl
+none_waits_at (suc n) (suc d) = none_waits_at n d
 
 asked_none : (input silent : Option (List ℕ)) → HasAsked input (plan_begun input) [] silent silent
 asked_none input silent = record {
@@ -154,7 +217,9 @@ asked_none input silent = record {
     at_end = λ e f. absurd (apart (sym e));
   };
   counted = refl;
+  asks = [];
   asked = LinesAsk.ask_none;
+  in_turn = λ d. sym (none_waits_at 62 d);
   named = names_none silent;
   through = λ e. absurd (apart (sym e));
 }
@@ -176,7 +241,9 @@ asked_all input p rs silent said h stops well =
     record {
       octets = h.read.came;
       all = came_all input p.input.left h.read.came h.read.consumed (h.read.at_end t.ended well);
-      asked = subst (λ (x : List (List ℕ) × List Ask). LinesAsk x.0 x.1) (λ i. (same i, (ap (λ (l : List Ask). asks_of rs ++ l) t.no_next ∙ append-nil (asks_of rs)) i)) h.asked;
+      asks = h.asks;
+      asked = subst (λ (lines : List (List ℕ)). LinesAsk lines h.asks) same h.asked;
+      each = λ d. h.in_turn d ∙ ap (λ (l : List (List ℕ)). submitted_on d rs ++ l) (t.none_waits d) ∙ append-nil (submitted_on d rs);
       named = subst (λ (lines : List (List ℕ)). NamesBad lines p.was_bad silent said) same h.named;
     }
 
@@ -202,7 +269,7 @@ names_stopped input p begun silent said same none stops =
 
 -- ## Something is asked beside the lines
 
-pub asks_after : (a : Control) (old new : PlanView) (rs ss : List Request) (said : Option (List ℕ)) → (a ≡ control.Stop → IsThrough old) → new ≡ after_asking a old → asks_of ss ≡ asks_of rs → AsksOn old new rs ss said said
+pub asks_after : (a : Control) (old new : PlanView) (rs ss : List Request) (said : Option (List ℕ)) → (a ≡ control.Stop → IsThrough old) → new ≡ after_asking a old → ((d : ℕ) → submitted_on d ss ≡ submitted_on d rs) → AsksOn old new rs ss said said
 asks_after control.Stop old new rs ss said through same none = asks_stops old new rs ss said (through refl) same none
 asks_after (control.Open d) old new rs ss said through same none = asks_same old new rs ss said same none
 asks_after (control.Close d) old new rs ss said through same none = asks_same old new rs ss said same none

@@ -15,7 +15,7 @@ use Rattle.modem_history.specs.Sessions.{LineView}
 use Rattle.modem_driver.specs.SessionStates.{FitsAll, SessionState, beginning_by}
 use Rattle.modem_drive.specs.declared.users.UnderWay.{UnderWay}
 use Rattle.modem_drive.specs.declared.users.Users.{Users}
-use Rattle.modem_drive.specs.Asking.{AsksOn, HasAsked, NamesRead, PlanView, StopsOn, asks_of}
+use Rattle.modem_drive.specs.Asking.{AsksOn, HasAsked, NamesRead, PlanView, StopsOn, submitted_on}
 use Rattle.modem_drive.specs.Channels.{KeepsOrder, told_at}
 use Rattle.modem_drive.specs.declared.channels.ChannelState.{ChannelState}
 use Rattle.modem_drive.specs.declared.channels.ChannelState.TheVariants as state
@@ -25,7 +25,8 @@ use Rattle.modem_drive.specs.declared.fault.DriveFault.{DriveFault}
 use Rattle.modem_drive.specs.declared.running.Driven.{Driven}
 use Rattle.modem_drive.proofs.Asks.{all_asked, asks_same, asks_then, has_asked, names_read, names_stopped}
 use Rattle.modem_desk.specs.declared.settling.Settled.{Settled}
-use Rattle.modem_drive.specs.Showing.{HasShown, IsAsked, IsLine, IsRightPiece, count_asked, count_on}
+use Rattle.modem_drive.proofs.Aparts.{apart_none}
+use Rattle.modem_drive.specs.Showing.{AreApart, HasShown, IsAsked, IsLine, IsRightPiece, count_asked, count_on}
 
 pub begins : {X : Type 0} (look : X → LineView) (rules : Rules) (n1 : ℕ) (line : X) (d : DriverView) (s : SessionState X) (users : Users)
     → FitsAll (beginning_by (dialect_of rules) n1 (look line) d) look s [] → (s.line ≡ line) × (s.driver ≡ d) → IsNewDesk rules d → IsWhole d.desk (map place_of (users.caller ∷ []))
@@ -49,7 +50,7 @@ pub drove : {X : Type 0} (look : X → LineView) (rules : Rules) (text : List �
 drove {X} look rules text n1 first line last s users input before after silent said p end was_bad left entered b driven bad =
     let asks : AsksOn (plan_begun input) p users.caller.submitted driven.ends.ended.caller.submitted silent said =
     asks_then _ p p users.caller.submitted driven.mid.caller.submitted driven.ends.ended.caller.submitted silent said said driven.asks
-    (asks_same p p driven.mid.caller.submitted driven.ends.ended.caller.submitted said refl (ap asks_of driven.ends.submits_none)) in
+    (asks_same p p driven.mid.caller.submitted driven.ends.ended.caller.submitted said refl (λ d. ap (submitted_on d) driven.ends.submits_none)) in
     let asked : HasAsked input p driven.ends.ended.caller.submitted silent said = has_asked input p users.caller.submitted driven.ends.ended.caller.submitted silent said b.none_asked asks in
     let shown : HasShown before driven.between driven.mid = driven.goes.shows before (b.shown before) in
     let order : KeepsOrder driven.ends.ended.channels driven.ends.ended.caller = driven.ends.goes.orders before shown (driven.goes.orders before (b.shown before) b.order) in
@@ -161,6 +162,7 @@ new_users kinds d cs ls u h out =
           let heard = h.opened.listeners.1 i (get_or ls i l) (at_place ls i l within) in
           sym (ap (λ (x : List ListenerView). (get_or x i l).heard) h.listeners ∙ heard.2);
       under_way = subst (λ (x : List UnderWay). All (λ (v : UnderWay). IsLine u.caller.place.first u.caller.submitted v.number v.dlci.number v.place) x) (sym h.none) (All-nil (λ (v : UnderWay). IsLine u.caller.place.first u.caller.submitted v.number v.dlci.number v.place));
+      apart = subst AreApart (sym h.none) apart_none;
       asked = subst (IsAsked u.caller.place.first u.caller.submitted) (sym h.asked) tt;
       rest =
           let none : length u.caller.submitted ≡ 0 = ap (length {A = Request}) submitted in

@@ -15,9 +15,9 @@ use Rattle.modem_desk.specs.declared.request.Ask.{Ask}
 use Rattle.modem_desk.specs.declared.request.Ask.TheVariants as ask
 use Rattle.modem_desk.specs.declared.request.Outcome.{Outcome}
 use Rattle.modem_desk.specs.declared.request.Request.{Request}
-use Rattle.modem_drive.specs.Asking.{IsAskedAs, is_command, is_on}
+use Rattle.modem_drive.specs.Asking.{IsAskedAs, is_on}
 use Rattle.modem_drive.specs.Channels.{HasToldOpening, KeepsOrder, opened_by, shut_of, state_at, told_at}
-use Rattle.modem_drive.specs.Showing.{GoOn, HasShown, IsAsked, IsLine, IsRightPiece, KeepPlaces, Shown, Unprinted, after_control, control_ask, count_asked, count_on, lines_at, outcomes_in, shut_for}
+use Rattle.modem_drive.specs.Showing.{AreApart, GoOn, HasShown, IsAsked, IsLine, IsRightPiece, KeepPlaces, Shown, Unprinted, after_control, control_ask, count_asked, count_on, lines_at, outcomes_in, shut_for}
 use Rattle.modem_drive.specs.declared.channels.ChannelState.{ChannelState}
 use Rattle.modem_drive.specs.declared.users.Asked.{Asked}
 use Rattle.modem_drive.specs.declared.users.Control.{Control}
@@ -45,6 +45,7 @@ looks out old c v place submitted before got way = record {
     lines_are = h.lines_are;
     under_way =
         subst (λ (x : Place × List Request × List UnderWay). All (λ (u : UnderWay). IsLine x.0.first x.1 u.number u.dlci.number u.place) x.2) (λ i. (sym place i, sym submitted i, sym way i)) h.under_way;
+    apart = subst AreApart (sym way) h.apart;
     asked = subst (λ (x : Place × List Request). IsAsked x.0.first x.1 old.asked) (λ i. (sym place i, sym submitted i)) h.asked;
     rest =
         subst (λ (x : List Request × List Outcome × List UnderWay). length x.0 ≡ length x.1 + length x.2 + count_asked old.asked) (λ i. (sym submitted i, sym got i, sym way i)) h.rest;
@@ -127,6 +128,7 @@ asks_beside out old new r a s =
             under_way =
                 subst (λ (x : Place × List Request × Vec UnderWay Global). All (λ (v : UnderWay). IsLine x.0.first x.1 v.number v.dlci.number v.place) x.2.items) (λ i. (sym s.one.place i, sym s.one.submitted i, sym s.under_way i))
                 (under_way_stay old.caller.place.first old.caller.submitted more old.under_way.items h.under_way);
+            apart = subst (λ (v : Vec UnderWay Global). AreApart v.items) (sym s.under_way) h.apart;
             asked =
                 subst (λ (x : Place × List Request × Option Asked). IsAsked x.0.first x.1 x.2) (λ i. (sym s.one.place i, sym s.one.submitted i, sym s.asked i))
                 (record { before = old.caller.submitted; request = r; later = []; submitted_are = refl; number_is = s.number; ask_is = s.ask_is });
@@ -167,11 +169,6 @@ asks_noted out old new c r a one none number ask_is idle same =
       dialect = refl;
     }))
 
-pub no_command : (a : Control) → is_command (control_ask a) ≡ false
-no_command (control.Open d) = refl
-no_command (control.Close d) = refl
-no_command control.Stop = refl
-
 -- ## It is told
 
 pub record ToldBeside (old new : Users) (o : Outcome) (a : Asked) : Type 0 where
@@ -186,7 +183,7 @@ pub record ToldBeside (old new : Users) (o : Outcome) (a : Asked) : Type 0 where
   pub dialect : new.dialect ≡ old.dialect
 
 long_after : (a : Control) (answer : Answer) (states : List ChannelState) → length (after_control a answer states) ≡ length states
-long_after (control.Open d) answer states = length-set states d.number (opened_by answer (state_at states d.number))
+long_after (control.Open d) answer states = length-set states d.number (opened_by answer)
 long_after (control.Close d) answer states = refl
 long_after control.Stop answer states = refl
 
@@ -204,7 +201,7 @@ told_after c d o (control.Open n) states e s asked long is =
       taken = subst (λ (x : List Outcome). get_elem? x (length c.got) ≡ some o) (sym s.got) (at_back c.got o);
       early = let e : length d.got ≡ length c.got + 1 = ap (length {A = Outcome}) s.got ∙ length-append c.got (o ∷ []) in omega arith;
     }))
-    (told_set states n.number e (opened_by o.answer (state_at states n.number)) (let fits = n.in_range in omega arith) is)
+    (told_set states n.number e (opened_by o.answer) (let fits = n.in_range in omega arith) is)
 told_after c d o (control.Close n) states e s asked long is = inl is
 told_after c d o control.Stop states e s asked long is = inl is
 
@@ -236,6 +233,7 @@ told_beside out old new o a s =
             under_way =
                 subst (λ (x : Place × List Request × Vec UnderWay Global). All (λ (v : UnderWay). IsLine x.0.first x.1 v.number v.dlci.number v.place) x.2.items) (λ i. (sym s.one.place i, sym s.one.submitted i, sym s.under_way i))
                 h.under_way;
+            apart = subst (λ (v : Vec UnderWay Global). AreApart v.items) (sym s.under_way) h.apart;
             asked = subst (IsAsked new.caller.place.first new.caller.submitted) (sym s.asked) tt;
             rest = omega (arith, rest, submitted, got, way, was, now);
             long = ap (length {A = ℕ}) s.counts ∙ h.long;

@@ -5,8 +5,11 @@ pub mod SayingRowFacts
 pub mod Asks
 pub mod Judges
 pub mod Orders
+pub mod Aparts
+pub mod QueueTexts
 pub mod Lines
 pub mod Besides
+pub mod NextTurns
 pub mod Drives
 pub mod Ends
 pub mod Begins

@@ -19,11 +19,12 @@ use Rattle.modem_drive.specs.declared.users.UnderWay.{UnderWay}
 use Rattle.modem_drive.specs.declared.users.Users.{Users}
 use Rattle.modem_desk.specs.declared.request.Ask.TheVariants as ask
 use Rattle.modem_drive.specs.Asking.{is_on}
-use Rattle.modem_drive.specs.Channels.{KeepsOrder, closed_by, state_at, told_at}
+use Rattle.modem_drive.specs.Channels.{KeepsOrder, closed_by, state_at, submitted_by, told_at}
 use Rattle.modem_drive.specs.declared.channels.ChannelState.{ChannelState}
 use Rattle.modem_drive.specs.declared.users.Asked.{Asked}
-use Rattle.modem_drive.specs.Showing.{Shown, Answered, Announced, AreUnderWay, GoOn, HasShown, IsAsked, IsLine, IsRightPiece, KeepPlaces, TellsLine, Unprinted, control_ask, count_asked, count_on, lines_at, outcomes_in, shown_text}
-use Rattle.modem_drive.proofs.Orders.{SubmitsOne, TakesOne, asked_stays, grows_taking, keeps_submitting, keeps_taking, told_closed}
+use Rattle.modem_drive.specs.Showing.{Shown, Answered, Announced, AreApart, AreUnderWay, GoOn, HasShown, IsAsked, IsLine, IsRightPiece, KeepPlaces, TellsLine, Unprinted, control_ask, count_asked, count_on, is_busy, lines_at, outcomes_in, shown_text}
+use Rattle.modem_drive.proofs.Aparts.{apart_fewer, apart_more}
+use Rattle.modem_drive.proofs.Orders.{SubmitsOne, TakesOne, asked_stays, grows_taking, keeps_submitting, keeps_taking, told_closed, told_submitted}
 
 pub same_number : (m : ℕ) → (m == m) ≡ true
 same_number m = search rules
@@ -109,8 +110,9 @@ pub record Submits (old new : Users) (r : Request) (u : UnderWay) : Type 0 where
   pub number : u.number ≡ old.caller.place.first + length old.caller.submitted
   pub on : (d : ℕ) → is_on d r.ask ≡ (u.dlci.number == d)
   pub told : told_at old.channels u.dlci.number ≡ true
+  pub free : is_busy u.dlci.number old.under_way.items ≡ false
   pub asked : new.asked ≡ old.asked
-  pub channels : new.channels ≡ old.channels
+  pub channels : new.channels ≡ set old.channels u.dlci.number (submitted_by (state_at old.channels u.dlci.number))
   pub listeners : new.listeners ≡ old.listeners
   pub under_way : new.under_way.items ≡ old.under_way.items ++ u ∷ []
   pub counts : new.counts ≡ set old.counts u.dlci.number u.place
@@ -168,6 +170,7 @@ submits out old new r u s =
                 subst (λ (x : Place × List Request × List UnderWay). AreUnderWay x.0.first x.1 x.2) (λ i. (sym s.one.place i, sym s.one.submitted i, sym s.under_way i))
                 (All-append (λ (v : UnderWay). IsLine old.caller.place.first (old.caller.submitted ++ more) v.number v.dlci.number v.place) old.under_way.items (u ∷ [])
                 (under_way_stay old.caller.place.first old.caller.submitted more old.under_way.items h.under_way) (All-one (λ (v : UnderWay). IsLine old.caller.place.first (old.caller.submitted ++ more) v.number v.dlci.number v.place) u is_line));
+            apart = subst AreApart (sym s.under_way) (apart_more old.under_way.items u s.free h.apart);
             asked =
                 subst (λ (x : Place × List Request × Option Asked). IsAsked x.0.first x.1 x.2) (λ i. (sym s.one.place i, sym s.one.submitted i, sym s.asked i))
                 (waits_stay old.caller.place.first old.caller.submitted more old.asked h.asked);
@@ -176,8 +179,10 @@ submits out old new r u s =
             counted = λ d few. counted_here old new r u s h.long h.counted d few (u.dlci.number == d) refl;
           };
       orders = λ first h k.
-          keeps_submitting old.channels new.channels old.caller new.caller r s.one (ap (length {A = ChannelState}) s.channels ∙ k.long)
-          (λ e is. ap (λ (states : List ChannelState). told_at states e) (sym s.channels) ∙ is)
+          let within : u.dlci.number < length old.channels = let fits = s.known in let long = k.long in omega arith in
+          keeps_submitting old.channels new.channels old.caller new.caller r s.one
+          (ap (length {A = ChannelState}) s.channels ∙ length-set old.channels u.dlci.number (submitted_by (state_at old.channels u.dlci.number)) ∙ k.long)
+          (λ e is. told_submitted old.channels u.dlci.number e within (ap (λ (states : List ChannelState). told_at states e) (sym s.channels) ∙ is))
           (λ e is. ap (told_at old.channels) (sym (equal u.dlci.number e (sym (s.on e) ∙ is))) ∙ s.told)
           (λ is. absurd (no_stop r u.dlci.number (s.on u.dlci.number ∙ same_number u.dlci.number) is))
           k;
@@ -263,6 +268,7 @@ tells before after old new o line s =
             under_way =
                 subst (λ (x : Place × List Request × List UnderWay). AreUnderWay x.0.first x.1 x.2) (λ i. (sym s.one.place i, sym s.one.submitted i, sym s.under_way i))
                 (All-append IsOne (take s.at us) (drop (s.at + 1) us) (All-take IsOne s.at us h.under_way) (All-drop IsOne (s.at + 1) us h.under_way));
+            apart = subst AreApart (sym s.under_way) (apart_fewer us s.at h.apart);
             asked =
                 subst (λ (x : Place × List Request × Option Asked). IsAsked x.0.first x.1 x.2) (λ i. (sym s.one.place i, sym s.one.submitted i, sym s.asked i)) h.asked;
             rest = omega (arith, rest, submitted, got, way, asked);
@@ -366,6 +372,7 @@ shown_by before after old new place was now pieces more s heard none right lines
           ∙ lines_here ls was now m place i h.shown more s.within (omega (arith, few, long)) s.was_is heard h.lines_are (place == i) refl
           ∙ ap (λ (x : List ListenerView). (get_or x i m).heard) (sym s.listeners);
       under_way = subst (λ (x : CallerView × Vec UnderWay Global). AreUnderWay x.0.place.first x.0.submitted x.1.items) (λ i. (sym s.caller i, sym s.under_way i)) h.under_way;
+      apart = subst (λ (v : Vec UnderWay Global). AreApart v.items) (sym s.under_way) h.apart;
       asked = subst (λ (x : CallerView × Option Asked). IsAsked x.0.place.first x.0.submitted x.1) (λ i. (sym s.caller i, sym s.asked i)) h.asked;
       rest =
           subst (λ (x : CallerView × Vec UnderWay Global × Option Asked). length x.0.submitted ≡ length x.0.got + length x.1.items + count_asked x.2) (λ i. (sym s.caller i, sym s.under_way i, sym s.asked i))

@@ -13,7 +13,7 @@ use Rattle.modem_desk.specs.declared.request.Request.{Request}
 use Rattle.modem_desk.proofs.desk_places.ReturnedEnds.{each_more}
 use Rattle.modem_desk.proofs.queue_rule.CallerPasses.{at_number, below_length}
 use Rattle.modem_drive.specs.Asking.{IsAskedAs, is_on}
-use Rattle.modem_drive.specs.Channels.{HasToldOpening, KeepsOrder, OpensFirst, StopsLast, closed_by, closes, is_told, shut_of, state_at, told_at}
+use Rattle.modem_drive.specs.Channels.{HasToldOpening, KeepsOrder, OpensFirst, StopsLast, closed_by, closes, is_told, shut_of, state_at, submitted_by, told_at}
 use Rattle.modem_drive.specs.declared.channels.ChannelState.{ChannelState}
 use Rattle.modem_drive.specs.declared.channels.ChannelState.TheVariants as state
 
@@ -136,6 +136,7 @@ told_set states d e s within h =
 shut_told : (s : ChannelState) → is_told (shut_of s) ≡ is_told s
 shut_told state.Untold = refl
 shut_told state.Shut = refl
+shut_told state.Refused = refl
 shut_told state.Open = refl
 
 closed_if : (b : Bool) (s : ChannelState) → is_told (if b then shut_of s else s) ≡ is_told s
@@ -152,3 +153,12 @@ told_shut states d e within h = told_before states d e (shut_of (state_at states
 
 pub told_closed : (a : Answer) (states : List ChannelState) (d e : ℕ) → d < length states → told_at (set states d (closed_by a (state_at states d))) e ≡ true → told_at states e ≡ true
 told_closed a states d e within h = told_before states d e (closed_by a (state_at states d)) within (closed_if (closes a) (state_at states d)) h
+
+submitted_told : (s : ChannelState) → is_told (submitted_by s) ≡ is_told s
+submitted_told state.Untold = refl
+submitted_told state.Shut = refl
+submitted_told state.Refused = refl
+submitted_told state.Open = refl
+
+pub told_submitted : (states : List ChannelState) (d e : ℕ) → d < length states → told_at (set states d (submitted_by (state_at states d))) e ≡ true → told_at states e ≡ true
+told_submitted states d e within h = told_before states d e (submitted_by (state_at states d)) within (submitted_told (state_at states d)) h

@@ -1,5 +1,5 @@
 -- What is known of connections by what a drive was told of them, and when a command may be submitted.
-use Rattle.std.specs.Prelude.{◌≡◌, ◌<◌, ℕ, Bool, true, false, List, [], ◌∷◌, length, slice_index_or, if◌then◌else◌}
+use Rattle.std.specs.Prelude.{◌≡◌, ◌<◌, ℕ, Bool, true, false, List, length, slice_index_or, if◌then◌else◌}
 use mathlib.Core.Option.{some}
 use lib.ListN.{get_elem?}
 use Rattle.mux_frame.specs.declared.dlci.Dlci.{Dlci}
@@ -23,6 +23,7 @@ state_at states d = slice_index_or states d state.Untold
 abbrev pub is_told : ChannelState → Bool
 is_told state.Untold = false
 is_told state.Shut = true
+is_told state.Refused = true
 is_told state.Open = true
 
 abbrev pub told_at : List ChannelState → ℕ → Bool
@@ -32,6 +33,7 @@ told_at states d = is_told (state_at states d)
 abbrev pub shut_of : ChannelState → ChannelState
 shut_of state.Open = state.Shut
 shut_of state.Shut = state.Shut
+shut_of state.Refused = state.Refused
 shut_of state.Untold = state.Untold
 
 -- an opening that was told this has opened the connection, or it was open before
@@ -46,24 +48,20 @@ closes answer.NotOpen = true
 closes answer.Closed = true
 closes _ = false
 
--- it isn't Untold any more
-abbrev pub told_of : ChannelState → ChannelState
-told_of state.Untold = state.Shut
-told_of state.Shut = state.Shut
-told_of state.Open = state.Open
-
 -- its opening was told this
-abbrev pub opened_by : Answer → ChannelState → ChannelState
-opened_by a s = if opens a then state.Open else told_of s
+abbrev pub opened_by : Answer → ChannelState
+opened_by a = if opens a then state.Open else state.Refused
+
+-- a command on it was submitted: that its opening was refused counts for one command
+abbrev pub submitted_by : ChannelState → ChannelState
+submitted_by state.Untold = state.Untold
+submitted_by state.Shut = state.Shut
+submitted_by state.Refused = state.Shut
+submitted_by state.Open = state.Open
 
 -- a command on it was told this
 abbrev pub closed_by : Answer → ChannelState → ChannelState
 closed_by a s = if closes a then shut_of s else s
-
--- an opening of the connection of this command was told something
-abbrev pub IsToldNext : List Ask → List ChannelState → Type 0
-IsToldNext (ask.Command d line ∷ []) states = told_at states d.number ≡ true
-IsToldNext _ states = Unit {0}
 
 -- ## What a caller was told before it submitted
 

@@ -19,6 +19,7 @@ abbrev pub give_up_words : GiveUp → List ℕ
 give_up_words cause.Lines = codes "fault: gave up: more than 2^64 - 1 lines came"
 give_up_words cause.Outcome = codes "fault: gave up: an outcome came of a line that isn't under way"
 give_up_words cause.Desk = codes "fault: gave up: the desk wasn't empty after 100,000 passes"
+give_up_words cause.Full = codes "fault: gave up: the desk took no more requests"
 give_up_words cause.Unasked = codes "fault: gave up: the session stopped, though nobody asked it to"
 
 -- what is said of a fault, but for the path and the cause of what can't be opened or made

@@ -7,6 +7,7 @@ pub mod Asking
 pub mod Plans
 pub mod Channels
 pub mod Showing
+pub mod Turns
 pub mod Driving
 pub mod Ending
 pub mod Running

@@ -1,20 +1,12 @@
 -- What contracts see of what is to be asked.
-use Rattle.std.specs.Prelude.{Bool, true, false, List, [], ◌∷◌, Option, None, Some}
+use Rattle.std.specs.Prelude.{Bool, true, false}
 use Rattle.modem_desk.specs.declared.request.Answer.{Answer}
 use Rattle.modem_desk.specs.declared.request.Answer.TheVariants.{NoAnswer}
-use Rattle.modem_desk.specs.declared.request.Ask.{Ask}
-use Rattle.modem_desk.specs.declared.request.Ask.TheVariants as ask
 use Rattle.modem_drive.specs.Asking.{PlanView}
 use Rattle.modem_drive.specs.declared.users.Control.{Control}
 use Rattle.modem_drive.specs.declared.users.Control.TheVariants as control
-use Rattle.modem_drive.specs.declared.plan.Next.{Next}
 use Rattle.modem_drive.specs.declared.plan.Phase.{Phase}
 use Rattle.modem_drive.specs.declared.plan.Phase.TheVariants as phase
-
--- the command of the next line, if there is one
-abbrev pub next_asks : Option Next → List Ask
-next_asks None = []
-next_asks (Some next) = ask.Command next.dlci next.line ∷ []
 
 abbrev pub is_stopping : Phase → Bool
 is_stopping phase.Stopping = true

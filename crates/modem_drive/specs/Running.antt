@@ -52,7 +52,7 @@ plan_begun input = record {
   input = record { left = input; text = []; ended = false; failed = false };
   count = 0;
   was_bad = false;
-  next = [];
+  waiting = replicate 62 [];
   stopping = false;
 }
 
@@ -64,9 +64,9 @@ pub record DrivesInput {X : Type 0} (look : X → LineView) (s : SessionState X)
   pub bad_is : was_bad ≡ through.was_bad
 
 -- The multiplexer was entered by this text, a session with this N1 and the codes of these rules began on the line, went on, and
--- ended, and all that came for its users was printed. The commands that were submitted, and told before the end, are those that the
--- lines are which were read, but for one that was next, and the bad ones of those lines were named: was_bad says whether there was
--- any. Before each of them the caller had taken what an opening of its connection was told, and before a Stop all outcomes. Without a
+-- ended, and all that came for its users was printed. The commands that were submitted, and told before the end, are of each connection
+-- the first of those that the lines are which were read, in order and each once, and the bad ones of those lines were named: was_bad says
+-- whether there was any. Before each of them the caller had taken what an opening of its connection was told, and before a Stop all outcomes. Without a
 -- fault all lines of the input were read. The line is as it is last.
 pub record Drove {X : Type 0} (look : X → LineView) (rules : Rules) (text : List ℕ) (n1 : ℕ) (line last : X)
     (input before after silent said : Option (List ℕ)) (end : Option DriveFault) (was_bad : Bool) (left : Settled) : Type 0 where

@@ -1,5 +1,6 @@
 -- What a drive prints, as it comes: what its lines are told, and what is announced.
-use Rattle.std.specs.Prelude.{◌≡◌, ℕ, ◌+◌, ◌<◌, ◌==◌, true, List, [], ◌∷◌, ◌++◌, All, Option, None, Some, drop, filter, get_or, flat_map, length, map, set, slice_index_or, take, if◌then◌else◌}
+use Rattle.std.specs.Prelude.{◌≡◌, ℕ, ◌+◌, ◌<◌, ◌≤◌, ◌==◌, Bool, true, List, [], ◌∷◌, ◌++◌, All, Option, None, Some, drop, filter, get_or, flat_map, length, map, set, slice_index_or, take, if◌then◌else◌}
+use Rattle.std.specs.List.{list_any}
 use Rattle.std.specs.Io.KnownBytes.{Appends}
 use Rattle.modem_desk.specs.declared.request.Answer.{Answer}
 use Rattle.modem_desk.specs.declared.request.Ask.{Ask}
@@ -76,6 +77,14 @@ IsRightPiece first submitted (Unprinted asked o) = IsAskedAs first submitted o.n
 abbrev pub AreUnderWay : (first : ℕ) → List Request → List UnderWay → Type 0
 AreUnderWay first submitted = All (λ (u : UnderWay). IsLine first submitted u.number u.dlci.number u.place)
 
+-- a line of connection d is among these
+abbrev pub is_busy : ℕ → List UnderWay → Bool
+is_busy d lines = list_any (λ (u : UnderWay). u.dlci.number == d) lines
+
+-- at most one line of each connection waits for its outcome
+unfoldable pub AreApart : List UnderWay → Type 0
+AreApart lines = (d : ℕ) → length (filter (λ (u : UnderWay). u.dlci.number == d) lines) ≤ 1
+
 -- what waits for its outcome beside the lines
 abbrev pub IsAsked : (first : ℕ) → List Request → Option Asked → Type 0
 IsAsked first submitted None = Unit {0}
@@ -88,7 +97,7 @@ count_asked (Some a) = 1
 -- What was printed since the output was as at first: each outcome of a line that the caller took, in the order in which they
 -- came, by the connection and the place of its line; and each line that a listener took, in its order, by its kind's
 -- name in the dialect. Of what was submitted just the lines under way, and what was asked beside them, have no outcome yet, and so
--- many lines of each connection were submitted.
+-- many lines of each connection were submitted. Of each connection at most one line is under way.
 pub record HasShown (first now : Option (List ℕ)) (u : Users) : Type 0 where
   pub shown : List Shown
   pub printed : Appends first now (flat_map (shown_text u.dialect) shown)
@@ -97,6 +106,7 @@ pub record HasShown (first now : Option (List ℕ)) (u : Users) : Type 0 where
   pub lines_are : (i : ℕ) (l : ListenerView) → i < length u.listeners.items
       → lines_at i shown ≡ (get_or u.listeners.items i l).heard
   pub under_way : AreUnderWay u.caller.place.first u.caller.submitted u.under_way.items
+  pub apart : AreApart u.under_way.items
   pub asked : IsAsked u.caller.place.first u.caller.submitted u.asked
   pub rest : length u.caller.submitted ≡ length u.caller.got + length u.under_way.items + count_asked u.asked
   pub long : length u.counts ≡ 62
@@ -143,6 +153,6 @@ shut_for control.Stop states = states
 
 -- and once it was told this
 abbrev pub after_control : Control → Answer → List ChannelState → List ChannelState
-after_control (control.Open d) a states = set states d.number (opened_by a (state_at states d.number))
+after_control (control.Open d) a states = set states d.number (opened_by a)
 after_control (control.Close d) a states = states
 after_control control.Stop a states = states

@@ -1,6 +1,6 @@
 //! Which connections are open, and since when their commands wait.
 ghost use Rattle.std.specs.Prelude.{◌≡◌, ◌<◌, replicate, set};
-ghost use Rattle.modem_drive.specs.Channels.{closed_by, opened_by, shut_of, state_at};
+ghost use Rattle.modem_drive.specs.Channels.{closed_by, opened_by, shut_of, state_at, submitted_by};
 ghost use Rattle.modem_drive.specs.declared.channels.ChannelState.TheVariants as state;
 
 use modem_desk::Answer;
@@ -16,6 +16,8 @@ pub enum ChannelState {
     Untold,
     /// It isn't open.
     Shut,
+    /// It isn't open, and an opening for its next command was refused.
+    Refused,
     /// It was opened.
     Open,
 }
@@ -31,14 +33,23 @@ impl ChannelState {
         }
     }
 
-    /// The state of a connection in this one whose opening was told this.
-    fn opened(self, answer: &Answer) -> ChannelState
-        ensures { result ≡ opened_by answer.now self }
+    /// The state of a connection whose opening was told this.
+    fn opened(answer: &Answer) -> ChannelState
+        ensures { result ≡ opened_by answer.now }
     {
-        match (answer, self) {
-            (Answer::Opened | Answer::AlreadyOpen, _) => ChannelState::Open,
-            (_, ChannelState::Untold) => ChannelState::Shut,
-            (_, state) => state,
+        match answer {
+            Answer::Opened | Answer::AlreadyOpen => ChannelState::Open,
+            _ => ChannelState::Refused,
+        }
+    }
+
+    /// The state of a connection in this one on which a command was submitted.
+    fn submitted(self) -> ChannelState
+        ensures { result ≡ submitted_by self }
+    {
+        match self {
+            ChannelState::Refused => ChannelState::Shut,
+            state => state,
         }
     }
 
@@ -117,14 +128,13 @@ impl Channels {
 
     /// Notes what an opening of a connection was told.
     pub fn note_opening(&mut self, dlci: Dlci, answer: &Answer)
-        ensures { self.new ≡ set self.old dlci.number (opened_by answer.now (state_at self.old dlci.number)) }
+        ensures { self.new ≡ set self.old dlci.number (opened_by answer.now) }
     {
-        let state = self.state(dlci).opened(answer);
-        self.set(dlci, state);
+        self.set(dlci, ChannelState::opened(answer));
     }
 
-    /// Notes that a command was submitted on a connection.
-    pub fn note_submitted<K: Clock>(&mut self, clock: &K, dlci: Dlci)
+    /// Notes that a command on a connection began to wait.
+    fn note_asked<K: Clock>(&mut self, clock: &K, dlci: Dlci)
         ensures { self.new ≡ self.old }
     {
         let waiting = &mut self.waiting[usize::from(dlci.number())];
@@ -132,6 +142,15 @@ impl Channels {
             waiting.since = Instant::now(clock).ok();
         }
         waiting.count = waiting.count.saturating_add(1);
+    }
+
+    /// Notes that a command was submitted on a connection.
+    pub fn note_submitted<K: Clock>(&mut self, clock: &K, dlci: Dlci)
+        ensures { self.new ≡ set self.old dlci.number (submitted_by (state_at self.old dlci.number)) }
+    {
+        self.note_asked(clock, dlci);
+        let state = self.state(dlci).submitted();
+        self.set(dlci, state);
     }
 
     /// Notes that a command on a connection waits no more.

@@ -8,6 +8,8 @@ ghost use Rattle.modem_drive.specs.Ending.{HasEndedBy, IsToldFault, KeepsGiven, 
 ghost use Rattle.modem_drive.specs.declared.driving.Went.TheVariants as went;
 ghost use Rattle.modem_drive.specs.declared.fault.DriveFault.{DriveFault};
 ghost use Rattle.modem_drive.specs.Showing.{GoOn};
+ghost use Rattle.modem_drive.specs.Turns.{MayRest};
+ghost use Rattle.modem_driver.specs.declared.session.polling.Progress.TheVariants.{Idle};
 
 use crate::fault::{DriveFault, GiveUp};
 use crate::plan::Plan;
@@ -166,7 +168,9 @@ enum Went {
 
 /// What a poll says of the round: `moved` says whether anything else was done.
 fn judge<I: Read>(said: Progress, plan: &Plan<I>, moved: bool) -> Went
-    ensures { (end : Option DriveFault) → result ≡ went.Ends end → SaysBy said plan.now end }
+    ensures ends { (end : Option DriveFault) → result ≡ went.Ends end → SaysBy said plan.now end }
+    ensures rests { result ≡ went.Rests → moved ≡ false }
+    ensures idle { result ≡ went.Rests → said ≡ Idle }
 {
     match said {
         Progress::Ended(Ok(Ended::Stopped)) if !plan.is_stopping() => Went::Ends(Some(
@@ -200,6 +204,7 @@ fn answer<R: Wait + Clock, I: Read, W: Write, E: Write>(
         (E.contents faults.old) (E.contents faults.new)) }
     ensures stops { OnErr result (StopsOn plan.old users.old.caller.submitted (E.contents faults.old) (E.contents faults.new)) }
     ensures ends { IfOk result (λ w. (end : Option DriveFault) → w ≡ went.Ends end → SaysBy said plan.new end) }
+    ensures rests { IfOk result (λ w. w ≡ went.Rests → MayRest plan.new users.new) }
 {
     let shown = show(rt, alloc, users, plan, output)?;
     if let Some(fault) = shown.fault {
@@ -231,6 +236,7 @@ fn round<L: SerialLine, R: Wait + Clock + Drop, I: Read, W: Write, E: Write>(
         (E.contents faults.old) (E.contents faults.new)) }
     ensures stops { OnErr result (StopsOn plan.old users.old.caller.submitted (E.contents faults.old) (E.contents faults.new)) }
     ensures ends { IfOk result (λ w. (end : Option DriveFault) → w ≡ went.Ends end → HasEndedBy session.new.machine.course plan.new end) }
+    ensures rests { IfOk result (λ w. w ≡ went.Rests → MayRest plan.new users.new) }
 {
     let said = poll(rt, session, ticks);
     answer(rt, alloc, said, users, plan, output, faults)

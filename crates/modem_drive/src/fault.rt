@@ -18,6 +18,8 @@ pub enum GiveUp {
     Outcome,
     /// The desk wasn't empty after 100,000 passes, or a line was left in it that was announced.
     Desk,
+    /// The desk took no more requests, though few were under way.
+    Full,
     /// The session stopped, though nobody asked it to.
     Unasked,
 }
@@ -30,6 +32,7 @@ impl GiveUp {
             GiveUp::Lines => "fault: gave up: more than 2^64 - 1 lines came",
             GiveUp::Outcome => "fault: gave up: an outcome came of a line that isn't under way",
             GiveUp::Desk => "fault: gave up: the desk wasn't empty after 100,000 passes",
+            GiveUp::Full => "fault: gave up: the desk took no more requests",
             GiveUp::Unasked => "fault: gave up: the session stopped, though nobody asked it to",
         }
     }

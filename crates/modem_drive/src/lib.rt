@@ -7,7 +7,8 @@
 //! # Layout
 //!
 //! - `on_device`, `device`, `settings`, `patience`: from a device's path to its status; its threads.
-//! - `running`, `driving`, `ending`, `fault`: a drive over any line. `users`, `plan`, `channels`, `input`: what it asks.
+//! - `running`, `driving`, `ending`, `fault`: a drive over any line. `users`, `plan`, `queues`, `turns`, `channels`,
+//!   `input`: what it asks.
 //! - `showing`, `pieces`, `saying`, `results`: what it prints. `captured_line`: what it captures.
 //! - `laws`.
 #![tactic(auto)]
@@ -24,11 +25,13 @@ mod on_device;
 mod patience;
 mod pieces;
 mod plan;
+mod queues;
 mod results;
 mod running;
 mod saying;
 mod settings;
 mod showing;
+mod turns;
 mod users;
 
 pub use fault::{DriveFault, GiveUp};

@@ -1,20 +1,21 @@
 //! What is asked of the desk next: the lines of the input as commands, and what they need.
-ghost use Rattle.std.specs.Prelude.{◌≡◌, ◌≢◌, ℕ, [], List, Option, Some, true, false, IfSome, OnErr, OnOk};
+ghost use Rattle.std.specs.Prelude.{◌≡◌, ◌≢◌, ◌⊎◌, ◌+◌, ◌<◌, ◌≤◌, ℕ, List, Option, Some, None, true, false, is_some, length, IfOk, IfSome, OnErr, OnOk};
 ghost use Rattle.modem_desk.specs.declared.request.Request.{Request};
 ghost use Rattle.modem_drive.specs.Asking.{AsksOn, IsThrough, ReadsLine, StopsOn};
-ghost use Rattle.modem_drive.specs.Channels.{IsToldNext};
 ghost use Rattle.modem_drive.specs.Ending.{IsToldFault};
 ghost use Rattle.modem_drive.specs.Plans.{after_asking, is_unclosed};
 ghost use Rattle.modem_drive.specs.Showing.{GoOn};
+ghost use Rattle.modem_drive.specs.Turns.{MayRest, NoneWants, one_if, steps_of};
 ghost use Rattle.modem_drive.specs.declared.fault.DriveFault.TheVariants as fault;
+ghost use Rattle.modem_drive.specs.declared.turns.Want.TheVariants.{Opening, Submission};
 ghost use Rattle.modem_drive.specs.declared.users.Control.TheVariants as control;
 
-use crate::channels::ChannelState;
 use crate::fault::{DriveFault, GiveUp};
 use crate::input::Lines;
+use crate::queues::Queues;
 use crate::saying::name_bad;
+use crate::turns::{Want, find_next};
 use crate::users::{Control, Users};
-use at_text::CommandLine;
 use modem_desk::Answer;
 use modem_texts::{Refusal, command_of};
 use mux_frame::Dlci;
@@ -38,19 +39,14 @@ enum Phase {
     Stopping,
 }
 
-/// The next line: its connection, its command, and whether opening that connection was tried for it.
-#[derive(Drop)]
-struct Next {
-    dlci: Dlci,
-    line: CommandLine,
-    tried: bool,
-}
-
-/// What is to be asked: the next line and the rest of the input.
+/// What is to be asked: the commands that wait, by connection, and the rest of the input. `opened` is the connection for which an opening
+/// was asked last, and `submitted` that of which a command was submitted last.
 #[derive(Drop)]
 pub struct Plan<I: Read> {
     input: Lines<I>,
-    next: Option<Next>,
+    queues: Queues,
+    opened: Dlci,
+    submitted: Dlci,
     phase: Phase,
     number: u64,
     bad: bool,
@@ -58,7 +54,7 @@ pub struct Plan<I: Read> {
 
 impl<I: Read> Model for Plan<I> {
     ghost use Rattle.modem_drive.specs.Asking.{PlanView};
-    ghost use Rattle.modem_drive.specs.Plans.{is_stopping, next_asks};
+    ghost use Rattle.modem_drive.specs.Plans.{is_stopping};
 
     ghost Value = { PlanView };
 
@@ -66,21 +62,23 @@ impl<I: Read> Model for Plan<I> {
       input = p.input;
       count = p.number;
       was_bad = p.bad;
-      next = next_asks p.next;
+      waiting = p.queues;
       stopping = is_stopping p.phase;
     } };
 }
 
 impl<I: Read> Plan<I> {
-    ghost use Rattle.std.specs.Prelude.{◌≡◌, [], false, true};
+    ghost use Rattle.std.specs.Prelude.{◌≡◌, [], false, replicate, true};
 
     /// To open connection 0, and then what this input says.
-    pub fn new(input: Lines<I>) -> Plan<I>
-        ensures { result ≡ record { input = input; count = 0; was_bad = false; next = []; stopping = false } }
+    pub fn new(alloc: Global, input: Lines<I>) -> Plan<I>
+        ensures { result ≡ record { input = input; count = 0; was_bad = false; waiting = replicate 62 []; stopping = false } }
     {
         Plan {
             input,
-            next: None,
+            queues: Queues::new(alloc),
+            opened: Dlci::CONTROL,
+            submitted: Dlci::CONTROL,
             phase: Phase::Opening,
             number: 0,
             bad: false,
@@ -116,7 +114,6 @@ impl<I: Read> Plan<I> {
         line: &[u8],
         faults: &mut E,
     ) -> Result<(), DriveFault>
-        requires { self.old.next ≡ [] }
         ensures reads { OnOk result (ReadsLine self.old self.new line.now (E.contents faults.old) (E.contents faults.new)) }
         ensures silent { OnErr result (faults.new ≡ faults.old) }
     {
@@ -128,13 +125,7 @@ impl<I: Read> Plan<I> {
             return Ok(());
         }
         match command_of(alloc, line) {
-            Ok((dlci, line)) => {
-                self.next = Some(Next {
-                    dlci,
-                    line,
-                    tried: false,
-                });
-            }
+            Ok((dlci, line)) => self.queues.push(dlci, line)?,
             Err(Refusal::Bad(fault)) => {
                 self.bad = true;
                 name_bad(faults, number, fault);
@@ -144,13 +135,14 @@ impl<I: Read> Plan<I> {
         Ok(())
     }
 
-    /// Reads the next line of the input, if there is none and one is there, and says whether it read one.
+    /// Reads the next line of the input, if one is there and not too many wait, and says whether it read one.
     fn read_on<E: Write>(&mut self, alloc: Global, faults: &mut E) -> Result<bool, DriveFault>
         ensures asks { OnOk result ((submitted : List Request)
             → AsksOn self.old self.new submitted submitted (E.contents faults.old) (E.contents faults.new)) }
+        ensures count { IfOk result (λ read. self.new.count ≡ self.old.count + one_if read) }
         ensures silent { OnErr result (faults.new ≡ faults.old) }
     {
-        if self.phase != Phase::Going || self.next.is_some() {
+        if self.phase != Phase::Going || self.queues.is_full() {
             return Ok(false);
         }
         match self.input.next()? {
@@ -166,22 +158,23 @@ impl<I: Read> Plan<I> {
     fn control<K: Clock>(&self, clock: &K, users: &Users) -> Option<Control>
         ensures through { IfSome result (λ c. c ≡ control.Stop → IsThrough self.now) }
         ensures idle { IfSome result (λ c. c ≡ control.Stop → users.now.under_way.items ≡ []) }
+        ensures none { result ≡ None → (self.now.stopping ≡ true) ⊎ NoneWants Opening self.now.waiting users.now }
     {
         match self.phase {
-            Phase::Opening => return Dlci::new(0).map(Control::Open),
+            Phase::Opening => return Some(Control::Open(Dlci::CONTROL)),
             Phase::Stopping => return None,
             Phase::Going => {}
         }
         if let Some(dlci) = users.channels.find_quiet(clock) {
             return Some(Control::Close(dlci));
         }
-        match &self.next {
-            Some(next) if !next.tried && users.channels.state(next.dlci) != ChannelState::Open => {
-                Some(Control::Open(next.dlci))
-            }
-            None if self.input.has_ended() && users.under_way.is_empty() => Some(Control::Stop),
-            _ => None,
+        if let Some(dlci) = find_next(Want::Opening, &self.queues, users, self.opened) {
+            return Some(Control::Open(dlci));
         }
+        if self.input.has_ended() && self.queues.is_empty() && users.under_way.is_empty() {
+            return Some(Control::Stop);
+        }
+        None
     }
 
     /// It was asked.
@@ -189,67 +182,55 @@ impl<I: Read> Plan<I> {
         ensures { self.new ≡ after_asking control self.old }
     {
         match control {
-            Control::Open(dlci) => match &mut self.next {
-                Some(next) if next.dlci == dlci => next.tried = true,
-                _ => {}
-            },
+            Control::Open(dlci) => self.opened = dlci,
             Control::Close(_) => {}
             Control::Stop => self.phase = Phase::Stopping,
         }
     }
 
-    /// Asks what is to be asked beside commands, where nothing such is under way, and says whether it asked.
+    /// Asks what is to be asked beside commands, where nothing such is under way, and says whether it asked. Refused with GaveUp.
     #[tactic(auto, using(crate::proofs::Lines::stays))]
-    fn ask_on<R: Wait + Clock>(&mut self, rt: &R, users: &mut Users) -> bool
-        ensures goes { (out : Option (List ℕ)) → GoOn out out users.old users.new }
-        ensures asks { (said : Option (List ℕ))
-            → AsksOn self.old self.new users.old.caller.submitted users.new.caller.submitted said said }
+    fn ask_on<R: Wait + Clock>(&mut self, rt: &R, users: &mut Users) -> Result<bool, DriveFault>
+        ensures goes { OnOk result ((out : Option (List ℕ)) → GoOn out out users.old users.new) }
+        ensures asks { OnOk result ((said : Option (List ℕ))
+            → AsksOn self.old self.new users.old.caller.submitted users.new.caller.submitted said said) }
+        ensures openings { OnOk result ((self.new.stopping ≡ true) ⊎ ((is_some users.new.asked ≡ true)
+            ⊎ NoneWants Opening self.new.waiting users.new)) }
+        ensures count { IfOk result (λ asked. steps_of self.new users.new ≡ steps_of self.old users.old + one_if asked) }
     {
         let Some(control) = self.control(rt, users) else {
-            return false;
+            return Ok(false);
         };
-        if !users.ask(rt, control) {
-            return false;
+        if !users.ask(rt, control)? {
+            return Ok(false);
         }
         self.note_asked(control);
-        true
+        Ok(true)
     }
 
-    /// Whether the next line may be submitted: its connection is open, or couldn't be opened.
-    fn is_next_ready(&self, users: &Users) -> bool
-        ensures { result ≡ true → IsToldNext self.now.next users.now.channels }
-    {
-        match &self.next {
-            Some(next) => match users.channels.state(next.dlci) {
-                ChannelState::Open => true,
-                ChannelState::Shut => next.tried && users.asked.is_none(),
-                ChannelState::Untold => false,
-            },
-            None => false,
-        }
-    }
-
-    /// Submits the next line, if it may be and can be, and says whether it did.
+    /// Submits the next command, if one may be, and says whether it did. Refused with NoMemory and GaveUp.
     #[tactic(auto, using(crate::proofs::Lines::stays))]
     fn submit_on<R: Wait + Clock>(&mut self, rt: &R, users: &mut Users) -> Result<bool, DriveFault>
         ensures goes { OnOk result ((out : Option (List ℕ)) → GoOn out out users.old users.new) }
         ensures asks { OnOk result ((said : Option (List ℕ))
             → AsksOn self.old self.new users.old.caller.submitted users.new.caller.submitted said said) }
+        ensures same { IfOk result (λ done. done ≡ false → (self.new ≡ self.old) × (users.new ≡ users.old)) }
+        ensures lines { IfOk result (λ done. done ≡ false → (15 ≤ length users.new.under_way.items)
+            ⊎ NoneWants Submission self.new.waiting users.new) }
+        ensures count { IfOk result (λ done. steps_of self.new users.new ≡ steps_of self.old users.old + one_if done) }
     {
-        if !self.is_next_ready(users) {
+        if users.is_full() {
             return Ok(false);
         }
-        let Some(next) = self.next.take() else {
+        let Some(dlci) = find_next(Want::Submission, &self.queues, users, self.submitted) else {
             return Ok(false);
         };
-        let Next { dlci, line, tried } = next;
-        match users.submit(rt, dlci, line)? {
-            Some(line) => {
-                self.next = Some(Next { dlci, line, tried });
-                Ok(false)
-            }
-            None => Ok(true),
-        }
+        let Some(line) = self.queues.take(dlci) else {
+            return Ok(false);
+        };
+        users.submit(rt, dlci, line)?;
+        self.submitted = dlci;
+        Ok(true)
     }
 
     /// Asks what is to be asked now, and says whether it asked or read anything.
@@ -265,18 +246,18 @@ impl<I: Read> Plan<I> {
         ensures asks { OnOk result (AsksOn self.old self.new users.old.caller.submitted users.new.caller.submitted
             (E.contents faults.old) (E.contents faults.new)) }
         ensures stops { OnErr result (StopsOn self.old users.old.caller.submitted (E.contents faults.old) (E.contents faults.new)) }
+        ensures rests { IfOk result (λ any. any ≡ false → MayRest self.new users.new) }
+        ensures moves { IfOk result (λ any. any ≡ true → steps_of self.old users.old < steps_of self.new users.new) }
     {
-        let mut any = false;
-        for _ in 0..STEPS {
+        for step in 0..STEPS {
             let read = self.read_on(alloc, faults)?;
-            let asked = self.ask_on(rt, users);
+            let asked = self.ask_on(rt, users)?;
             let submitted = self.submit_on(rt, users)?;
             if !read && !asked && !submitted {
-                return Ok(any);
+                return Ok(step > 0);
             }
-            any = true;
         }
-        Ok(any)
+        Ok(true)
     }
 
     /// What an opening was told: the fault by which the drive ends, if it does.

@@ -233,7 +233,7 @@ where
     ensures stops { OnErr result (StopsOn (plan_begun (I.remaining input)) users.caller.submitted (E.contents faults.old)
         (E.contents faults.new)) }
 {
-    let mut plan = Plan::new(Lines::new(alloc, input));
+    let mut plan = Plan::new(alloc, Lines::new(alloc, input));
     let mut ticks = Ticks::new(settings.tick);
     let ran = run_session(
         rt, alloc, bell, session, users, &mut ticks, &mut plan, output, faults,
@@ -268,8 +268,9 @@ fn enter<L: SerialLine, R: Wait + Clock>(
 }
 
 /// Drives a modem on a line on which no call waits. It enters the multiplexer, opens connection 0, and opens each other connection when
-/// a line of the input first names it. It submits the lines `D TEXT` as they come, at most 15 at a time. It prints the outcome of each
-/// as `D i answer` and each announced line as `heard KIND D TEXT`, as they come; a kind of the dialect's own has its name. A connection
+/// a line of the input first names it. It submits the lines `D TEXT` of each connection in order, one at a time, and those of 15
+/// connections at most; while 1024 wait for one connection it reads none. It prints the outcome of each as `D i answer` and each announced
+/// line as `heard KIND D TEXT`, as they come; a kind of the dialect's own has its name. A connection
 /// whose command has had no answer for as long as the settings say is closed, and opened again for the next line; where the modem doesn't
 /// answer that closing either, the drive ends with Silent. At the end of the input it waits for what is under way, and ends the multiplexer. `bell` is rung where octets of the line or of the input may have
 /// come.

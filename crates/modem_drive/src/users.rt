@@ -1,10 +1,11 @@
 //! Those who use the desk of a drive: a caller, whose requests are the lines of the input and what they need, and a listener for each
 //! kind of line.
-ghost use Rattle.std.specs.Prelude.{◌≡◌, ◌<◌, ◌++◌, ◌∷◌, [], ℕ, List, Option, Some, true, get_or, length, IfOk, IfSome, MatchOption, OnOk};
+ghost use Rattle.std.specs.Prelude.{◌≡◌, ◌+◌, ◌<◌, ◌++◌, [], ℕ, List, Option, Some, true, false, get_or, is_some, length, nat_le, IfOk, IfSome, OnOk};
 ghost use Rattle.modem_desk.specs.declared.request.Ask.TheVariants as ask;
-ghost use Rattle.modem_drive.specs.Asking.{asks_of};
+ghost use Rattle.modem_drive.specs.Asking.{submitted_on, text_on};
 ghost use Rattle.modem_drive.specs.Channels.{told_at};
-ghost use Rattle.modem_drive.specs.Showing.{GoOn, TakesLine, control_ask, shut_for};
+ghost use Rattle.modem_drive.specs.Showing.{GoOn, TakesLine, control_ask, is_busy, shut_for};
+ghost use Rattle.modem_drive.specs.Turns.{one_if};
 ghost use Rattle.modem_drive.specs.declared.users.Control.TheVariants.{Stop};
 ghost use Rattle.modem_drive.specs.declared.users.UnderWay.{UnderWay};
 
@@ -17,7 +18,8 @@ use std::rt::Clock;
 use std::sync::Wait;
 use std::time::Duration;
 
-/// How many lines are under way at most. A caller may leave 16 outcomes untaken, so that one request beside them has a place.
+/// How many lines are under way at most, one of each connection. A caller may leave 16 outcomes untaken, so that one request beside them
+/// has a place.
 const LINES: usize = 15;
 
 /// A line that waits for its outcome: its request's number, its connection, and its place among that connection's lines, from 1.
@@ -70,60 +72,75 @@ impl Control {
 }
 
 impl Users {
-    /// Submits a line, on a connection whose opening was told something. It is handed back where it can't be submitted now.
+    /// Whether so many lines are under way that no other may be.
+    pub fn is_full(&self) -> bool
+        ensures { result ≡ nat_le 15 (length self.now.under_way.items) }
+    {
+        self.under_way.len() >= LINES
+    }
+
+    /// Whether a line of this connection is under way.
+    pub fn is_busy(&self, dlci: Dlci) -> bool
+        ensures { result ≡ is_busy dlci.number self.now.under_way.items }
+    {
+        let number = dlci.number();
+        self.under_way
+            .iter()
+            .any(|line| line.dlci.number() == number)
+    }
+
+    /// Submits a line, on a connection whose opening was told something and of which no line is under way. Refused with NoMemory and
+    /// GaveUp.
     #[tactic(auto, using(crate::proofs::Lines::stays))]
     pub fn submit<R: Wait + Clock>(
         &mut self,
         rt: &R,
         dlci: Dlci,
         line: CommandLine,
-    ) -> Result<Option<CommandLine>, DriveFault>
-        requires { told_at self.old.channels dlci.number ≡ true }
+    ) -> Result<(), DriveFault>
+        requires told { told_at self.old.channels dlci.number ≡ true }
+        requires free { is_busy dlci.number self.old.under_way.items ≡ false }
         ensures goes { OnOk result ((out : Option (List ℕ)) → GoOn out out self.old self.new) }
-        ensures asks { IfOk result (λ back. MatchOption back
-            (asks_of self.new.caller.submitted ≡ asks_of self.old.caller.submitted ++ ask.Command dlci line ∷ [])
-            (λ l. (l ≡ line) × (self.new.caller.submitted ≡ self.old.caller.submitted))) }
+        ensures asks { OnOk result ((d : ℕ) → submitted_on d self.new.caller.submitted
+            ≡ submitted_on d self.old.caller.submitted ++ text_on d (ask.Command dlci line)) }
+        ensures count { OnOk result (length self.new.caller.submitted ≡ length self.old.caller.submitted + 1) }
     {
-        if self.under_way.len() >= LINES {
-            return Ok(Some(line));
-        }
         let d = usize::from(dlci.number());
         let Some(place) = self.counts[d].checked_add(1) else {
             return Err(DriveFault::GaveUp(GiveUp::Lines));
         };
         self.under_way.try_reserve(1)?;
-        match self.caller.submit(rt, Ask::Command(dlci, line)) {
-            Ok(number) => {
-                self.counts[d] = place;
-                self.under_way.push_reserved(UnderWay {
-                    number,
-                    dlci,
-                    place,
-                });
-                self.channels.note_submitted(rt, dlci);
-                Ok(None)
-            }
-            Err((_, Ask::Command(_, back))) => Ok(Some(back)),
-            Err(_) => unreachable!(),
-        }
+        let Ok(number) = self.caller.submit(rt, Ask::Command(dlci, line)) else {
+            return Err(DriveFault::GaveUp(GiveUp::Full));
+        };
+        self.counts[d] = place;
+        self.under_way.push_reserved(UnderWay {
+            number,
+            dlci,
+            place,
+        });
+        self.channels.note_submitted(rt, dlci);
+        Ok(())
     }
 
     /// Asks this beside commands, where nothing such waits for its outcome, and says whether it asked. A Stop is asked only with no line
-    /// under way.
+    /// under way. Refused with GaveUp.
     #[tactic(auto, using(crate::proofs::Lines::stays))]
-    pub fn ask<R: Wait>(&mut self, rt: &R, control: Control) -> bool
+    pub fn ask<R: Wait>(&mut self, rt: &R, control: Control) -> Result<bool, DriveFault>
         requires { control ≡ Stop → self.old.under_way.items ≡ [] }
-        ensures goes { (out : Option (List ℕ)) → GoOn out out self.old self.new }
-        ensures asks { asks_of self.new.caller.submitted ≡ asks_of self.old.caller.submitted }
+        ensures goes { OnOk result ((out : Option (List ℕ)) → GoOn out out self.old self.new) }
+        ensures asks { OnOk result ((d : ℕ) → submitted_on d self.new.caller.submitted ≡ submitted_on d self.old.caller.submitted) }
+        ensures waits { OnOk result (is_some self.new.asked ≡ true) }
+        ensures count { IfOk result (λ asked. length self.new.caller.submitted ≡ length self.old.caller.submitted + one_if asked) }
     {
         if self.asked.is_some() {
-            return false;
+            return Ok(false);
         }
         let Ok(number) = self.caller.submit(rt, control.ask()) else {
-            return false;
+            return Err(DriveFault::GaveUp(GiveUp::Full));
         };
         self.note_asked(Asked { number, control });
-        true
+        Ok(true)
     }
 
     /// Notes that this waits for its outcome.

@@ -12,7 +12,7 @@ pub returns-clause-goes : goal.returns-clause-goes
 returns-clause-goes g c = goes_then _ _ _ _ _ _ c.in_ok-shown.ensures.goes (c.in_ok-asked.ensures.goes _)
 
 pub returns-then-matches-clause-ends : goal.returns-then-matches-clause-ends
-returns-then-matches-clause-ends g c end e = c.judge.ensures end e
+returns-then-matches-clause-ends g c end e = c.judge.ensures.ends end e
 
 pub returns-clause-ends : goal.returns-clause-ends
-returns-clause-ends g c end e = c.judge-2.ensures end e
+returns-clause-ends g c end e = c.judge-2.ensures.ends end e

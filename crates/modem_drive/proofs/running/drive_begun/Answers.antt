@@ -1,4 +1,5 @@
 -- The input was driven to its end.
+use Rattle.std.specs.Prelude.{replicate}
 use Rattle.std.proofs.Common.{◌≡◌, ◌∙◌, [], false, ap, subst}
 use Rattle.modem_driver.specs.SessionStates.{line_by}
 use Rattle.modem_drive.specs.Asking.{PlanView, StopsOn}
@@ -10,7 +11,7 @@ use Rattle.modem_drive.proofs.Ends.{known_err, known_ok}
 use Rattle.modem_drive.proofs.running.drive_begun.Goals as goal
 
 abbrev planned : LinesView → PlanView
-planned l = record { input = l; count = 0; was_bad = false; next = []; stopping = false }
+planned l = record { input = l; count = 0; was_bad = false; waiting = replicate 62 []; stopping = false }
 
 pub returns-clause-driven : goal.returns-clause-driven
 returns-clause-driven g c =

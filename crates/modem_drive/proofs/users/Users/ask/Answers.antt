@@ -1,10 +1,10 @@
 -- Something that was asked waits for its outcome.
 use Rattle.std.proofs.Common.{ap, rules, ◌∙◌}
 use Rattle.modem_desk.specs.declared.request.Request.{Request}
-use Rattle.modem_drive.specs.Asking.{asks_of, is_command}
+use Rattle.modem_drive.specs.Asking.{submitted_on}
 use Rattle.modem_drive.specs.declared.users.Users.{Users}
-use Rattle.modem_drive.proofs.Asks.{asks_other}
-use Rattle.modem_drive.proofs.Besides.{asks_noted, no_command}
+use Rattle.modem_drive.proofs.Asks.{submitted_other}
+use Rattle.modem_drive.proofs.Besides.{asks_noted}
 use Rattle.modem_drive.proofs.users.Users.ask.Goals as goal
 
 pub returns-clause-goes : goal.returns-clause-goes
@@ -18,5 +18,6 @@ returns-clause-goes g c =
 pub returns-clause-asks : goal.returns-clause-asks
 returns-clause-asks g c =
     let r : Request = record { caller = c.args.self.now.caller.place.number; number = c.in-Ok.number; ask = c.ask.result } in
-    ap (λ (u : Users). asks_of u.caller.submitted) c.note_asked.ensures
-    ∙ asks_other c.submit.new.self.submitted c.args.self.now.caller.submitted r c.in-Ok.ensures.submitted (ap is_command c.ask.ensures ∙ no_command c.args.control)
+    λ d.
+    ap (λ (u : Users). submitted_on d u.caller.submitted) c.note_asked.ensures
+    ∙ submitted_other c.submit.new.self.submitted c.args.self.now.caller.submitted r c.args.control c.in-Ok.ensures.submitted c.ask.ensures d

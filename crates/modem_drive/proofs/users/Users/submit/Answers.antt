@@ -3,12 +3,12 @@ use Rattle.std.specs.Prelude.{◌≡◌, ℕ, ◌+◌, List, [], ◌∷◌, ◌+
 use Rattle.std.proofs.Common.{ap, arith, ◌∙◌}
 use Rattle.modem_desk.specs.declared.request.Ask.TheVariants as ask
 use Rattle.modem_drive.specs.declared.users.UnderWay.{UnderWay}
-use Rattle.modem_drive.proofs.Asks.{asks_command}
+use Rattle.modem_drive.proofs.Asks.{submitted_more}
 use Rattle.modem_drive.proofs.Lines.{submits}
 use Rattle.modem_drive.proofs.users.Users.submit.Goals as goal
 
-pub returns-in-Ok-clause-goes : goal.returns-in-Ok-clause-goes
-returns-in-Ok-clause-goes g c =
+pub returns-clause-goes : goal.returns-clause-goes
+returns-clause-goes g c =
     let line : UnderWay = record { number = c.in-Ok.number; dlci = c.args.dlci; place = c.in-Some.place } in
     let from = c.from-d.ensures in
     let number = c.number.ensures.number in
@@ -26,7 +26,8 @@ returns-in-Ok-clause-goes g c =
       };
       number = c.in-Ok.ensures.next;
       on = λ d. refl;
-      told = c.requires;
+      told = c.requires.told;
+      free = c.requires.free;
       asked = refl;
       channels = c.note_submitted.ensures;
       listeners = refl;
@@ -37,7 +38,7 @@ returns-in-Ok-clause-goes g c =
       dialect = refl;
     })
 
-pub returns-in-Ok-clause-asks : goal.returns-in-Ok-clause-asks
-returns-in-Ok-clause-asks g c =
-    asks_command c.submit.new.self.submitted c.args.self.now.caller.submitted
-    (record { caller = c.args.self.now.caller.place.number; number = c.in-Ok.number; ask = ask.Command c.args.dlci c.args.line }) c.in-Ok.ensures.submitted refl
+pub returns-clause-asks : goal.returns-clause-asks
+returns-clause-asks g c =
+    submitted_more c.submit.new.self.submitted c.args.self.now.caller.submitted
+    (record { caller = c.args.self.now.caller.place.number; number = c.in-Ok.number; ask = ask.Command c.args.dlci c.args.line }) c.in-Ok.ensures.submitted
