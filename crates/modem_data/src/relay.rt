@@ -360,6 +360,7 @@ impl Relay {
         ensures one { DriverOut self.old self.new }
         ensures some { result ≡ true → 0 < length self.new.to_line }
         ensures none { result ≡ false → (length self.old.to_line ≡ 0) × (self.old.inner.next ≡ None) }
+        ensures still { result ≡ false → self.new ≡ self.old }
     {
         deframed();
         if !self.to_line.is_empty() {

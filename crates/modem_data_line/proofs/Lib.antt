@@ -1,3 +1,4 @@
 mod Leads
 mod Asked
+mod Lost
 mod LineLaws

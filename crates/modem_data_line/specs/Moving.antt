@@ -1,5 +1,5 @@
 -- Octets between a line and its relay, the one or the other way.
-use Rattle.std.specs.Prelude.{◌≡◌, ◌≢◌, ◌⊎◌, ℕ, Bool, true, false, List, ◌++◌, length, None}
+use Rattle.std.specs.Prelude.{◌≡◌, ◌≢◌, ◌⊎◌, ℕ, ◌≤◌, ◌<◌, Bool, true, false, List, ◌++◌, length, None}
 use Rattle.serial_line.specs.Counts.{one_more}
 use Rattle.modem_data.specs.Hops.{Relay, Hop, Hops, HoldsNothing, LineIn, Handed, Wrote}
 use Rattle.modem_data_line.specs.DataLines.{DataLineState, Before, LineFits, with_taken}
@@ -22,9 +22,9 @@ Hands old new octets = Hops old new (Handed octets)
 
 -- Nothing may go to the line: where the driver has offered more than was taken, nothing of the driver's waits at the relay; else
 -- nothing at all.
-abbrev pub NothingGoes : (is_behind : Bool) → (old new : Relay) → Type 0
-NothingGoes true old new = (length old.to_line ≡ 0) × (old.inner.next ≡ None)
-NothingGoes false old new = HoldsNothing new
+abbrev pub NothingGoes : (is_behind : Bool) → Relay → Type 0
+NothingGoes true r = (length r.to_line ≡ 0) × (r.inner.next ≡ None)
+NothingGoes false r = HoldsNothing r
 
 -- the line was asked for octets: it gave some, or had none
 abbrev pub IsAsked : {X : Type 0} (received : X → List ℕ) (empty_reads : X → ℕ) → (old new : X) → Type 0
@@ -34,3 +34,12 @@ IsAsked received empty_reads old new = (received new ≢ received old) ⊎ (empt
 unfoldable pub TakesOn : {X : Type 0} (received sent : X → List ℕ) (octets : List ℕ) (old new : DataLineState X) → Type 0
 TakesOn received sent octets old new = (n1 : ℕ) (ds : List ℕ) (b : Before) (past : List Hop) → LineFits received sent n1 ds b old past
     → LineFits received sent n1 ds b new (with_taken octets past)
+
+-- a line is lost only by a call of the line itself that failed
+pub record IsLostBy {X : Type 0} (failures : X → ℕ) (old new : DataLineState X) : Type 0 where
+  pub more : failures old.line ≤ failures new.line
+  pub by_fault : new.is_lost ≡ true → (old.is_lost ≡ true) ⊎ (failures old.line < failures new.line)
+
+-- the line was offered octets: it took some, or took none and that was counted
+abbrev pub IsOffered : {X : Type 0} (sent : X → List ℕ) (stalled_writes : X → ℕ) → (old new : X) → Type 0
+IsOffered sent stalled_writes old new = (sent new ≢ sent old) ⊎ (stalled_writes new ≡ one_more (stalled_writes old))

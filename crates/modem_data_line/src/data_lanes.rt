@@ -10,7 +10,7 @@ ghost use Rattle.modem_data.specs.PipeSets.{IsNotData, OfEachPast};
 ghost use Rattle.modem_data.specs.Hops.{Hops, Passed};
 ghost use Rattle.serial_line.specs.Counts.{one_more};
 ghost use Rattle.modem_data_line.specs.DataLines.{LeadsBy, may_go};
-ghost use Rattle.modem_data_line.specs.Moving.{NothingGoes};
+ghost use Rattle.modem_data_line.specs.Moving.{IsLostBy, NothingGoes};
 
 use crate::data_line::DataLine;
 use modem_data::{DataError, Reading};
@@ -92,7 +92,8 @@ impl<L: SerialLine> DataLine<L> {
         ensures some { result ≡ true → L.sent self.new.line ≢ L.sent self.old.line }
         ensures tried { result ≡ false → self.new.is_lost ≡ false
             → (L.stalled_writes self.new.line ≡ one_more (L.stalled_writes self.old.line))
-            ⊎ NothingGoes self.old.is_behind self.old.relay self.new.relay }
+            ⊎ NothingGoes self.old.is_behind self.new.relay }
+        ensures lost { IsLostBy L.failures self.old self.new }
     {
         self.write_one()
     }

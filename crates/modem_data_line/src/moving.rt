@@ -1,9 +1,9 @@
 //! Octets between a line and its relay.
-ghost use Rattle.std.specs.Prelude.{◌≡◌, ◌≢◌, ◌⊎◌, ◌≤◌, ◌<◌, ◌++◌, [], length, take, drop, min, true, false, None, IfOk, OnOk, OnErr, nat_lt};
+ghost use Rattle.std.specs.Prelude.{◌≡◌, ◌≢◌, ◌⊎◌, ◌≤◌, ◌<◌, ◌+◌, ◌++◌, [], length, take, drop, min, true, false, None, IfOk, OnOk, OnErr, nat_lt};
 ghost use Rattle.serial_line.specs.Counts.{one_more};
 ghost use Rattle.modem_data.specs.Hops.{HoldsNothing, Hops, Took};
 ghost use Rattle.modem_data_line.specs.DataLines.{LeadsBy, TakesBy, is_of_driver, may_go, may_pass};
-ghost use Rattle.modem_data_line.specs.Moving.{WritesOn, Feeds, Hands, IsAsked, NothingGoes, TakesOn};
+ghost use Rattle.modem_data_line.specs.Moving.{WritesOn, Feeds, Hands, IsAsked, IsLostBy, IsOffered, NothingGoes, TakesOn};
 
 use crate::data_line::DataLine;
 use modem_data::Relay;
@@ -15,6 +15,8 @@ fn write<L: SerialLine>(line: &mut L, relay: &mut Relay) -> Result<usize, LineFa
     ensures wrote { OnOk result (WritesOn (L.sent line.old) (L.sent line.new) relay.old relay.new) }
     ensures none_went { OnErr result (L.sent line.new ≡ L.sent line.old) }
     ensures err { OnErr result (relay.new ≡ relay.old) }
+    ensures sound { OnOk result (L.failures line.new ≡ L.failures line.old) }
+    ensures failed { OnErr result (L.failures line.new ≡ L.failures line.old + 1) }
     ensures none_came { L.received line.new ≡ L.received line.old }
     ensures called { L.calls line.new ≡ one_more (L.calls line.old) }
     ensures no_read { L.empty_reads line.new ≡ L.empty_reads line.old }
@@ -72,7 +74,7 @@ impl<L: SerialLine> DataLine<L> {
         ensures goes { LeadsBy L.received L.sent (may_go self.old.is_behind) self.old self.new }
         ensures same { self.new ≡ record self.old { relay = self.new.relay } }
         ensures some { result ≡ true → 0 < length self.new.relay.to_line }
-        ensures none { result ≡ false → NothingGoes self.old.is_behind self.old.relay self.new.relay }
+        ensures none { result ≡ false → NothingGoes self.old.is_behind self.new.relay }
     {
         if self.is_behind {
             self.relay.ready_driver()
@@ -82,10 +84,11 @@ impl<L: SerialLine> DataLine<L> {
     }
 
     /// Writes the octets that wait, once, and says whether the line took some. Where the line fails, it is lost.
-    #[tactic(auto, using(crate::proofs::Leads::writes_once, crate::proofs::Leads::loses_at))]
+    #[tactic(auto, using(crate::proofs::Leads::writes_once, crate::proofs::Leads::loses_at, crate::proofs::Lost::lost_sound, crate::proofs::Lost::lost_fault))]
     fn write_waiting(&mut self) -> bool
         ensures goes { LeadsBy L.received L.sent is_of_driver self.old self.new }
         ensures same { self.new ≡ record self.old { line = self.new.line; relay = self.new.relay; is_lost = self.new.is_lost } }
+        ensures lost { IsLostBy L.failures self.old self.new }
         ensures called { L.calls self.new.line ≡ one_more (L.calls self.old.line) }
         ensures none_came { L.received self.new.line ≡ L.received self.old.line }
         ensures no_read { L.empty_reads self.new.line ≡ L.empty_reads self.old.line }
@@ -104,16 +107,17 @@ impl<L: SerialLine> DataLine<L> {
     }
 
     /// Writes once what may go to the line, and says whether the line took some.
-    #[tactic(auto, using(crate::proofs::Leads::leads_none, crate::proofs::Leads::then_driver))]
+    #[tactic(auto, using(crate::proofs::Leads::leads_none, crate::proofs::Leads::then_driver, crate::proofs::Lost::lost_none, crate::proofs::Lost::lost_sound, crate::proofs::Lost::lost_then))]
     pub(crate) fn write_one(&mut self) -> bool
         ensures goes { LeadsBy L.received L.sent (may_go self.old.is_behind) self.old self.new }
         ensures same { self.new ≡ record self.old { line = self.new.line; relay = self.new.relay; is_lost = self.new.is_lost } }
+        ensures lost { IsLostBy L.failures self.old self.new }
         ensures none_came { L.received self.new.line ≡ L.received self.old.line }
         ensures no_read { L.empty_reads self.new.line ≡ L.empty_reads self.old.line }
         ensures some { result ≡ true → L.sent self.new.line ≢ L.sent self.old.line }
         ensures tried { result ≡ false → self.new.is_lost ≡ false
             → (L.stalled_writes self.new.line ≡ one_more (L.stalled_writes self.old.line))
-            ⊎ NothingGoes self.old.is_behind self.old.relay self.new.relay }
+            ⊎ NothingGoes self.old.is_behind self.new.relay }
     {
         if self.is_lost {
             return false;
@@ -125,7 +129,7 @@ impl<L: SerialLine> DataLine<L> {
     }
 
     /// Reads the line once, where no octets wait for the relay. Where it fails, it is lost.
-    #[tactic(auto, using(crate::proofs::Leads::leads_none, crate::proofs::Asked::is_asked))]
+    #[tactic(auto, using(crate::proofs::Leads::leads_none, crate::proofs::Asked::is_asked, crate::proofs::Lost::lost_none, crate::proofs::Lost::lost_sound, crate::proofs::Lost::lost_fault))]
     fn read_line(&mut self)
         ensures goes { LeadsBy L.received L.sent (may_pass self.old.is_behind) self.old self.new }
         ensures same { self.new ≡ record self.old {
@@ -135,8 +139,9 @@ impl<L: SerialLine> DataLine<L> {
           is_lost = self.new.is_lost;
         } }
         ensures asked { self.old.unfed ≡ [] → (self.new.is_lost ≡ true) ⊎ IsAsked L.received L.empty_reads self.old.line self.new.line }
+        ensures lost { IsLostBy L.failures self.old self.new }
     {
-        if !self.unfed.is_empty() {
+        if self.is_lost || !self.unfed.is_empty() {
             return;
         }
         match self.unfed.read(&mut self.line) {
@@ -175,7 +180,7 @@ impl<L: SerialLine> DataLine<L> {
     }
 
     /// Where nothing waits for the driver, gives the relay octets that wait for it, or else the next ones of the line.
-    #[tactic(auto, using(crate::proofs::Leads::leads_none, crate::proofs::Leads::leads_then))]
+    #[tactic(auto, using(crate::proofs::Leads::leads_none, crate::proofs::Leads::leads_then, crate::proofs::Lost::lost_none, crate::proofs::Lost::lost_sound, crate::proofs::Lost::lost_then))]
     fn take_in(&mut self)
         ensures goes { LeadsBy L.received L.sent (may_pass self.old.is_behind) self.old self.new }
         ensures same { self.new ≡ record self.old {
@@ -188,6 +193,7 @@ impl<L: SerialLine> DataLine<L> {
             → (self.new.is_lost ≡ true) ⊎ IsAsked L.received L.empty_reads self.old.line self.new.line }
         ensures blocks { self.old.relay.to_driver ≡ [] → self.new.unfed ≢ [] → self.new.relay.outer.next ≢ None }
         ensures still { self.old.relay.to_driver ≢ [] → self.new ≡ self.old }
+        ensures lost { IsLostBy L.failures self.old self.new }
     {
         if !self.relay.for_driver().is_empty() {
             return;
@@ -198,7 +204,7 @@ impl<L: SerialLine> DataLine<L> {
 
     /// Writes once what may go to the line. Where nothing waits for the driver, octets of the line come to the relay. Then hands octets
     /// that wait to the driver.
-    #[tactic(auto, using(crate::proofs::Leads::passes_in))]
+    #[tactic(auto, using(crate::proofs::Leads::passes_in, crate::proofs::Lost::lost_sound, crate::proofs::Lost::lost_then))]
     pub(crate) fn pass_in(&mut self, room: &mut [u8]) -> usize
         ensures goes { LeadsBy L.received L.sent (may_pass self.old.is_behind) self.old self.new }
         ensures same { self.new ≡ record self.old {
@@ -214,6 +220,7 @@ impl<L: SerialLine> DataLine<L> {
         ensures asked { result ≡ 0 → 0 < length room.old → self.old.unfed ≡ []
             → (self.new.is_lost ≡ true) ⊎ IsAsked L.received L.empty_reads self.old.line self.new.line }
         ensures blocks { result ≡ 0 → 0 < length room.old → self.new.unfed ≢ [] → self.new.relay.outer.next ≢ None }
+        ensures lost { IsLostBy L.failures self.old self.new }
     {
         self.write_one();
         self.take_in();
@@ -221,7 +228,7 @@ impl<L: SerialLine> DataLine<L> {
     }
 
     /// Writes once what may go to the line of what the driver gave before, and nothing of data.
-    #[tactic(auto, using(crate::proofs::Leads::writes_first))]
+    #[tactic(auto, using(crate::proofs::Leads::writes_first, crate::proofs::Lost::offered_first, crate::proofs::Lost::lost_sound, crate::proofs::Lost::lost_then))]
     fn write_first(&mut self)
         ensures goes { LeadsBy L.received L.sent is_of_driver self.old self.new }
         ensures same { self.new ≡ record self.old {
@@ -230,6 +237,9 @@ impl<L: SerialLine> DataLine<L> {
           is_lost = self.new.is_lost;
           is_behind = true;
         } }
+        ensures lost { IsLostBy L.failures self.old self.new }
+        ensures offered { (self.new.is_lost ≡ true)
+            ⊎ (IsOffered L.sent L.stalled_writes self.old.line self.new.line ⊎ NothingGoes true self.new.relay) }
     {
         self.is_behind = true;
         self.write_one();
@@ -244,6 +254,7 @@ impl<L: SerialLine> DataLine<L> {
         ensures few { result ≤ length octets.now }
         ensures behind { self.new.is_behind ≡ nat_lt result (length octets.now) }
         ensures stuck { result ≡ 0 → 0 < length octets.now → (0 < length self.new.relay.to_line) ⊎ (self.new.relay.inner.next ≢ None) }
+        ensures none { result ≡ 0 → self.new.relay ≡ self.old.relay }
     {
         let taken = take_from(&mut self.relay, octets);
         self.sent.push(&octets[..taken]);
@@ -252,10 +263,11 @@ impl<L: SerialLine> DataLine<L> {
     }
 
     /// Writes once what may go to the line, where all that the driver offered was taken.
-    #[tactic(auto, using(crate::proofs::Leads::leads_none))]
+    #[tactic(auto, using(crate::proofs::Leads::leads_none, crate::proofs::Lost::lost_none))]
     fn write_behind(&mut self)
         ensures goes { LeadsBy L.received L.sent (may_go self.old.is_behind) self.old self.new }
         ensures same { self.new ≡ record self.old { line = self.new.line; relay = self.new.relay; is_lost = self.new.is_lost } }
+        ensures lost { IsLostBy L.failures self.old self.new }
         ensures still { self.old.is_behind ≡ true → self.new ≡ self.old }
     {
         if !self.is_behind {
@@ -264,7 +276,7 @@ impl<L: SerialLine> DataLine<L> {
     }
 
     /// Writes once what the driver gave before, takes its next octets, and says how many. Where it took all, it writes once more.
-    #[tactic(auto, using(crate::proofs::Leads::takes_by))]
+    #[tactic(auto, using(crate::proofs::Leads::takes_by, crate::proofs::Lost::lost_sound, crate::proofs::Lost::lost_then))]
     pub(crate) fn pass_out(&mut self, octets: &[u8]) -> usize
         ensures takes { TakesBy L.received L.sent (take result octets.now) self.old self.new }
         ensures same { self.new ≡ record self.old {
@@ -277,7 +289,8 @@ impl<L: SerialLine> DataLine<L> {
         ensures went { self.new.sent ≡ self.old.sent ++ take result octets.now }
         ensures few { result ≤ length octets.now }
         ensures behind { self.new.is_behind ≡ nat_lt result (length octets.now) }
-        ensures stuck { result ≡ 0 → 0 < length octets.now → (0 < length self.new.relay.to_line) ⊎ (self.new.relay.inner.next ≢ None) }
+        ensures stuck { result ≡ 0 → 0 < length octets.now → (self.new.is_lost ≡ true) ⊎ IsOffered L.sent L.stalled_writes self.old.line self.new.line }
+        ensures lost { IsLostBy L.failures self.old self.new }
     {
         self.write_first();
         let taken = self.take_octets(octets);

@@ -3,7 +3,7 @@ ghost use Rattle.std.specs.Prelude.{◌≡◌, ◌≢◌, ◌⊎◌, ◌≤◌, 
 ghost use Rattle.serial_line.specs.Counts.{one_more, counted_if_none};
 ghost use Rattle.serial_line.specs.OtherSide.{unknown_side};
 ghost use Rattle.modem_data_line.specs.DataLines.{LeadsBy, TakesBy, may_pass};
-ghost use Rattle.modem_data_line.specs.Moving.{IsAsked};
+ghost use Rattle.modem_data_line.specs.Moving.{IsAsked, IsLostBy, IsOffered};
 
 use crate::data_line::DataLine;
 use serial_line::{LineFault, SerialLine, count_if_none};
@@ -44,7 +44,7 @@ impl<L: SerialLine> SerialLine for DataLine<L> {
 
     /// Writes once what may go to the line. Where nothing waits for the driver, it takes octets of the line: those that wait, or else
     /// those of one read. Gives octets that wait for the driver, as many as fit.
-    #[tactic(auto, using(crate::proofs::Leads::counted_round, crate::proofs::Leads::counted_leads))]
+    #[tactic(auto, using(crate::proofs::Leads::counted_leads, crate::proofs::Lost::lost_sound, crate::proofs::Lost::lost_then))]
     fn try_read(&mut self, buffer: &mut [u8]) -> Result<usize, LineFault>
         ensures bound { IfOk result (λ n. n ≤ length buffer.old) }
         ensures goes { LeadsBy L.received L.sent (may_pass self.old.is_behind) self.old self.new }
@@ -65,6 +65,7 @@ impl<L: SerialLine> SerialLine for DataLine<L> {
         ensures asked { IfOk result (λ n. n ≡ 0 → 0 < length buffer.old → self.old.unfed ≡ []
             → (self.new.is_lost ≡ true) ⊎ IsAsked L.received L.empty_reads self.old.line self.new.line) }
         ensures blocks { IfOk result (λ n. n ≡ 0 → 0 < length buffer.old → self.new.unfed ≢ [] → self.new.relay.outer.next ≢ None) }
+        ensures lost { IsLostBy L.failures self.old self.new }
     {
         let has_some = !self.relay.for_driver().is_empty();
         self.begin_call(has_some)?;
@@ -75,7 +76,7 @@ impl<L: SerialLine> SerialLine for DataLine<L> {
 
     /// Writes once what may go to the line of what the driver gave before. Takes octets where none of those wait. Where it took all, it
     /// writes once more, and data may go.
-    #[tactic(auto, using(crate::proofs::Leads::counted_takes))]
+    #[tactic(auto, using(crate::proofs::Leads::counted_takes, crate::proofs::Lost::lost_sound, crate::proofs::Lost::lost_then))]
     fn try_write(&mut self, octets: &[u8]) -> Result<usize, LineFault>
         ensures bound { IfOk result (λ n. n ≤ length octets.now) }
         ensures takes { IfOk result (λ n. TakesBy L.received L.sent (take n octets.now) self.old self.new) }
@@ -93,7 +94,8 @@ impl<L: SerialLine> SerialLine for DataLine<L> {
         ensures last { OnErr result (self.old.failures < u64.MAX) }
         ensures fails { OnErr result (self.old.is_lost ≡ true) }
         ensures stuck { IfOk result (λ n. n ≡ 0 → 0 < length octets.now
-            → (0 < length self.new.relay.to_line) ⊎ (self.new.relay.inner.next ≢ None)) }
+            → (self.new.is_lost ≡ true) ⊎ IsOffered L.sent L.stalled_writes self.old.line self.new.line) }
+        ensures lost { IsLostBy L.failures self.old self.new }
     {
         self.begin_call(false)?;
         let count = self.pass_out(octets);
