@@ -261,21 +261,3 @@ pub record TakesOne (old new : TurnState) (moved : Bool) : Type 0 where
       unannounced = new.machine.unannounced;
     };
   }
-
--- Where there was no memory for a request, it is kept aside: the one that was aside, or else the one that the desk
--- gave.
-pub record KeepsAside (old new : TurnState) : Type 0 where
-  pub next : Option (Option Request)
-  pub leads : Leads old new []
-  pub taken : new.driver.taken ≡ old.driver.taken ++ request_given next
-  pub callers : list_all (λ (q : Request). nat_lt q.caller (length old.driver.desk.rings))
-      (request_given next) ≡ true
-  pub formed : AreFormed (request_given next)
-  pub asks_bare : next ≢ None → old.machine.aside ≡ None
-  pub one_aside : (new.machine.aside ≢ None)
-      × (option_to_list new.machine.aside ≡ option_to_list old.machine.aside ++ request_given next)
-  pub desk_stays : (new.driver.desk ≡ old.driver.desk)
-      × ((new.driver.told ≡ old.driver.told) × (new.driver.announced ≡ old.driver.announced))
-  pub backs_stay : (new.driver.told_back ≡ old.driver.told_back)
-      × (new.driver.announced_back ≡ old.driver.announced_back)
-  pub stays : new ≡ record old { driver = new.driver; machine = record old.machine { aside = new.machine.aside } }

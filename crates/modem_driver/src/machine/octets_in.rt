@@ -2,6 +2,7 @@
 ghost use Rattle.std.specs.Prelude.{◌≡◌, ◌≢◌, ◌<◌, ◌≤◌, [], length, take, None, is_some, OnOk, OnErr};
 ghost use Rattle.modem_driver.specs.EndpointSteps.{FeedsFrom, HandLacksRoom, HandlesFrames, TakesFrom};
 ghost use Rattle.modem_driver.specs.Endpoints.{MachineSays};
+ghost use Rattle.modem_driver.specs.GettingSteps.{HasData};
 ghost use Rattle.modem_driver.specs.declared.session.error.SessionFault.TheVariants as fault;
 
 use crate::endpoint::{Blocked, Input};
@@ -10,12 +11,12 @@ use crate::session::SessionFault;
 
 impl Machine {
     /// Handles the frames at hand, one after the other, until none is, or one lacks room for what it
-    /// calls for. Refusal: 1 NoMemory, where the frame that needed it stays at hand.
+    /// calls for. Refusal: 1 NoMemory, at data of an open connection, which stays at hand.
     #[tactic(auto, using(crate::proofs::endpoints::TakenOctets::handles_none, crate::proofs::endpoints::TakenOctets::handles_one, crate::proofs::endpoints::TakenOctets::hand_lacks))]
     pub(crate) fn handle_frames(&mut self) -> Result<(), SessionFault>
         ensures handles { HandlesFrames self.old self.new }
         ensures lacks { OnOk result (HandLacksRoom self.new) }
-        ensures at_hand { OnErr result (self.new.deframer.next ≢ None) }
+        ensures at_hand { OnErr result (HasData self.new) }
         ensures unfed { self.new.unfed ≡ self.old.unfed }
         ensures aside { self.new.aside ≡ self.old.aside }
         ensures lost { self.new.core.lost ≡ self.old.core.lost }

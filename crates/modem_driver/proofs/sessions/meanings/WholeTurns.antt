@@ -21,7 +21,7 @@ use Rattle.modem_history.proofs.calls.StatesAfterActs.{after_both}
 use Rattle.modem_driver.specs.Endings.{Begins, KeepsEnd}
 use Rattle.modem_driver.specs.SessionStates.{Machine}
 use Rattle.modem_driver.specs.SessionTurns.{HasTurned}
-use Rattle.modem_driver.specs.TurnSteps.{TurnState, StandingFits, Leads, Adds, AddsAll, Places, Writes, ReadsOn, TakesOne, KeepsAside, view_of}
+use Rattle.modem_driver.specs.TurnSteps.{TurnState, StandingFits, Leads, Adds, AddsAll, Places, Writes, ReadsOn, TakesOne, view_of}
 use Rattle.modem_driver.proofs.sessions.steps.CollectedActs.{told_both}
 use Rattle.modem_driver.proofs.sessions.steps.ListenedLines.{heard_both}
 use Rattle.modem_driver.proofs.sessions.steps.OneFrame.{few_both}
@@ -289,29 +289,6 @@ went_took s0 s1 s2 t n xs moved none same_aside w k =
       asks_bare = λ asked. sym same_aside ∙ k.asks_bare asked;
       adds = λ b past f.
           let a = adds_on t s1.machine s2.machine n 0 xs k.acts (w.adds b past f) (k.adds t.still_heard b (after past xs) (w.leads b past f)) in
-          record { outcomes = a.outcomes; lines = a.lines; may = a.may; few_got = a.few_got };
-    }
-
-pub went_aside : (s0 s1 s2 : TurnState) (t : Exchange) (n : ℕ) (xs : List Act) → t.next ≡ None → s1.machine.aside ≡ s0.machine.aside → Went s0 s1 t n xs → (k : KeepsAside s1 s2)
-    → Went s0 s2 (record t { next = k.next }) n xs
-went_aside s0 s1 s2 t n xs none same_aside w k =
-    let still = taken_still s0 s1 t n xs none w in
-    let line : s2.line ≡ s1.line = ap (λ (s : TurnState). s.line) k.stays in
-    record {
-      leads = leads_still s0 s1 s2 xs w.leads k.leads;
-      came = ap (λ (l : LineView). l.received) line ∙ w.came;
-      room = w.room;
-      went = ap (λ (l : LineView). l.sent) line ∙ w.went;
-      calls = ap (λ (l : LineView). l.calls) line ∙ w.calls;
-      taken = k.taken ∙ ap (λ (qs : List Request). qs ++ request_given k.next) still;
-      offers = offers_on s0 s1 s2 t w.offers (record { told = k.desk_stays.1.0; announced = k.desk_stays.1.1; told_back = k.backs_stay.0; announced_back = k.backs_stay.1 });
-      hands_back = record { outcomes = w.hands_back.outcomes; lines = w.hands_back.lines };
-      ended = λ end e. ap (λ (s : TurnState). s.machine.course) k.stays ∙ w.ended end e;
-      unfed = let e = ap (λ (s : TurnState). length s.machine.unfed) k.stays in let before = w.unfed in omega (arith, e, before);
-      reads_fed = w.reads_fed;
-      asks_bare = λ asked. sym same_aside ∙ k.asks_bare asked;
-      adds = λ b past f.
-          let a = adds_still t s1.machine s2.machine n xs (w.adds b past f) (ap (λ (s : TurnState). s.machine.unplaced) k.stays) (ap (λ (s : TurnState). s.machine.unannounced) k.stays) in
           record { outcomes = a.outcomes; lines = a.lines; may = a.may; few_got = a.few_got };
     }
 

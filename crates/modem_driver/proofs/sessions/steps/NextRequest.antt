@@ -3,7 +3,7 @@ use Rattle.std.proofs.Common.{ap, sym, ◌∙◌, subst, arith, inl, inr, ⊎_el
 use Rattle.std.proofs.lemmas.Bool.{and_from, and_parts}
 use Rattle.std.proofs.lemmas.List.{append-nil}
 use Rattle.std.proofs.lemmas.List.Folds.{list_all-append}
-use Rattle.std.specs.Prelude.{◌≡◌, ◌≢◌, ℕ, zero, suc, ◌+◌, ◌≤◌, ◌<◌, Bool, true, false, List, [], ◌∷◌, ◌++◌, length, map, drop, refl, option_to_list, Option, None, Some, MatchOption, is_some, Result, Ok, Err, IfOk, OnErr}
+use Rattle.std.specs.Prelude.{◌≡◌, ℕ, zero, suc, ◌+◌, ◌≤◌, ◌<◌, Bool, true, false, List, [], ◌∷◌, ◌++◌, length, map, drop, refl, option_to_list, Option, None, Some, MatchOption, is_some, Result, Ok, Err, IfOk}
 use Rattle.std.specs.List.{list_all}
 use Rattle.modem_desk.specs.declared.request.Request.{Request}
 use Rattle.modem_desk.specs.Ends.{DriverView, DeskId, RisesByOne}
@@ -17,7 +17,7 @@ use Rattle.modem_history.specs.Turns.{counted, request_given, outcomes_told, lin
 use Rattle.modem_history.proofs.law_proofs.SessionLaws.{since_more}
 use Rattle.modem_driver.specs.declared.session.error.SessionFault.{SessionFault}
 use Rattle.modem_driver.specs.SessionStates.{AreFormed, Machine, MachineGoes, seen_by, end_of}
-use Rattle.modem_driver.specs.TurnSteps.{TurnState, StandingFits, Leads, AddsAll, TakesOne, KeepsAside, turn_state}
+use Rattle.modem_driver.specs.TurnSteps.{TurnState, StandingFits, Leads, AddsAll, TakesOne, turn_state}
 use Rattle.modem_driver.specs.TurnTakes.{Fetches, TakesAside, TakesIf}
 use Rattle.modem_driver.proofs.law_proofs.RequestNumbers.{taken_once}
 use Rattle.modem_driver.proofs.sessions.steps.OutcomeCounts.{is_caller}
@@ -244,22 +244,3 @@ pub takes_one : (d e : DriverView) (old mid new : Machine) (r : Result Bool Sess
     → IfOk r (λ moved. (l : LineView) → TakesOne (turn_state l d old) (turn_state l e new) moved)
 takes_one d e old mid new (Ok moved) h t = take_two d e old mid new moved h t
 takes_one d e old mid new (Err why) h t = tt
-
-keep_two : (d e : DriverView) (old mid new : Machine) → ((l : LineView) → Fetches (turn_state l d old) (turn_state l e mid)) → new ≡ mid → mid.aside ≢ None → (l : LineView) → KeepsAside (turn_state l d old) (turn_state l e new)
-keep_two d e old mid new h same some l = subst (λ (k : Machine). KeepsAside (turn_state l d old) (turn_state l e k)) (sym same) (record {
-  next = (h l).next;
-  leads = (h l).leads;
-  taken = (h l).taken;
-  callers = (h l).callers;
-  formed = (h l).formed;
-  asks_bare = (h l).asks_bare;
-  one_aside = (some, (h l).aside);
-  desk_stays = (h l).desk_stays;
-  backs_stay = (h l).backs_stay;
-  stays = ap (turn_state l e) (h l).stays;
-})
-
-pub keeps_aside : (d e : DriverView) (old mid new : Machine) (r : Result Bool SessionFault) → ((l : LineView) → Fetches (turn_state l d old) (turn_state l e mid)) → OnErr r (new ≡ mid) → OnErr r (mid.aside ≢ None)
-    → OnErr r ((l : LineView) → KeepsAside (turn_state l d old) (turn_state l e new))
-keeps_aside d e old mid new (Ok moved) h same some = tt
-keeps_aside d e old mid new (Err why) h same some = keep_two d e old mid new h same some
