@@ -38,11 +38,6 @@ endpoint_by rules n1 kinds first = record { machine = machine_by rules n1 kinds;
 abbrev pub new_endpoint : ℕ → List UrcKind → ℕ → EndpointState
 new_endpoint n1 kinds first = endpoint_by no_rules n1 kinds first
 
--- every octet that came is with the deframer, and no request is kept aside
-pub record HasNoneAside (k : Machine) : Type 0 where
-  pub fed : k.unfed ≡ []
-  pub bare : k.aside ≡ None
-
 -- ## Which histories it fits
 
 -- a request of caller 0, with a lower number than this

@@ -47,7 +47,7 @@ impl Endpoint {
     /// more. It handles the frames at hand first. Refusals, after which nothing but the frames at hand has
     /// changed: 3 Failed where the line was lost before; 1 NoMemory, at data of an open connection,
     /// which stays at hand.
-    #[tactic(auto, using(crate::proofs::endpoints::Time::loses, crate::proofs::endpoints::Time::bare_after, crate::proofs::endpoints::Requests::refuses))]
+    #[tactic(auto, using(crate::proofs::endpoints::Time::loses, crate::proofs::endpoints::Time::fed_lost, crate::proofs::endpoints::Requests::refuses))]
     pub fn line_lost(&mut self) -> Result<(), SessionFault>
         ensures loses { OnOk result ((l : LineView) (d : DriverView) → Loses l d self.old self.new) }
         ensures gone { OnOk result (self.new.machine.core.lost ≡ true) }

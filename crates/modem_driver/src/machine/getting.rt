@@ -16,7 +16,6 @@ impl Machine {
         ensures shorter { IfOk result (λ moved. moved ≡ true
             → length self.new.deframer.undecided < length self.old.deframer.undecided) }
         ensures unfed { self.new.unfed ≡ self.old.unfed }
-        ensures aside { self.new.aside ≡ self.old.aside }
         ensures unwritten { self.new.unwritten ≡ self.old.unwritten }
         ensures lost { self.new.core.lost ≡ self.old.core.lost }
         ensures err { OnErr result (self.new ≡ self.old) }

@@ -18,7 +18,6 @@ impl Machine {
         ensures lacks { OnOk result (HandLacksRoom self.new) }
         ensures at_hand { OnErr result (HasData self.new) }
         ensures unfed { self.new.unfed ≡ self.old.unfed }
-        ensures aside { self.new.aside ≡ self.old.aside }
         ensures lost { self.new.core.lost ≡ self.old.core.lost }
         ensures no_memory { OnErr result (result ≡ Err fault.NoMemory) }
     {
@@ -41,7 +40,6 @@ impl Machine {
         ensures feeds { FeedsFrom self.old self.new (take result octets.now) }
         ensures some { self.old.deframer.next ≡ None → 0 < length octets.now → 0 < result }
         ensures unfed { self.new.unfed ≡ [] }
-        ensures aside { self.new.aside ≡ self.old.aside }
         ensures few { result ≤ length octets.now }
     {
         self.line_end.feed_from(octets)
@@ -57,7 +55,6 @@ impl Machine {
         ensures few { result.taken ≤ length octets.now }
         ensures says { MachineSays self.new (result.taken ≡ length octets.now) result.blocked }
         ensures unfed { self.new.unfed ≡ [] }
-        ensures aside { self.new.aside ≡ self.old.aside }
     {
         let mut taken = 0;
         loop {

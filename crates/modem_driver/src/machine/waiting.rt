@@ -24,8 +24,8 @@ use std::collections::VecDeque;
 use std::marker::Model;
 
 /// The outcomes that wait for a place at their callers, and the lines that wait for one at their
-/// listeners, each in their order. Requests in hand, one kept aside and outcomes that wait are
-/// together 128 at most, and for so many outcomes there is room.
+/// listeners, each in their order. Requests in hand and outcomes that wait are together 128 at most, and
+/// for so many outcomes there is room.
 #[derive(Drop)]
 pub(crate) struct Waiting {
     pub(crate) outcomes: VecDeque<Outcome>,

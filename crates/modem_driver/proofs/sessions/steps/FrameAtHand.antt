@@ -89,7 +89,7 @@ gotten old core fed room w acts f handles held keeps enough at_hand bound over b
     let fewer = fit.session.requests.few in
     record {
       fits = subst (λ (xs : List Act). FitsMachine b l d new (after past xs)) (sym same)
-          (call_fits b l d old new past more a fit (got_bare f past) here hold fit.inside.delays_are said (calls_hear s (seen s past) a) keep refl refl refl come lost received);
+          (call_fits b l d old new past more a fit (got_bare f past) here hold fit.inside.delays_are said (calls_hear s (seen s past) a) keep refl refl come lost received);
       adds = λ waiting. subst (Adds old new waiting 1) (sym same) (record {
         outcomes = keep.outcomes (omega (arith, told, fewer));
         lines = keep.lines;

@@ -59,7 +59,7 @@ wrote_driver {s1} {s2} {s3} {s4} {m2} {m3} {m4} k n w = ap (λ (s : TurnState). 
 pub read_driver : {s1 s2 s3 s4 s5 s6 : TurnState} {m2 m3 m4 m5 m6 : Bool} → Checks s1 s2 m2 → SendsOn s2 s3 m3 → Writes s3 s4 m4 → Gets s4 s5 m5 → ReadsOn s5 s6 m6 → s6.driver ≡ s1.driver
 read_driver {s1} {s2} {s3} {s4} {s5} {s6} {m2} {m3} {m4} {m5} {m6} k n w g r = ap (λ (s : TurnState). s.driver) r.stays ∙ (ap (λ (s : TurnState). s.driver) g.stays ∙ wrote_driver k n w)
 
--- a request that is taken, and one that is kept aside
+-- a request that is taken
 pub took_one : (s0 s s7 : TurnState) {m7 : Bool} → TakesMore s0.driver s.driver → TakesOne s s7 m7 → TakesMore s0.driver s7.driver
 took_one s0 s s7 {m7} before q =
     takes_then s0.driver s.driver s7.driver before (record { desk = q.desk_stays.0; more = request_given q.next; taken = q.taken; callers = q.callers; formed = q.formed })
