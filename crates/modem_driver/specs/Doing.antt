@@ -1,7 +1,8 @@
 -- What a call of the core does, and its acts, read off that.
-use Rattle.std.specs.Prelude.{◌≡◌, ℕ, ◌+◌, ◌≤◌, Bool, List, [], ◌∷◌, ◌++◌, length, map, take, drop, find, Option, Some, None, option_map}
+use Rattle.std.specs.Prelude.{◌≡◌, ℕ, ◌+◌, ◌≤◌, Bool, true, false, List, [], ◌∷◌, ◌++◌, length, map, take, drop, find, Option, Some, None, option_map}
 use Rattle.mux_frame.specs.Frames.{Frame}
 use Rattle.modem_desk.specs.declared.request.Ask.{Ask}
+use Rattle.modem_desk.specs.declared.request.Ask.TheVariants.{CloseChannel, Stop}
 use Rattle.modem_desk.specs.declared.request.Answer.{Answer}
 use Rattle.modem_desk.specs.declared.request.Request.{Request}
 use Rattle.modem_desk.specs.declared.request.Outcome.{Outcome}
@@ -61,6 +62,12 @@ pub record AsksOn (old new : Core) (was now : List Outcome) (q : Request) : Type
   pub few : length told ≤ length old.hand
   pub past : Handles old new (Took q) (taken_acts q None ++ map Told told)
   pub adds : Adds was now told
+
+-- others in hand may be told for it: it closes a connection, or all
+abbrev pub tells_others : Ask → Bool
+tells_others (CloseChannel d) = true
+tells_others Stop = true
+tells_others _ = false
 
 -- a request was taken: it is to be told this at once, or else it was taken on
 abbrev pub Asks : (old new : Core) → (was now : List Outcome) → Request → Option Answer → Type 0

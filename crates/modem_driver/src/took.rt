@@ -1,5 +1,5 @@
 //! Takes requests.
-ghost use Rattle.std.specs.Prelude.{◌≡◌, ◌∷◌, [], ◌+◌, ◌<◌, ◌≤◌, ◌++◌, length, map, false, Some, option_to_list, IfOk, IfErr, OnErr};
+ghost use Rattle.std.specs.Prelude.{◌≡◌, ◌∷◌, [], ◌+◌, ◌<◌, ◌≤◌, ◌++◌, length, map, false, true, Some, option_to_list, IfOk, IfErr, OnErr};
 ghost use Rattle.mux_frame.specs.Frames.{kept_frame};
 ghost use Rattle.modem_history.specs.Acts.{act_of, Took};
 ghost use Rattle.modem_history.specs.Calls.{asking};
@@ -11,7 +11,7 @@ ghost use Rattle.modem_history.specs.Requests.{commands_on};
 ghost use Rattle.modem_driver.specs.Offers.{refused_command, sends_on, TakesLine, OffersFirstCommand};
 ghost use Rattle.modem_driver.specs.Refusals.{refusal_answer};
 ghost use Rattle.modem_driver.specs.TakenActs.{came_to, outcome_of, taken_acts};
-ghost use Rattle.modem_driver.specs.Doing.{Asks, Takes};
+ghost use Rattle.modem_driver.specs.Doing.{Asks, Takes, tells_others};
 ghost use Rattle.std.specs.VecDeque.{deque_capacity};
 ghost use Rattle.modem_driver.specs.Cores.{Handles};
 ghost use Rattle.modem_driver.specs.Holding.{KeepsHeld};
@@ -57,6 +57,24 @@ fn asking(alloc: Global, ask: &Ask) -> Result<Option<FrameBuf>, AllocError>
         Ask::Probe(octets) => Ok(Some(message(alloc, TEST, octets.octets())?)),
         Ask::Stop => Ok(Some(message(alloc, CLD, &[])?)),
     }
+}
+
+/// Whether others in hand may be told for it.
+fn tells_others(ask: &Ask) -> bool
+    ensures { result ≡ tells_others ask.now }
+{
+    matches!(ask, Ask::CloseChannel(_) | Ask::Stop)
+}
+
+/// No outcomes, with room for those that others may be told for it.
+fn none_told_for(alloc: Global, ask: &Ask) -> Result<VecDeque<Outcome>, AllocError>
+    ensures none { IfOk result (λ told. told.items ≡ []) }
+    ensures room { IfOk result (λ told. tells_others ask.now ≡ true → 128 ≤ deque_capacity told) }
+{
+    if !tells_others(ask) {
+        return Ok(VecDeque::new(alloc));
+    }
+    none_told(alloc)
 }
 
 /// What a request came to is put behind the acts: what it is told at once, or else the frame that is sent for it.
@@ -116,11 +134,11 @@ impl Core {
         ensures none { IfOk result (λ t. t.2.items ≡ []) }
         ensures few { IfOk result (λ _. length self.now.hand ≤ 128) }
         ensures role { self.now.station.role ≡ Initiator }
-        ensures room { IfOk result (λ t. 128 ≤ deque_capacity t.2) }
+        ensures room { IfOk result (λ t. tells_others request.now.ask ≡ true → 128 ≤ deque_capacity t.2) }
     {
         let mut acts = ActList::with_room(self.alloc, 2 + self.hand.len())?;
         let sent = asking(self.alloc, &request.ask)?;
-        let outcomes = none_told(self.alloc)?;
+        let outcomes = none_told_for(self.alloc, &request.ask)?;
         acts.push(Act::Took(request.copy()?));
         Ok((acts, sent, outcomes))
     }
@@ -258,12 +276,12 @@ impl Core {
 
     /// Any request, but for what it is told at once, which this gives.
     fn ask_any(&mut self, request: Request, outcomes: &mut VecDeque<Outcome>) -> Option<Answer>
-        requires room { 128 ≤ deque_capacity outcomes.old }
+        requires room { tells_others request.ask ≡ true → 128 ≤ deque_capacity outcomes.old }
         ensures asks { Asks self.old self.new outcomes.old.items outcomes.new.items request result }
         ensures lanes { self.new.lanes ≡ self.old.lanes }
         ensures n1 { self.new.station.n1 ≡ self.old.station.n1 }
         ensures role { self.old.station.role ≡ Initiator }
-        ensures room { 128 ≤ deque_capacity outcomes.new }
+        ensures room { 128 ≤ deque_capacity outcomes.old → 128 ≤ deque_capacity outcomes.new }
     {
         if self.lost {
             return Some(Answer::LineLost);
