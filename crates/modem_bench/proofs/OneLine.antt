@@ -2,7 +2,7 @@
 use Rattle.std.proofs.Common.{◌∙◌, append_assoc, append-nil, sym, subst, ap, take-append-drop}
 use Rattle.std.proofs.Math.Seq.{take-add}
 use Rattle.std.proofs.lemmas.List.{append_cancel_left}
-use Rattle.std.specs.Prelude.{◌≡◌, ℕ, ◌+◌, true, false, List, [], ◌∷◌, ◌++◌, drop, take, option_to_list, None, min, refl}
+use Rattle.std.specs.Prelude.{◌≡◌, ℕ, ◌+◌, true, false, List, [], ◌∷◌, ◌++◌, drop, take, None, min, refl}
 use Rattle.mux_frame.specs.Laws.{AreOctets}
 use Rattle.serial_line.specs.CutLine.{CutState, after_carry, carried, other_side_of, unmoved}
 use Rattle.serial_line.specs.OtherSide.{OtherSide}
@@ -38,10 +38,6 @@ use Rattle.modem_bench.proofs.JointLists.{far_other, far_past, near_joins, near_
 formed_both : (qs rs : List Request) → AreFormed qs → AreFormed rs → AreFormed (qs ++ rs)
 formed_both [] rs h k = k
 formed_both (q ∷ qs) rs h k = (h.0, formed_both qs rs h.1 k)
-
-formed_first : (qs rs : List Request) → AreFormed (qs ++ rs) → AreFormed qs
-formed_first [] rs h = tt
-formed_first (q ∷ qs) rs h = (h.0, formed_first qs rs h.1)
 
 formed_last : (qs : List Request) (q : Request) → AreFormed (qs ++ q ∷ []) → AreFormed qs × IsFormedAsk q.ask
 formed_last [] q h = (tt, h.0)
@@ -94,10 +90,7 @@ takes_short (Given ∷ past) h = takes_short past h
 history_formed : (b : Beginning) (s : SessionState CutState) (past : List driver.Act) → FitsAll b look_in s past → TookFormed b s → AreFormed (taken_requests past)
 history_formed b s past f t =
     let r = f.session.requests in
-    let both : b.desk.taken ++ t.since ≡ b.desk.taken ++ (taken_requests past ++ option_to_list s.machine.aside) =
-    sym t.taken_are ∙ (r.taken_are ∙ append_assoc b.desk.taken (taken_requests past) (option_to_list s.machine.aside)) in
-    let own = append_cancel_left b.desk.taken t.since (taken_requests past ++ option_to_list s.machine.aside) both in
-    formed_first (taken_requests past) (option_to_list s.machine.aside) (subst AreFormed own t.formed)
+    subst AreFormed (append_cancel_left b.desk.taken t.since (taken_requests past) (sym t.taken_are ∙ r.taken_are)) t.formed
 
 took_more : (b : Beginning) (old new : SessionState CutState) → TookFormed b old → TakesMore old.driver new.driver → TookFormed b new
 took_more b old new t m = record {

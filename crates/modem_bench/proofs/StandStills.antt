@@ -1,5 +1,5 @@
 -- The polls of a bench: what each comes to, and what they come to one after the other.
-use Rattle.std.specs.Prelude.{◌≡◌, ◌≢◌, ℕ, ◌+◌, ◌<◌, ◌≤◌, ◌==◌, ◌||◌, not, nat_le, nat_lt, Bool, true, false, List, [], ◌∷◌, ◌++◌, length, refl, Option, None, Some, option_to_list, Result, Ok, Err, if◌then◌else◌}
+use Rattle.std.specs.Prelude.{◌≡◌, ℕ, ◌+◌, ◌<◌, ◌≤◌, ◌==◌, ◌||◌, not, nat_le, nat_lt, Bool, true, false, List, [], ◌∷◌, ◌++◌, length, refl, None, Some, Result, Ok, Err, if◌then◌else◌}
 use Rattle.std.specs.List.{list_any}
 use Rattle.std.proofs.Common.{ap, sym, ◌∙◌, subst, arith, eqb-true}
 use Rattle.std.proofs.lemmas.Bool.{or_parts}
@@ -8,7 +8,7 @@ use Rattle.std.proofs.lemmas.List.{append-nil, length-append}
 use Rattle.modem_desk.specs.declared.request.Request.{Request}
 use Rattle.modem_history.specs.Acts.{Act, Took, Got, Sent, Told, Heard, Tick, Lost, Held, Freed, Given, after}
 use Rattle.modem_history.specs.Sessions.{Beginning, LineView}
-use Rattle.modem_history.specs.Turns.{TurnAnswer, amount, is_mark, request_given, says_moved}
+use Rattle.modem_history.specs.Turns.{TurnAnswer, amount, is_mark, says_moved}
 use Rattle.modem_history.specs.Wholes.{taken_requests}
 use Rattle.modem_driver.specs.declared.session.ending.Ended.TheVariants.{Stopped}
 use Rattle.modem_driver.specs.declared.session.error.SessionFault.{SessionFault}
@@ -70,17 +70,9 @@ marks_take_none past (a ∷ acts) e =
     let parts = or_parts (not (is_mark a)) (list_any (λ b. not (is_mark b)) acts) e in
     marks_take_none (a ∷ past) acts parts.1 ∙ mark_takes_none a past parts.0
 
--- nothing aside before or after, and the same requests of the history: nothing was taken
-same_taken : (base olds news : List Request) (old new : List Request) (aside later : Option Request) → old ≡ base ++ olds ++ option_to_list aside → new ≡ base ++ news ++ option_to_list later
-    → aside ≡ None → later ≡ None → news ≡ olds → new ≡ old
-same_taken base olds news old new aside later was is none_was none same =
-    is ∙ (ap (λ (o : Option Request). base ++ news ++ option_to_list o) none ∙ (ap (λ (qs : List Request). base ++ qs ++ []) same
-    ∙ (sym (ap (λ (o : Option Request). base ++ olds ++ option_to_list o) none_was) ∙ sym was)))
-
-taken_so : (next : Option (Option Request)) (old new : List Request) (aside : Option Request) → new ≡ old ++ request_given next → (next ≢ None → aside ≡ None) → (aside ≡ None → new ≡ old) → new ≡ old
-taken_so None old new aside more bare same = more ∙ append-nil old
-taken_so (Some None) old new aside more bare same = more ∙ append-nil old
-taken_so (Some (Some q)) old new aside more bare same = same (bare (λ e. let x : Some (Some q) ≡ None = e in absurd (let y : Some (Some q) ≡ None = x in cc)))
+-- the same requests of the history: nothing was taken
+same_taken : (base olds news : List Request) (old new : List Request) → old ≡ base ++ olds → new ≡ base ++ news → news ≡ olds → new ≡ old
+same_taken base olds news old new was is same = is ∙ (ap (λ (qs : List Request). base ++ qs) same ∙ sym was)
 
 module _ {X : Type 0} (look : X → LineView) where
   nothing_moves : (old new : SessionState X) (says : TurnAnswer) → TakesTurn look old new says → says_moved says ≡ false → (b : Beginning) (past : List Act) → FitsAll b look old past
@@ -100,9 +92,8 @@ module _ {X : Type 0} (look : X → LineView) where
       record {
         received = same_list vo.line.received _ vn.line.received it.exchanges.came p2.0;
         sent = same_list vo.line.sent _ vn.line.sent it.exchanges.went p3.0;
-        taken = taken_so turn.exchange.next vo.desk.taken vn.desk.taken vo.aside it.exchanges.taken it.exchanges.asks_bare
-            (λ bare. same_taken b.desk.taken (taken_requests past) (taken_requests (after past turn.acts)) vo.desk.taken vn.desk.taken vo.aside vn.aside
-            fits.session.requests.taken_are later_fits.session.requests.taken_are bare it.none_aside (marks_take_none past turn.acts p1.0));
+        taken = same_taken b.desk.taken (taken_requests past) (taken_requests (after past turn.acts)) vo.desk.taken vn.desk.taken
+            fits.session.requests.taken_are later_fits.session.requests.taken_are (marks_take_none past turn.acts p1.0);
         told = not_more (amount vo.desk.told) (amount vn.desk.told) p4.0;
         announced = not_more (amount vo.desk.announced) (amount vn.desk.announced) p5.0;
       }

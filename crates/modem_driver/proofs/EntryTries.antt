@@ -1,7 +1,7 @@
 -- An entry goes on by one try, and then by others.
-use Rattle.std.specs.Prelude.{◌≡◌, ◌≢◌, ℕ, zero, suc, ◌+◌, ◌-◌, ◌^◌, ◌<◌, ◌≤◌, ◌==◌, min, Bool, true, false, List, [], ◌∷◌, ◌++◌, take, drop, length, refl, Option, None, Some, is_some, Result, Ok, Err, IfOk, OnOk, if◌then◌else◌}
+use Rattle.std.specs.Prelude.{◌≡◌, ◌≢◌, ℕ, zero, suc, ◌+◌, ◌-◌, ◌^◌, ◌<◌, ◌≤◌, ◌==◌, Bool, true, false, List, [], ◌∷◌, ◌++◌, take, drop, length, refl, Option, None, Some, is_some, Result, Ok, Err, IfOk, OnOk, if◌then◌else◌}
 use Rattle.std.proofs.Math.Seq.{take-length}
-use Rattle.std.proofs.Common.{ap, inl, inr, sym, ◌∙◌, subst, arith, rules, ⊎_elim}
+use Rattle.std.proofs.Common.{ap, inr, sym, ◌∙◌, subst, arith, rules, ⊎_elim}
 use Rattle.std.proofs.lemmas.List.{append_assoc, append-nil, take-append-drop}
 use Rattle.std.specs.List.{list_any}
 use Rattle.modem_history.specs.Acts.{Act, in_hand}

@@ -69,7 +69,6 @@ abbrev pub ending : List ℕ → List Outcome → SessionView
 ending written told = record {
   line = record { received = []; sent = entry_text ++ written; calls = 30; failures = 0; empty_reads = 0; stalled_writes = 0 };
   desk = record { taken = []; told = told ∷ [] ∷ []; announced = [] ∷ [] ∷ []; found_none = 0; told_back = 0 ∷ 0 ∷ []; announced_back = 0 ∷ 0 ∷ [] };
-  aside = None;
   unfed = [];
   deframer = record { n1 = 31; undecided = []; next = None };
   unwritten = [];

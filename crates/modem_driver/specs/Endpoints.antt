@@ -16,6 +16,7 @@ use Rattle.modem_history.specs.Calls.{is_lost}
 use Rattle.modem_history.specs.Sessions.{Beginning, LineView, gots, taken_since}
 use Rattle.modem_history.specs.Turns.{HoldsWhereRoom, may_act, may_fail}
 use Rattle.modem_history.specs.Wholes.{is_said}
+use Rattle.modem_driver.specs.GettingSteps.{HasData}
 use Rattle.modem_driver.specs.EndpointSteps.{HandLacksRoom, IsDrained, goes_out, with_received, with_sent}
 use Rattle.modem_driver.specs.SessionStates.{Machine, beginning_by, machine_by, seen_by, end_of}
 use Rattle.modem_driver.specs.TurnSteps.{StandingFits, turn_state, view_of}
@@ -36,11 +37,6 @@ endpoint_by rules n1 kinds first = record { machine = machine_by rules n1 kinds;
 -- an endpoint to which nothing has happened yet, by the standard's codes
 abbrev pub new_endpoint : ℕ → List UrcKind → ℕ → EndpointState
 new_endpoint n1 kinds first = endpoint_by no_rules n1 kinds first
-
--- every octet that came is with the deframer, and no request is kept aside
-pub record HasNoneAside (k : Machine) : Type 0 where
-  pub fed : k.unfed ≡ []
-  pub bare : k.aside ≡ None
 
 -- ## Which histories it fits
 
@@ -107,11 +103,11 @@ pub record WantsRoom (k : Machine) : Type 0 where
   pub no_room : HandLacksRoom k
 
 -- what is answered to input: nothing blocks it where all octets are taken and no frame is at hand; OutputFirst
--- where the frame at hand lacks room; NoMemory where a frame is at hand
+-- where the frame at hand lacks room; NoMemory where data of an open connection is at hand
 abbrev pub MachineSays : Machine → (all : Type 0) → Option Blocked → Type 0
 MachineSays k all None = all × (k.deframer.next ≡ None)
 MachineSays k all (Some OutputFirst) = WantsRoom k
-MachineSays k all (Some NoMemory) = k.deframer.next ≢ None
+MachineSays k all (Some NoMemory) = HasData k
 
 -- ## Requests
 

@@ -1,5 +1,5 @@
 -- What a received frame does to a core.
-use Rattle.std.specs.Prelude.{◌≡◌, ℕ, ◌&&◌, Bool, List, [], ◌∷◌, length, take, max, Option, None, Some, slice_set, if◌then◌else◌}
+use Rattle.std.specs.Prelude.{not, ◌≡◌, ℕ, ◌&&◌, Bool, List, [], ◌∷◌, length, take, max, Option, None, Some, slice_set, if◌then◌else◌}
 use Rattle.mux_frame.specs.Frames.{Frame}
 use Rattle.mux_station.specs.Written.{is_data_frame}
 use Rattle.mux_station.specs.Tables.{have_room, octets_of}
@@ -46,3 +46,7 @@ afresh_if opens d lanes = if opens then slice_set lanes d new_lane else lanes
 -- the frame is data of a connection that is open
 abbrev pub reads_data : Core → Frame → Bool
 reads_data v f = is_opened (channel_at v.station f.dlci).state && is_data_frame f
+
+-- the line isn't lost, and the frame is data of a connection that is open
+abbrev pub brings_data : Core → Frame → Bool
+brings_data v f = not v.lost && reads_data v f

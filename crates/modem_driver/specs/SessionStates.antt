@@ -25,12 +25,11 @@ use Rattle.modem_driver.specs.declared.machine.course.Course.TheVariants.{GoesOn
 
 -- ## What is kept
 
--- what a session keeps beside its line and its desk's end: the core, the request kept aside, the octets read and not
--- yet fed, the deframer, the octets, outcomes and lines that wait, whether a call on the line has failed, how far it
--- has come on the way to its end, and how long the first command of each connection has waited
+-- what a session keeps beside its line and its desk's end: the core, the octets read and not yet fed, the deframer, the
+-- octets, outcomes and lines that wait, whether a call on the line has failed, how far it has come on the way to its
+-- end, and how long the first command of each connection has waited
 pub record Machine : Type 0 where
   pub core : Core
-  pub aside : Option Request
   pub unfed : List ℕ
   pub deframer : Deframing
   pub unwritten : List ℕ
@@ -44,7 +43,6 @@ pub record Machine : Type 0 where
 abbrev pub machine_by : Rules → ℕ → List UrcKind → Machine
 machine_by rules n1 kinds = record {
   core = core_by rules n1 kinds;
-  aside = None;
   unfed = [];
   deframer = record { n1 = n1; undecided = []; next = None };
   unwritten = [];
@@ -102,7 +100,6 @@ abbrev pub seen_by : LineView → EndView → Machine → SessionView
 seen_by l e k = record {
   line = l;
   desk = e;
-  aside = k.aside;
   unfed = k.unfed;
   deframer = k.deframer;
   unwritten = k.unwritten;

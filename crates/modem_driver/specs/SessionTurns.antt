@@ -111,11 +111,10 @@ LeavesLost SessionFault.NoMemory s = Unit {0}
 LeavesLost SessionFault.Line s = has_lost_line s ≡ true
 LeavesLost SessionFault.Failed s = has_lost_line s ≡ true
 
--- after a failing call on the line: the line is lost; or there is no memory for it, and nothing changes; or
--- it was lost before
+-- after a failing call on the line: the line is lost, or it was lost before
 abbrev pub LosesOr : SessionFault → (old new : TurnState) → Type 0
 LosesOr SessionFault.Line old new = (new ≡ record old { machine = new.machine }) × MachineLoses old.machine new.machine
-LosesOr SessionFault.NoMemory old new = new ≡ old
+LosesOr SessionFault.NoMemory old new = ⊥
 LosesOr SessionFault.Failed old new = (new ≡ old) × (old.machine.core.lost ≡ true)
 
 -- ## Calls on the line

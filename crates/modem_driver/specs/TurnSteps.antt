@@ -226,8 +226,7 @@ pub record ReadsOn (old new : TurnState) (moved : Bool) : Type 0 where
 
 -- ## A request is taken
 
--- The request kept aside is taken, or else the next of the desk, where those in hand and the outcomes that wait are
--- fewer than 128.
+-- The desk's next request is taken, where those in hand and the outcomes that wait are fewer than 128.
 pub record TakesOne (old new : TurnState) (moved : Bool) : Type 0 where
   pub next : Option (Option Request)
   pub acts : List Act
@@ -238,8 +237,6 @@ pub record TakesOne (old new : TurnState) (moved : Bool) : Type 0 where
   pub callers : list_all (λ (q : Request). nat_lt q.caller (length old.driver.desk.rings))
       (request_given next) ≡ true
   pub formed : AreFormed (request_given next)
-  pub asks_bare : next ≢ None → old.machine.aside ≡ None
-  pub none_aside : new.machine.aside ≡ None
   pub still : moved ≡ false → (acts ≡ []) × (new.machine ≡ old.machine)
   pub no_request : moved ≡ false
       → (next ≡ Some None) ⊎ ((b : Beginning) (past : List Act) → StandingFits b new past
@@ -250,32 +247,13 @@ pub record TakesOne (old new : TurnState) (moved : Bool) : Type 0 where
   pub backs_stay : (new.driver.told_back ≡ old.driver.told_back)
       × (new.driver.announced_back ≡ old.driver.announced_back)
   pub asks : (b : Beginning) (past : List Act) → StandingFits b new past → next ≡ None
-      → old.machine.aside ≡ None → length (in_hand past) + length new.machine.unplaced ≡ 128
+      → length (in_hand past) + length new.machine.unplaced ≡ 128
   pub found : new.driver.found_none ≡ counted old.driver.found_none (asked_in_vain next)
   pub stays : new ≡ record old {
     driver = new.driver;
     machine = record old.machine {
       core = new.machine.core;
-      aside = None;
       unplaced = new.machine.unplaced;
       unannounced = new.machine.unannounced;
     };
   }
-
--- Where there was no memory for a request, it is kept aside: the one that was aside, or else the one that the desk
--- gave.
-pub record KeepsAside (old new : TurnState) : Type 0 where
-  pub next : Option (Option Request)
-  pub leads : Leads old new []
-  pub taken : new.driver.taken ≡ old.driver.taken ++ request_given next
-  pub callers : list_all (λ (q : Request). nat_lt q.caller (length old.driver.desk.rings))
-      (request_given next) ≡ true
-  pub formed : AreFormed (request_given next)
-  pub asks_bare : next ≢ None → old.machine.aside ≡ None
-  pub one_aside : (new.machine.aside ≢ None)
-      × (option_to_list new.machine.aside ≡ option_to_list old.machine.aside ++ request_given next)
-  pub desk_stays : (new.driver.desk ≡ old.driver.desk)
-      × ((new.driver.told ≡ old.driver.told) × (new.driver.announced ≡ old.driver.announced))
-  pub backs_stay : (new.driver.told_back ≡ old.driver.told_back)
-      × (new.driver.announced_back ≡ old.driver.announced_back)
-  pub stays : new ≡ record old { driver = new.driver; machine = record old.machine { aside = new.machine.aside } }

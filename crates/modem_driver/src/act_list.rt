@@ -1,8 +1,13 @@
 //! Acts with room for more.
-ghost use Rattle.std.specs.Prelude.{◌≡◌, ◌-◌, ◌<◌, ◌++◌, ◌∷◌, [], IfOk};
+ghost use Rattle.std.specs.Prelude.{◌≡◌, ◌-◌, ◌<◌, ◌≤◌, ◌++◌, ◌∷◌, [], length, map, IfOk};
+ghost use Rattle.std.specs.VecDeque.{deque_capacity};
+ghost use Rattle.modem_history.specs.Acts.{Told, act_of};
 
+use crate::hand::IN_HAND;
+use modem_desk::Outcome;
 use modem_history::Act;
 use std::alloc::{AllocError, Global};
+use std::collections::VecDeque;
 use std::marker::Model;
 
 /// Acts with room for so many more: to put one there takes no memory.
@@ -48,5 +53,23 @@ impl ActList {
     {
         let ActList { acts, .. } = self;
         acts
+    }
+}
+
+/// No outcomes, with room for as many as may be told by one call.
+pub(crate) fn none_told(alloc: Global) -> Result<VecDeque<Outcome>, AllocError>
+    ensures none { IfOk result (λ told. told.items ≡ []) }
+    ensures room { IfOk result (λ told. 128 ≤ deque_capacity told) }
+{
+    VecDeque::with_capacity(alloc, IN_HAND)
+}
+
+/// Puts the outcomes that were told behind the acts.
+pub(crate) fn push_told(acts: &mut ActList, told: &mut VecDeque<Outcome>)
+    requires { length told.old.items ≤ acts.old.left }
+    ensures { map act_of acts.new.acts ≡ map act_of acts.old.acts ++ map Told told.old.items }
+{
+    while let Some(outcome) = told.pop_front() {
+        acts.push(Act::Told(outcome));
     }
 }

@@ -141,10 +141,9 @@ impl Core {
         let mut acts = ActList::with_room(self.alloc, 2)?;
         acts.push(flow_act(dlci, go));
         acts.push(Act::Sent(msc));
-        if let Err(_why) = self.station.flow(dlci, go) {
+        if !self.do_flow(dlci, go) {
             return Err(CoreError::NoRoom);
         }
-        self.lanes.turn(dlci, !go);
         Ok(acts.into_vec())
     }
 }

@@ -4,16 +4,16 @@ ghost use Rattle.modem_history.specs.Acts.{Act as Happening, act_of, Lost};
 ghost use Rattle.modem_driver.specs.Endings.{asker_of, is_stop};
 ghost use Rattle.modem_driver.specs.Cores.{core_by, new_core, state_shown, Fits, Handles};
 ghost use Rattle.modem_driver.specs.Holding.{HoldsFit, KeepsHeld};
-ghost use Rattle.modem_driver.specs.Doing.{Does};
+ghost use Rattle.modem_driver.specs.Doing.{Does, QueuesAtMost};
 ghost use Rattle.std.specs.VecDeque.{deque_capacity};
 ghost use Rattle.modem_driver.specs.declared.error.CoreError.TheVariants as CoreError;
 
-use crate::act_list::ActList;
+use crate::act_list::{ActList, none_told, push_told};
 use crate::error::CoreError;
 use crate::hand::Hand;
 use crate::lanes::Lanes;
 use crate::machine::course::Asker;
-use crate::telling::{Happened, state_of, tell, tell_on};
+use crate::telling::{Happened, state_of, tell_on};
 use at_text::{Dialect, UrcKind};
 use modem_desk::{Outcome, Request};
 use modem_history::Act;
@@ -126,7 +126,6 @@ impl Core {
 
     /// The line is lost: every request in hand is told so, and nothing is sent any more. Refusal: 1
     /// NoMemory, which changes nothing.
-    #[tactic(auto, using(crate::proofs::cores::LineLoss::lost_handles))]
     pub fn lost(&mut self) -> Result<Vec<Act>, CoreError>
         ensures past { IfOk result (λ acts. Handles self.old self.new Lost (map act_of acts.items)) }
         ensures holds { IfOk result (λ acts. KeepsHeld self.old self.new Lost (map act_of acts.items)) }
@@ -136,16 +135,10 @@ impl Core {
         ensures n1 { self.new.station.n1 ≡ self.old.station.n1 }
     {
         let mut acts = ActList::with_room(self.alloc, 1 + self.hand.len())?;
+        let mut told = none_told(self.alloc)?;
+        self.do_loss(&mut told);
         acts.push(Act::Lost);
-        self.lost = true;
-        tell(
-            &mut self.hand,
-            &self.station,
-            self.lost,
-            Happened::Lost,
-            false,
-            &mut acts,
-        );
+        push_told(&mut acts, &mut told);
         Ok(acts.into_vec())
     }
 
@@ -154,6 +147,7 @@ impl Core {
     pub(crate) fn do_loss(&mut self, told: &mut VecDeque<Outcome>) -> bool
         requires { 128 ≤ deque_capacity told.old }
         ensures does { Does self.old self.new told.old.items told.new.items Lost result }
+        ensures queues { QueuesAtMost 0 0 self.old self.new Lost }
         ensures gone { self.new.lost ≡ true }
         ensures n1 { self.new.station.n1 ≡ self.old.station.n1 }
         ensures room { 128 ≤ deque_capacity told.new }

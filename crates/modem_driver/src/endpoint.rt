@@ -38,13 +38,14 @@ pub struct Endpoint {
 }
 
 impl Model for Endpoint {
-    ghost use Rattle.modem_driver.specs.Endpoints.{EndpointState, HasNoneAside};
+    ghost use Rattle.std.specs.Prelude.{◌≡◌, []};
+    ghost use Rattle.modem_driver.specs.Endpoints.{EndpointState};
 
     ghost Value = { EndpointState };
 
     ghost view = { λ e. record { machine = e.machine; next = e.next } };
 
-    ghost invariant = { λ e. HasNoneAside e.machine };
+    ghost invariant = { λ e. e.machine.unfed ≡ [] };
 }
 
 /// Why a frame at hand isn't handled yet.

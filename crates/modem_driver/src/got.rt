@@ -1,7 +1,7 @@
 //! Handles received frames (27.010, 5.4).
 ghost use Rattle.std.specs.Prelude.{List, None, ◌≡◌, ◌≢◌, ◌≤◌, ◌<◌, ◌+◌, ◌-◌, ◌++◌, ◌∷◌, ◌&&◌, ◌||◌, not, [], true, false, length, drop, map, slice_get, slice_set, position, option_map, is_some, is_none, IfOk, IfSome, IfNone, OnOk, OnErr, vec_capacity};
 ghost use Rattle.std.specs.VecDeque.{deque_capacity};
-ghost use Rattle.modem_driver.specs.Doing.{Does};
+ghost use Rattle.modem_driver.specs.Doing.{Does, QueuesAtMost};
 ghost use Rattle.mux_frame.specs.Frames.{frame_of, kept_frame};
 ghost use Rattle.mux_frame.specs.Spelling.{most_info};
 ghost use Rattle.mux_station.specs.Acts as station_acts;
@@ -20,18 +20,18 @@ ghost use Rattle.modem_driver.specs.Reports.{owner_of};
 ghost use Rattle.modem_driver.specs.Handing.{Offers, OffersLine, EndsCommand, EndedBy, ReadsApart};
 ghost use Rattle.modem_driver.specs.Forks.{joined, joined_acts};
 ghost use Rattle.at_text.specs.Forks.{lines_so_far};
-ghost use Rattle.modem_driver.specs.Receiving.{HasRoom, cut_to, sent_in, afresh_if, reads_data};
+ghost use Rattle.modem_driver.specs.Receiving.{HasRoom, answer_room, cut_to, sent_in, afresh_if, brings_data};
 ghost use Rattle.modem_driver.specs.Holding.{KeepsHeld};
 ghost use Rattle.modem_driver.specs.declared.error.CoreError.TheVariants as CoreError;
 
-use crate::act_list::ActList;
+use crate::act_list::{ActList, none_told, push_told};
 use crate::driver::Core;
 use crate::error::CoreError;
 use crate::going_out::first_line;
 use crate::hand::Hand;
 use crate::lane::Lane;
 use crate::reports::{Owner, Reading, read_octets};
-use crate::telling::{Happened, tell, tell_on};
+use crate::telling::{Happened, tell_on};
 use at_text::CommandLine;
 use modem_desk::{Ask, Outcome, Request};
 use modem_history::Act;
@@ -115,32 +115,14 @@ impl Core {
         }
     }
 
-    /// A frame after a loss of the line: it came, and nothing else.
-    fn got_lost(&self, frame: FrameView<'_>) -> Result<Vec<Act>, CoreError>
-        requires { self.now.lost ≡ true }
-        ensures past { IfOk result (λ acts.
-            Handles self.now self.now (Got (frame_of frame.entry)) (map act_of acts.items)) }
-        ensures holds { IfOk result (λ acts.
-            KeepsHeld self.now self.now (Got (frame_of frame.entry)) (map act_of acts.items)) }
-        ensures room { OnOk result (HasRoom self.now (Got (frame_of frame.entry)) true) }
-        ensures no_memory { OnErr result (result ≡ Err CoreError.NoMemory) }
-    {
-        let copy = frame.to_buf(self.alloc)?;
-        let acts = vec![in self.alloc; Act::Got(copy)]?;
-        Ok(acts)
-    }
-
-    /// A frame that isn't data of an open connection.
+    /// A frame that isn't data of an open connection, or that came after a loss of the line.
     fn got_other(&mut self, frame: FrameView<'_>) -> Result<Vec<Act>, CoreError>
         requires short { length frame.info.now ≤ most_info self.old.station.n1 frame.kind }
-        requires live { self.old.lost ≡ false }
-        requires no_data { reads_data self.old (frame_of frame) ≡ false }
+        requires no_data { brings_data self.old (frame_of frame) ≡ false }
         ensures past { IfOk result (λ acts.
             Handles self.old self.new (Got (frame_of frame.entry)) (map act_of acts.items)) }
         ensures holds { IfOk result (λ acts.
             KeepsHeld self.old self.new (Got (frame_of frame.entry)) (map act_of acts.items)) }
-        ensures first { IfOk result (λ acts.
-            map act_of acts.items ≡ Got (frame_of frame.entry) ∷ drop 1 (map act_of acts.items)) }
         ensures room { OnOk result (HasRoom self.old (Got (frame_of frame.entry)) true) }
         ensures no_room { result ≡ Err CoreError.NoRoom
             → HasRoom self.old (Got (frame_of frame.entry)) false }
@@ -149,46 +131,53 @@ impl Core {
         ensures good_n1 { result ≢ Err CoreError.BadN1 }
         ensures err { OnErr result (self.new ≡ self.old) }
         ensures n1 { self.new.station.n1 ≡ self.old.station.n1 }
-        ensures lost { self.new.lost ≡ self.old.lost }
         ensures never_full { result ≡ Err CoreError.NoRoom → ¬ CoreIsIdle self.old }
     {
-        if !self.station.has_room_for(frame) {
+        if !self.has_room_for(frame) {
             return Err(CoreError::NoRoom);
         }
         let mut acts = ActList::with_room(self.alloc, 2 + self.hand.len())?;
         let spare = Vec::with_capacity(self.alloc, frame.info.len().max(MSC_LEN))?;
+        let mut told = none_told(self.alloc)?;
         acts.push(Act::Got(frame.to_buf(self.alloc)?));
-        let before = self.station.state(Dlci::CONTROL);
         let place = self.station.queue_len();
-        let noted = take(&mut self.station, frame);
+        let Some(_answered) = self.do_other(frame, &mut told) else {
+            return Err(CoreError::NoRoom);
+        };
         push_sent(&mut self.station, place, spare, &mut acts);
-        let ended = has_ended(before, self.station.state(Dlci::CONTROL));
-        tell(
-            &mut self.hand,
-            &self.station,
-            self.lost,
-            Happened::Got(noted),
-            ended,
-            &mut acts,
-        );
-        self.start_lane(frame.dlci, opens(noted));
+        push_told(&mut acts, &mut told);
         Ok(acts.into_vec())
     }
 
-    /// A frame that isn't data of an open connection, without a copy of it. What it calls for waits in the control queue,
-    /// and what it tells behind the outcomes that wait, so it takes no memory. Says whether the Stop that was in hand
-    /// has ended by it. Gives nothing where the control queue has no room for what it calls for: nothing changes then.
+    /// Whether the control queue has room for all that the frame calls for: after a loss of the line that is nothing.
+    fn has_room_for(&self, frame: FrameView<'_>) -> bool
+        requires short { length frame.info.now ≤ most_info self.now.station.n1 frame.kind }
+        ensures room { HasRoom self.now (Got (frame_of frame.entry)) result }
+        ensures never_full { result ≡ false → ¬ CoreIsIdle self.now }
+        ensures by_station { self.now.lost ≡ false → result ≡ have_room self.now.station.n1 (octets_of self.now.station.queue)
+            (by_frame self.now.station.role (seen_in self.now.station).state (frame_of frame.entry)) }
+    {
+        if self.lost {
+            return true;
+        }
+        self.station.has_room_for(frame)
+    }
+
+    /// The same, without a copy of the frame. What it calls for waits in the control queue, and what it tells behind the
+    /// outcomes that wait, so it takes no memory. Says whether the Stop that was in hand has ended by it. Gives nothing
+    /// where the control queue has no room for what it calls for: nothing changes then.
     pub(crate) fn do_other(
         &mut self,
         frame: FrameView<'_>,
         told: &mut VecDeque<Outcome>,
     ) -> Option<bool>
         requires short { length frame.info.now ≤ most_info self.old.station.n1 frame.kind }
-        requires live { self.old.lost ≡ false }
-        requires no_data { reads_data self.old (frame_of frame) ≡ false }
+        requires no_data { brings_data self.old (frame_of frame) ≡ false }
         requires room { 128 ≤ deque_capacity told.old }
         ensures does { IfSome result (λ answered.
             Does self.old self.new told.old.items told.new.items (Got (frame_of frame.entry)) answered) }
+        ensures queues { IfSome result (λ _.
+            QueuesAtMost 1 (answer_room (frame_of frame.entry)) self.old self.new (Got (frame_of frame.entry))) }
         ensures has_room { IfSome result (λ _. HasRoom self.old (Got (frame_of frame.entry)) true) }
         ensures no_room { IfNone result (HasRoom self.old (Got (frame_of frame.entry)) false) }
         ensures stays { IfNone result (self.new ≡ self.old) }
@@ -198,8 +187,11 @@ impl Core {
         ensures never_full { IfNone result (¬ CoreIsIdle self.old) }
         ensures room { 128 ≤ deque_capacity told.new }
     {
-        if !self.station.has_room_for(frame) {
+        if !self.has_room_for(frame) {
             return None;
+        }
+        if self.lost {
+            return Some(false);
         }
         let before = self.station.state(Dlci::CONTROL);
         let noted = take(&mut self.station, frame);
@@ -301,8 +293,7 @@ impl Core {
         acts: &mut Vec<Act>,
     ) -> Result<(), CoreError>
         requires short { length frame.info.now ≤ most_info self.old.station.n1 frame.kind }
-        requires live { self.old.lost ≡ false }
-        requires is_data { reads_data self.old (frame_of frame) ≡ true }
+        requires is_data { brings_data self.old (frame_of frame) ≡ true }
         requires held { fork.old.held ≡ (lane_at self.old (frame_of frame).dlci).held }
         ensures acts { OnOk result (map act_of acts.new.items ≡ joined_acts
             (lines_so_far (lane_at self.old (frame_of frame.entry).dlci).window) fork.old.window
@@ -328,8 +319,7 @@ impl Core {
     /// Data of an open connection.
     fn got_data(&mut self, frame: FrameView<'_>) -> Result<Vec<Act>, CoreError>
         requires short { length frame.info.now ≤ most_info self.old.station.n1 frame.kind }
-        requires live { self.old.lost ≡ false }
-        requires is_data { reads_data self.old (frame_of frame) ≡ true }
+        requires is_data { brings_data self.old (frame_of frame) ≡ true }
         ensures past { IfOk result (λ acts.
             Handles self.old self.new (Got (frame_of frame.entry)) (map act_of acts.items)) }
         ensures holds { IfOk result (λ acts.
@@ -347,16 +337,19 @@ impl Core {
         Ok(acts)
     }
 
-    /// The same without the first act, which is that the frame came, by a lane that is there to be its fork.
-    fn follow_data(&mut self, frame: FrameView<'_>, fork: &mut Lane) -> Result<Vec<Act>, CoreError>
+    /// Data of an open connection, without the first act, which is that the frame came, by a lane that is there to be its
+    /// fork. It makes no copy of the frame. Refusal: 1 NoMemory, which changes nothing.
+    pub(crate) fn follow(
+        &mut self,
+        frame: FrameView<'_>,
+        fork: &mut Lane,
+    ) -> Result<Vec<Act>, CoreError>
         requires short { length frame.info.now ≤ most_info self.old.station.n1 frame.kind }
-        requires live { self.old.lost ≡ false }
-        requires is_data { reads_data self.old (frame_of frame) ≡ true }
+        requires is_data { brings_data self.old (frame_of frame) ≡ true }
         ensures past { IfOk result (λ acts. Handles self.old self.new (Got (frame_of frame.entry))
             (Got (frame_of frame.entry) ∷ map act_of acts.items)) }
         ensures holds { IfOk result (λ acts. KeepsHeld self.old self.new (Got (frame_of frame.entry))
             (Got (frame_of frame.entry) ∷ map act_of acts.items)) }
-        ensures room { OnOk result (HasRoom self.old (Got (frame_of frame.entry)) true) }
         ensures no_memory { OnErr result (result ≡ Err CoreError.NoMemory) }
         ensures err { OnErr result (self.new ≡ self.old) }
         ensures n1 { self.new.station.n1 ≡ self.old.station.n1 }
@@ -368,20 +361,23 @@ impl Core {
         Ok(acts)
     }
 
-    /// Whether the frame is data of an open connection.
-    fn is_data(&self, frame: FrameView<'_>) -> bool
-        ensures { result ≡ reads_data self.now (frame_of frame.entry) }
+    /// Whether the frame is data of an open connection, and the line isn't lost.
+    fn brings_data(&self, frame: FrameView<'_>) -> bool
+        ensures { result ≡ brings_data self.now (frame_of frame.entry) }
     {
-        frame.kind == Kind::Uih
+        !self.lost
+            && frame.kind == Kind::Uih
             && frame.dlci.number() != 0
             && is_opened(self.station.state(frame.dlci))
     }
 
-    /// Whether the line isn't lost, and the frame is no data of an open connection.
-    pub(crate) fn is_other(&self, frame: FrameView<'_>) -> bool
-        ensures { result ≡ not (self.now.lost || reads_data self.now (frame_of frame.entry)) }
+    /// The same. Such a frame calls for no other, so there is room for what it calls for.
+    pub(crate) fn is_data(&self, frame: FrameView<'_>) -> bool
+        ensures value { result ≡ brings_data self.now (frame_of frame.entry) }
+        ensures room { result ≡ true → HasRoom self.now (Got (frame_of frame.entry)) true }
     {
-        !(self.lost || self.is_data(frame))
+        let _ = &self.lanes;
+        self.brings_data(frame)
     }
 
     /// Handles a received frame. Requires that its information is at most N1 octets, and empty in a kind other than
@@ -403,47 +399,11 @@ impl Core {
         ensures n1 { self.new.station.n1 ≡ self.old.station.n1 }
         ensures never_full { result ≡ Err CoreError.NoRoom → ¬ CoreIsIdle self.old }
     {
-        if self.lost {
-            self.got_lost(frame)
-        } else if self.is_data(frame) {
+        if self.is_data(frame) {
             self.got_data(frame)
         } else {
             self.got_other(frame)
         }
-    }
-
-    /// Handles a received frame as `got` does, and gives the acts of `got` but for the first, the frame's coming. It
-    /// makes no copy of the frame, and reads data on a lane that is kept for it. Refusals as those of `got`.
-    pub(crate) fn follow(
-        &mut self,
-        frame: FrameView<'_>,
-        fork: &mut Lane,
-    ) -> Result<Vec<Act>, CoreError>
-        requires { length frame.info.now ≤ most_info self.old.station.n1 frame.kind }
-        ensures past { IfOk result (λ acts. Handles self.old self.new (Got (frame_of frame.entry))
-            (Got (frame_of frame.entry) ∷ map act_of acts.items)) }
-        ensures holds { IfOk result (λ acts. KeepsHeld self.old self.new (Got (frame_of frame.entry))
-            (Got (frame_of frame.entry) ∷ map act_of acts.items)) }
-        ensures room { OnOk result (HasRoom self.old (Got (frame_of frame.entry)) true) }
-        ensures no_room { result ≡ Err CoreError.NoRoom
-            → HasRoom self.old (Got (frame_of frame.entry)) false }
-        ensures no_memory { result ≡ Err CoreError.NoMemory
-            → HasRoom self.old (Got (frame_of frame.entry)) true }
-        ensures good_n1 { result ≢ Err CoreError.BadN1 }
-        ensures err { OnErr result (self.new ≡ self.old) }
-        ensures n1 { self.new.station.n1 ≡ self.old.station.n1 }
-        ensures lost { self.new.lost ≡ self.old.lost }
-        ensures never_full { result ≡ Err CoreError.NoRoom → ¬ CoreIsIdle self.old }
-    {
-        if self.lost {
-            return Ok(Vec::new(self.alloc));
-        }
-        if self.is_data(frame) {
-            return self.follow_data(frame, fork);
-        }
-        let mut acts = self.got_other(frame)?;
-        acts.remove(0);
-        Ok(acts)
     }
 }
 

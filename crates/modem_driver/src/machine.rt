@@ -38,14 +38,13 @@ use mux_frame::Dlci;
 use std::alloc::Global;
 use std::marker::Model;
 
-/// The core, a request kept aside, the end of the line, what waits for a place at the desk, how far it has
-/// come on the way to its end, and how long commands have waited. Beside them a lane on which data is read: contracts
-/// don't see it, since what is left there is of no use.
+/// The core, the end of the line, what waits for a place at the desk, how far it has come on the way to its end, and how
+/// long commands have waited. Beside them a lane on which data is read: contracts don't see it, since what is left there
+/// is of no use.
 #[derive(Drop)]
 pub(crate) struct Machine {
     pub(crate) core: Core,
     pub(crate) fork: Lane,
-    pub(crate) aside: Option<Request>,
     pub(crate) line_end: LineEnd,
     pub(crate) waiting: Waiting,
     pub(crate) course: Course,
@@ -60,7 +59,6 @@ impl Model for Machine {
 
     ghost view = { λ k. record {
       core = k.core;
-      aside = k.aside;
       unfed = k.line_end.unfed;
       deframer = k.line_end.deframer;
       unwritten = k.line_end.unwritten;
@@ -111,7 +109,6 @@ impl Machine {
         Ok(Machine {
             core,
             fork: Lane::new(alloc),
-            aside: None,
             line_end,
             waiting,
             course: Course::GoesOn,
@@ -123,7 +120,6 @@ impl Machine {
     pub(crate) fn tick(&mut self) -> Result<(), SessionFault>
         ensures ticks { OnOk result (MachineTicks self.old self.new) }
         ensures unfed { self.new.unfed ≡ self.old.unfed }
-        ensures aside { self.new.aside ≡ self.old.aside }
         ensures ended { KeepsEnd self.old.course self.new.course }
         ensures err { OnErr result (self.new ≡ self.old) }
         ensures failed { (result ≡ Err fault.Failed) ↔ (self.old.core.lost ≡ true) }
@@ -150,24 +146,14 @@ impl Machine {
         self.lose_line();
     }
 
-    /// The requests in hand, and then the one kept aside; the outcomes and the lines that wait. There
-    /// is room for the one kept aside where fewer than 128 are in hand.
+    /// The requests in hand; the outcomes and the lines that wait.
     pub(crate) fn into_lists(self) -> (Vec<Request>, Vec<Outcome>, Vec<Urc>)
-        ensures hand { length self.core.hand + length (option_to_list self.aside) ≤ 128
-            → result.0.items ≡ self.core.hand ++ option_to_list self.aside }
+        ensures hand { result.0.items ≡ self.core.hand }
         ensures outcomes { result.1.items ≡ self.unplaced }
         ensures lines { result.2.items ≡ self.unannounced }
     {
-        let Machine {
-            core,
-            aside,
-            waiting,
-            ..
-        } = self;
-        let mut in_hand = core.into_hand();
-        if let Some(request) = aside {
-            let _ = in_hand.push(request);
-        }
+        let Machine { core, waiting, .. } = self;
+        let in_hand = core.into_hand();
         let (unplaced, unannounced) = waiting.into_lists();
         (in_hand, unplaced, unannounced)
     }

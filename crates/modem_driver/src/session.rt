@@ -53,8 +53,8 @@ impl<L: SerialLine, R: Wait + Drop> Model for Session<L, R> {
     ghost view = { λ s. record { line = s.line; driver = s.driver; machine = s.machine } };
 }
 
-/// What an ended session leaves: its line, its desk's end, the requests taken and not told, in order, with the one kept
-/// aside last, and the outcomes and lines that still waited for a place.
+/// What an ended session leaves: its line, its desk's end, the requests taken and not told, in order, and the outcomes and
+/// lines that still waited for a place.
 #[derive(Drop)]
 pub struct Finished<L: SerialLine> {
     pub line: L,
@@ -172,7 +172,7 @@ impl<L: SerialLine, R: Wait + Drop> Session<L, R> {
     }
 
     /// The line, the desk's end and what is left, without taking memory: the requests that were taken
-    /// and not told, in order, and then the one kept aside; and all outcomes and lines that wait.
+    /// and not told, in order, and all outcomes and lines that wait.
     pub fn finish(self) -> Finished<L>
         ensures left { SessionEnds (line_by L.received L.sent L.calls L.failures L.empty_reads L.stalled_writes) self (record {
           line = line_by L.received L.sent L.calls L.failures L.empty_reads L.stalled_writes result.line;

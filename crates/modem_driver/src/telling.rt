@@ -7,11 +7,9 @@ ghost use Rattle.modem_driver.specs.Endings.{asker_of, is_answered, is_stop};
 ghost use Rattle.modem_driver.specs.Telling.{why_shut, probe_happened, stop_outcome, told_by, told_to, left_by};
 ghost use Rattle.modem_driver.specs.Cores.{state_shown};
 
-use crate::act_list::ActList;
 use crate::hand::Hand;
 use crate::machine::course::Asker;
 use modem_desk::{Answer, Ask, Outcome};
-use modem_history::Act;
 use mux_frame::Dlci;
 use mux_station::{ChannelState, Noted, Station};
 use std::collections::VecDeque;
@@ -105,38 +103,6 @@ pub(crate) fn told_by(
             ChannelState::Stopping => None,
             _ => Some(happened.stop_ended()),
         },
-    }
-}
-
-/// Tells each request in hand what it is told by now, in the order taken. The others stay.
-#[tactic(auto, using(crate::proofs::requests::ToldRequests::begins, crate::proofs::requests::ToldRequests::waits_on, crate::proofs::requests::ToldRequests::told_on))]
-pub(crate) fn tell(
-    hand: &mut Hand,
-    station: &Station,
-    lost: bool,
-    happened: Happened,
-    ended: bool,
-    acts: &mut ActList,
-)
-    requires { length hand.old ≤ acts.old.left }
-    ensures hand { hand.new
-        ≡ left_by (told_by happened ended (λ d. state_shown station.now lost d)) hand.old }
-    ensures acts { acts.new.acts
-        ≡ acts.old.acts ++ told_to (told_by happened ended (λ d. state_shown station.now lost d)) hand.old }
-{
-    let mut place = 0;
-    while place < hand.len() {
-        match told_by(station, lost, happened, ended, &hand.as_slice()[place].ask) {
-            Some(answer) => {
-                let asked = hand.remove(place);
-                acts.push(Act::Told(Outcome {
-                    caller: asked.caller,
-                    number: asked.number,
-                    answer,
-                }));
-            }
-            None => place += 1,
-        }
     }
 }
 

@@ -9,14 +9,14 @@ ghost use Rattle.mux_station.specs.Stations.{channel_at};
 ghost use Rattle.modem_history.specs.Acts.{Sent, Tick, act_of};
 ghost use Rattle.modem_driver.specs.Ticked.{bared, queued_from, shown_asking, asking_from, is_probe_given};
 ghost use Rattle.modem_driver.specs.Cores.{Handles};
-ghost use Rattle.modem_driver.specs.Doing.{Does};
+ghost use Rattle.modem_driver.specs.Doing.{Does, QueuesAtMost};
 ghost use Rattle.modem_driver.specs.Holding.{KeepsHeld};
 ghost use Rattle.modem_driver.specs.declared.error.CoreError.TheVariants as CoreError;
 
-use crate::act_list::ActList;
+use crate::act_list::{ActList, none_told, push_told};
 use crate::driver::Core;
 use crate::error::CoreError;
-use crate::telling::{Happened, tell, tell_on};
+use crate::telling::{Happened, tell_on};
 use modem_desk::Outcome;
 use modem_history::Act;
 use mux_frame::{Dlci, FrameBuf, Info};
@@ -36,24 +36,15 @@ impl Core {
     {
         let most = count_asking(&self.station);
         let mut acts = ActList::with_room(self.alloc, 1 + most + self.hand.len())?;
+        let mut told = none_told(self.alloc)?;
         acts.push(Act::Tick);
         if self.lost {
             return Ok(acts.into_vec());
         }
-        let ran = is_running(&self.station);
         let place = self.station.queue_len();
-        let noticed = self.station.tick();
+        self.do_tick(&mut told);
         push_queued(self.alloc, &mut self.station, place, most, &mut acts);
-        let ended = ran && !is_running(&self.station);
-        let happened = Happened::Tick(has_probe(noticed.as_slice()));
-        tell(
-            &mut self.hand,
-            &self.station,
-            false,
-            happened,
-            ended,
-            &mut acts,
-        );
+        push_told(&mut acts, &mut told);
         Ok(acts.into_vec())
     }
 
@@ -63,6 +54,7 @@ impl Core {
         requires live { self.old.lost ≡ false }
         requires room { 128 ≤ deque_capacity told.old }
         ensures does { Does self.old self.new told.old.items told.new.items Tick result }
+        ensures queues { QueuesAtMost (asking_from self.old.station 0 62) 0 self.old self.new Tick }
         ensures n1 { self.new.station.n1 ≡ self.old.station.n1 }
         ensures room { 128 ≤ deque_capacity told.new }
     {

@@ -1,36 +1,37 @@
 //! Takes requests.
-ghost use Rattle.std.specs.Prelude.{◌≡◌, ◌∷◌, [], ◌<◌, ◌≤◌, ◌++◌, length, map, false, Some, IfOk, IfErr, OnErr};
+ghost use Rattle.std.specs.Prelude.{◌≡◌, ◌∷◌, [], ◌+◌, ◌<◌, ◌≤◌, ◌++◌, length, map, false, true, Some, option_to_list, IfOk, IfErr, OnErr};
+ghost use Rattle.mux_frame.specs.Frames.{kept_frame};
 ghost use Rattle.modem_history.specs.Acts.{act_of, Took};
+ghost use Rattle.modem_history.specs.Calls.{asking};
 ghost use Rattle.std.specs.List.{list_any};
 ghost use Rattle.mux_station.specs.Stations.{setting_of};
 ghost use Rattle.mux_station.specs.declared.role.Role.TheVariants.{Initiator};
 ghost use Rattle.modem_history.specs.Information.{command_on, line_in, line_of};
 ghost use Rattle.modem_history.specs.Requests.{commands_on};
 ghost use Rattle.modem_driver.specs.Offers.{refused_command, sends_on, TakesLine, OffersFirstCommand};
-ghost use Rattle.modem_driver.specs.Refusals.{refusal_answer, told_act};
-ghost use Rattle.modem_driver.specs.TakenActs.{taken_acts};
-ghost use Rattle.modem_driver.specs.Doing.{Asks, Takes};
+ghost use Rattle.modem_driver.specs.Refusals.{refusal_answer};
+ghost use Rattle.modem_driver.specs.TakenActs.{came_to, outcome_of, taken_acts};
+ghost use Rattle.modem_driver.specs.Doing.{Asks, Takes, tells_others};
 ghost use Rattle.std.specs.VecDeque.{deque_capacity};
-ghost use Rattle.modem_driver.specs.Telling.{told_by, told_to, left_by};
-ghost use Rattle.modem_driver.specs.Cores.{state_shown, Handles};
+ghost use Rattle.modem_driver.specs.Cores.{Handles};
 ghost use Rattle.modem_driver.specs.Holding.{KeepsHeld};
-ghost use Rattle.modem_driver.specs.declared.telling.Happened.TheVariants as happened;
 ghost use Rattle.modem_history.specs.declared.act.Act.TheVariants as act;
 ghost use Rattle.modem_driver.specs.declared.error.CoreError.TheVariants as CoreError;
 ghost use Rattle.modem_desk.specs.declared.request.Ask.TheVariants as Ask;
 
-use crate::act_list::ActList;
+use crate::act_list::{ActList, none_told, push_told};
 use crate::driver::Core;
 use crate::error::CoreError;
 use crate::hand::Hand;
-use crate::telling::{Happened, put_told, tell, tell_on};
+use crate::machine::course::Asker;
+use crate::telling::{Happened, put_told, tell_on};
 use crate::written::{bare, message};
 use modem_desk::{Answer, Ask, Outcome, Request};
 use modem_history::Act;
-use mux_frame::{Dlci, Kind, ProbeData};
+use mux_frame::{Dlci, FrameBuf, Kind, ProbeData};
 use mux_station::written::{CLD, TEST};
 use mux_station::{ChannelState, Station, StationError};
-use std::alloc::Global;
+use std::alloc::{AllocError, Global};
 use std::collections::VecDeque;
 
 /// What a request is told that the station refuses: want of room is Busy.
@@ -45,58 +46,59 @@ fn answer_of(why: StationError) -> Answer
     }
 }
 
-fn told(request: &Request, answer: Answer) -> Act
-    ensures { result ≡ told_act request.now answer }
+/// The frame by which a request is asked for. A command has none.
+fn asking(alloc: Global, ask: &Ask) -> Result<Option<FrameBuf>, AllocError>
+    ensures { IfOk result (λ frame. map kept_frame (option_to_list frame) ≡ asking Initiator ask.now) }
 {
-    Act::Told(Outcome {
-        caller: request.caller,
-        number: request.number,
-        answer,
-    })
+    match ask {
+        Ask::OpenChannel(dlci) => Ok(Some(bare(alloc, Kind::Sabm, *dlci))),
+        Ask::CloseChannel(dlci) => Ok(Some(bare(alloc, Kind::Disc, *dlci))),
+        Ask::Command(..) => Ok(None),
+        Ask::Probe(octets) => Ok(Some(message(alloc, TEST, octets.octets())?)),
+        Ask::Stop => Ok(Some(message(alloc, CLD, &[])?)),
+    }
 }
 
-/// The acts of a request, with room for `more` acts, and a copy of the request.
-fn begin(
-    alloc: Global,
-    request: Request,
-    more: usize,
-) -> Result<(ActList, Request), (CoreError, Request)>
-    requires { more < 1000 }
-    ensures acts { IfOk result (λ t. t.0 ≡ record { acts = act.Took request ∷ []; left = more }) }
-    ensures copy { IfOk result (λ t. t.1 ≡ request) }
-    ensures no_memory { IfErr result (λ e. e.0 ≡ CoreError.NoMemory) }
-    ensures back { IfErr result (λ e. e.1 ≡ request) }
+/// Whether others in hand may be told for it.
+fn tells_others(ask: &Ask) -> bool
+    ensures { result ≡ tells_others ask.now }
 {
-    let Ok(mut acts) = ActList::with_room(alloc, more + 1) else {
-        return Err((CoreError::NoMemory, request));
-    };
-    let Ok(copy) = request.copy() else {
-        return Err((CoreError::NoMemory, request));
-    };
-    acts.push(Act::Took(request));
-    Ok((acts, copy))
+    matches!(ask, Ask::CloseChannel(_) | Ask::Stop)
 }
 
-/// A request that is told at once, whatever it asks.
-fn tell_once(
-    alloc: Global,
-    request: Request,
-    answer: Answer,
-) -> Result<Vec<Act>, (CoreError, Request)>
-    ensures acts { IfOk result (λ acts. acts.items ≡ act.Took request ∷ told_act request answer ∷ []) }
-    ensures no_memory { IfErr result (λ e. e.0 ≡ CoreError.NoMemory) }
-    ensures back { IfErr result (λ e. e.1 ≡ request) }
+/// No outcomes, with room for those that others may be told for it.
+fn none_told_for(alloc: Global, ask: &Ask) -> Result<VecDeque<Outcome>, AllocError>
+    ensures none { IfOk result (λ told. told.items ≡ []) }
+    ensures room { IfOk result (λ told. tells_others ask.now ≡ true → 128 ≤ deque_capacity told) }
 {
-    let (mut acts, copy) = begin(alloc, request, 1)?;
-    acts.push(told(&copy, answer));
-    Ok(acts.into_vec())
+    if !tells_others(ask) {
+        return Ok(VecDeque::new(alloc));
+    }
+    none_told(alloc)
+}
+
+/// What a request came to is put behind the acts: what it is told at once, or else the frame that is sent for it.
+fn push_came(acts: &mut ActList, asker: Asker, told: Option<Answer>, sent: Option<FrameBuf>)
+    requires { 0 < acts.old.left }
+    ensures acts { map act_of acts.new.acts ≡ map act_of acts.old.acts
+        ++ came_to (outcome_of asker.caller asker.number told) (map kept_frame (option_to_list sent)) }
+    ensures left { acts.old.left ≤ acts.new.left + 1 }
+{
+    match (told, sent) {
+        (Some(answer), _) => acts.push(Act::Told(Outcome {
+            caller: asker.caller,
+            number: asker.number,
+            answer,
+        })),
+        (None, Some(frame)) => acts.push(Act::Sent(frame)),
+        (None, None) => {}
+    }
 }
 
 impl Core {
     /// Takes a request, which is told its outcome at once or is in hand from then on. After a loss of the line it is
     /// told LineLost; while 128 requests are in hand, Busy. Refusal: 1 NoMemory, which changes nothing and hands the
     /// request back. NoMemory may come after a loss too, since two acts have to be kept.
-    #[tactic(auto, using(crate::proofs::holds::OtherCalls::keeps_took))]
     pub fn took(&mut self, request: Request) -> Result<Vec<Act>, (CoreError, Request)>
         ensures past { IfOk result (λ acts.
             Handles self.old self.new (Took request) (map act_of acts.items)) }
@@ -108,48 +110,41 @@ impl Core {
         ensures n1 { self.new.station.n1 ≡ self.old.station.n1 }
         ensures role { self.old.station.role ≡ Initiator }
     {
-        if self.lost {
-            return tell_once(self.alloc, request, Answer::LineLost);
-        }
-        if self.hand.is_full() {
-            return tell_once(self.alloc, request, Answer::Busy);
-        }
-        match &request.ask {
-            Ask::OpenChannel(dlci) => {
-                let dlci = *dlci;
-                self.take_open(dlci, request)
-            }
-            Ask::CloseChannel(dlci) => {
-                let dlci = *dlci;
-                self.take_close(dlci, request)
-            }
-            Ask::Command(dlci, _) => {
-                let dlci = *dlci;
-                self.take_command(dlci, request)
-            }
-            Ask::Probe(octets) => {
-                let echo = ProbeData::new(octets.octets()).unwrap();
-                self.take_probe(echo, request)
-            }
-            Ask::Stop => self.take_stop(request),
-        }
-    }
-
-    /// The connection of a command that goes into hand and isn't told at once.
-    pub(crate) fn sends_on(&self, ask: &Ask) -> Option<Dlci>
-        ensures { result ≡ sends_on self.now ask.now }
-    {
-        let Ask::Command(dlci, _) = ask else {
-            return None;
+        let Ok((mut acts, sent, mut outcomes)) = self.begin(&request) else {
+            return Err((CoreError::NoMemory, request));
         };
-        if self.lost || self.hand.is_full() || refuses_command(&self.station, *dlci).is_some() {
-            return None;
-        }
-        Some(*dlci)
+        let asker = Asker {
+            caller: request.caller,
+            number: request.number,
+        };
+        let told = self.ask_any(request, &mut outcomes);
+        push_came(&mut acts, asker, told, sent);
+        push_told(&mut acts, &mut outcomes);
+        Ok(acts.into_vec())
     }
 
-    /// Takes such a command into hand, and into the send ring where no other of its connection is in hand. It takes no
-    /// memory.
+    /// Memory for all that comes of a request: its acts, of which the first is that it was taken; the frame by which it
+    /// is asked for; and the outcomes that others are told.
+    fn begin(
+        &self,
+        request: &Request,
+    ) -> Result<(ActList, Option<FrameBuf>, VecDeque<Outcome>), AllocError>
+        ensures acts { IfOk result (λ t. t.0 ≡ record { acts = act.Took request.now ∷ []; left = 1 + length self.now.hand }) }
+        ensures sent { IfOk result (λ t. map kept_frame (option_to_list t.1) ≡ asking Initiator request.now.ask) }
+        ensures none { IfOk result (λ t. t.2.items ≡ []) }
+        ensures few { IfOk result (λ _. length self.now.hand ≤ 128) }
+        ensures role { self.now.station.role ≡ Initiator }
+        ensures room { IfOk result (λ t. tells_others request.now.ask ≡ true → 128 ≤ deque_capacity t.2) }
+    {
+        let mut acts = ActList::with_room(self.alloc, 2 + self.hand.len())?;
+        let sent = asking(self.alloc, &request.ask)?;
+        let outcomes = none_told_for(self.alloc, &request.ask)?;
+        acts.push(Act::Took(request.copy()?));
+        Ok((acts, sent, outcomes))
+    }
+
+    /// Takes a command, which isn't told at once, into hand, and into the send ring where no other of its connection is in
+    /// hand. It takes no memory.
     pub(crate) fn send(&mut self, dlci: Dlci, request: Request)
         requires { sends_on self.old request.ask ≡ Some dlci }
         ensures past { Handles self.old self.new (Took request) (Took request ∷ []) }
@@ -230,108 +225,6 @@ impl Core {
         None
     }
 
-    /// A connection is to be opened.
-    fn take_open(&mut self, dlci: Dlci, request: Request) -> Result<Vec<Act>, (CoreError, Request)>
-        requires ask { request.ask ≡ Ask.OpenChannel dlci }
-        requires live { self.old.lost ≡ false }
-        requires few { length self.old.hand < 128 }
-        ensures past { IfOk result (λ acts.
-            Handles self.old self.new (Took request) (map act_of acts.items)) }
-        ensures lanes { self.new.lanes ≡ self.old.lanes }
-        ensures err { OnErr result (self.new ≡ self.old) }
-        ensures no_memory { IfErr result (λ e. e.0 ≡ CoreError.NoMemory) }
-        ensures back { IfErr result (λ e. e.1 ≡ request) }
-        ensures n1 { self.new.station.n1 ≡ self.old.station.n1 }
-    {
-        let (mut acts, copy) = begin(self.alloc, request, 1)?;
-        if let Err(why) = self.station.open(dlci) {
-            acts.push(told(&copy, answer_of(why)));
-            return Ok(acts.into_vec());
-        }
-        acts.push(Act::Sent(bare(self.alloc, Kind::Sabm, dlci)));
-        self.hand.push(copy);
-        Ok(acts.into_vec())
-    }
-    /// A connection is to be closed: its commands are told so.
-    fn take_close(&mut self, dlci: Dlci, request: Request) -> Result<Vec<Act>, (CoreError, Request)>
-        requires ask { request.ask ≡ Ask.CloseChannel dlci }
-        requires live { self.old.lost ≡ false }
-        requires few { length self.old.hand < 128 }
-        ensures past { IfOk result (λ acts.
-            Handles self.old self.new (Took request) (map act_of acts.items)) }
-        ensures lanes { self.new.lanes ≡ self.old.lanes }
-        ensures err { OnErr result (self.new ≡ self.old) }
-        ensures no_memory { IfErr result (λ e. e.0 ≡ CoreError.NoMemory) }
-        ensures back { IfErr result (λ e. e.1 ≡ request) }
-        ensures n1 { self.new.station.n1 ≡ self.old.station.n1 }
-    {
-        let (mut acts, copy) = begin(self.alloc, request, 1 + self.hand.len())?;
-        if let Err(why) = self.station.close(dlci) {
-            acts.push(told(&copy, answer_of(why)));
-            return Ok(acts.into_vec());
-        }
-        acts.push(Act::Sent(bare(self.alloc, Kind::Disc, dlci)));
-        tell_taken(&mut self.hand, &self.station, false, &mut acts);
-        self.hand.push(copy);
-        Ok(acts.into_vec())
-    }
-
-    /// A command is to be sent: it enters the send ring where no other of its connection is in hand.
-    fn take_command(
-        &mut self,
-        dlci: Dlci,
-        request: Request,
-    ) -> Result<Vec<Act>, (CoreError, Request)>
-        requires ask { request.ask ≡ Ask.Command dlci (line_of request) }
-        requires live { self.old.lost ≡ false }
-        requires few { length self.old.hand < 128 }
-        ensures past { IfOk result (λ acts.
-            Handles self.old self.new (Took request) (map act_of acts.items)) }
-        ensures lanes { self.new.lanes ≡ self.old.lanes }
-        ensures err { OnErr result (self.new ≡ self.old) }
-        ensures no_memory { IfErr result (λ e. e.0 ≡ CoreError.NoMemory) }
-        ensures back { IfErr result (λ e. e.1 ≡ request) }
-        ensures n1 { self.new.station.n1 ≡ self.old.station.n1 }
-    {
-        let (mut acts, copy) = begin(self.alloc, request, 1)?;
-        if let Some(why) = refuses_command(&self.station, dlci) {
-            acts.push(told(&copy, why));
-            return Ok(acts.into_vec());
-        }
-        self.send(dlci, copy);
-        Ok(acts.into_vec())
-    }
-
-    /// A probe is to be sent.
-    fn take_probe(
-        &mut self,
-        echo: ProbeData,
-        request: Request,
-    ) -> Result<Vec<Act>, (CoreError, Request)>
-        requires ask { request.ask ≡ Ask.Probe echo }
-        requires live { self.old.lost ≡ false }
-        requires few { length self.old.hand < 128 }
-        ensures past { IfOk result (λ acts.
-            Handles self.old self.new (Took request) (map act_of acts.items)) }
-        ensures lanes { self.new.lanes ≡ self.old.lanes }
-        ensures err { OnErr result (self.new ≡ self.old) }
-        ensures no_memory { IfErr result (λ e. e.0 ≡ CoreError.NoMemory) }
-        ensures back { IfErr result (λ e. e.1 ≡ request) }
-        ensures n1 { self.new.station.n1 ≡ self.old.station.n1 }
-    {
-        let Ok(test) = message(self.alloc, TEST, echo.octets()) else {
-            return Err((CoreError::NoMemory, request));
-        };
-        let (mut acts, copy) = begin(self.alloc, request, 1)?;
-        if let Err(why) = self.station.probe(echo.octets()) {
-            acts.push(told(&copy, answer_of(why)));
-            return Ok(acts.into_vec());
-        }
-        acts.push(Act::Sent(test));
-        self.hand.push(copy);
-        Ok(acts.into_vec())
-    }
-
     /// Everything else is to be ended: all in hand are told so, behind the outcomes that wait. It takes no memory. Gives what
     /// the request is told at once; where it is told nothing it is in hand from then on, and its CLD waits in the control
     /// queue.
@@ -383,12 +276,12 @@ impl Core {
 
     /// Any request, but for what it is told at once, which this gives.
     fn ask_any(&mut self, request: Request, outcomes: &mut VecDeque<Outcome>) -> Option<Answer>
-        requires room { 128 ≤ deque_capacity outcomes.old }
+        requires room { tells_others request.ask ≡ true → 128 ≤ deque_capacity outcomes.old }
         ensures asks { Asks self.old self.new outcomes.old.items outcomes.new.items request result }
         ensures lanes { self.new.lanes ≡ self.old.lanes }
         ensures n1 { self.new.station.n1 ≡ self.old.station.n1 }
         ensures role { self.old.station.role ≡ Initiator }
-        ensures room { 128 ≤ deque_capacity outcomes.new }
+        ensures room { 128 ≤ deque_capacity outcomes.old → 128 ≤ deque_capacity outcomes.new }
     {
         if self.lost {
             return Some(Answer::LineLost);
@@ -439,45 +332,6 @@ impl Core {
             );
         }
     }
-
-    /// Everything else is to be ended: all requests in hand are told so.
-    fn take_stop(&mut self, request: Request) -> Result<Vec<Act>, (CoreError, Request)>
-        requires ask { request.ask ≡ Ask.Stop }
-        requires live { self.old.lost ≡ false }
-        requires few { length self.old.hand < 128 }
-        ensures past { IfOk result (λ acts.
-            Handles self.old self.new (Took request) (map act_of acts.items)) }
-        ensures lanes { self.new.lanes ≡ self.old.lanes }
-        ensures err { OnErr result (self.new ≡ self.old) }
-        ensures no_memory { IfErr result (λ e. e.0 ≡ CoreError.NoMemory) }
-        ensures back { IfErr result (λ e. e.1 ≡ request) }
-        ensures n1 { self.new.station.n1 ≡ self.old.station.n1 }
-    {
-        let Ok(cld) = message(self.alloc, CLD, &[]) else {
-            return Err((CoreError::NoMemory, request));
-        };
-        let (mut acts, copy) = begin(self.alloc, request, 1 + self.hand.len())?;
-        if let Err(why) = self.station.stop() {
-            acts.push(told(&copy, answer_of(why)));
-            return Ok(acts.into_vec());
-        }
-        acts.push(Act::Sent(cld));
-        tell_taken(&mut self.hand, &self.station, true, &mut acts);
-        self.hand.push(copy);
-        Ok(acts.into_vec())
-    }
-}
-
-/// Tells those in hand what the station's states say by now. `ended` says whether 0 is Opened no more.
-#[tactic(auto, using(crate::proofs::requests::OneFrameRequests::few_left))]
-fn tell_taken(hand: &mut Hand, station: &Station, ended: bool, acts: &mut ActList)
-    requires { length hand.old ≤ acts.old.left }
-    ensures hand { hand.new ≡ left_by (told_by happened.Took ended (state_shown station.now false)) hand.old }
-    ensures few { length hand.new ≤ length hand.old }
-    ensures acts { acts.new.acts
-        ≡ acts.old.acts ++ told_to (told_by happened.Took ended (state_shown station.now false)) hand.old }
-{
-    tell(hand, station, false, Happened::Took, ended, acts);
 }
 
 /// The text of a command, without its CR.

@@ -1,5 +1,5 @@
 -- Sessions that don't fit what happened.
-use Rattle.std.specs.Prelude.{List, [], ◌∷◌, ◌++◌, Some, None, take, drop, codes}
+use Rattle.std.specs.Prelude.{List, [], ◌∷◌, ◌++◌, None, take, drop, codes}
 use Rattle.mux_frame.specs.declared.frame.Kind.TheVariants.{Sabm, Ua, Uih}
 use Rattle.at_text.specs.declared.unsolicited.UrcKind.TheVariants.{Cring, Creg}
 use Rattle.modem_desk.specs.declared.request.Ask.TheVariants.{OpenChannel, Command}
@@ -151,13 +151,6 @@ other_n1 = record {
 -- a request was taken and dropped
 abbrev pub request_dropped : SessionRow
 request_dropped = record { view = settled lf_octet [] (first_request ∷ []) [] [] [] []; acts = [] }
-
--- a request is kept aside and was taken
-abbrev pub aside_and_taken : SessionRow
-aside_and_taken = record {
-  view = record (settled lf_octet sabm_zero (first_request ∷ []) [] [] [] []) { aside = Some first_request };
-  acts = left_zero;
-}
 
 -- a request was taken that the desk never gave
 abbrev pub request_invented : SessionRow
@@ -340,7 +333,7 @@ abbrev pub wrong_sessions : List SessionRow
 wrong_sessions =
     written_twice ∷ octet_left_out ∷ octet_waits_again ∷ marked_too_early ∷ marked_too_late ∷ two_marked ∷
     data_overtakes_octets ∷ data_overtakes_frame ∷ half_a_frame ∷ octets_of_none ∷ broken_frame_got ∷ got_too_soon ∷
-    got_unfed ∷ frame_dropped ∷ flag_dropped ∷ other_n1 ∷ request_dropped ∷ aside_and_taken ∷
+    got_unfed ∷ frame_dropped ∷ flag_dropped ∷ other_n1 ∷ request_dropped ∷
     request_invented ∷ number_twice ∷ caller_unknown ∷ sound_line_lost ∷ lost_twice ∷ told_and_kept ∷
     outcome_dropped ∷ told_to_another ∷ told_by_number ∷ told_in_other_order ∷ not_told_at_all ∷
     announced_out_of_order ∷ announced_elsewhere ∷ announced_twice ∷ line_dropped ∷ unheard_line_waits ∷

@@ -15,7 +15,7 @@ use Rattle.modem_history.specs.Sessions.{SessionView}
 use Rattle.modem_history.specs.Turns.{TurnAnswer, Moved, WriterFull, Waiting, Blocked, Idle}
 use Rattle.modem_history.specs.Rows.{one, two, takes, tells, sends, comes, msc_command, framed, opening_zero, opening_one}
 use Rattle.modem_history.specs.SessionRows.{TurnRow, settled, entry_answer, lf_octet, zero_came, one_came, one_left, sabm_zero, ua_zero, ua_one, ring_one, test_command_info, first_request, second_request, third_request, fourth_request, opened_zero, opened_both, outcome_of, ring, last_flag}
-use Rattle.modem_history.specs.GoodSessions.{left_zero, asked_zero, ring_came, sabm_queued, sabm_half_sent, ua_unfed, ua_at_hand, zero_opened, outcome_waits, request_aside, ring_announced, ring_waits}
+use Rattle.modem_history.specs.GoodSessions.{left_zero, asked_zero, ring_came, sabm_queued, sabm_half_sent, ua_unfed, ua_at_hand, zero_opened, outcome_waits, ring_announced, ring_waits}
 use Rattle.modem_history.specs.GoodTurns.{at_calls, other_told, both_wait, two_lines_wait, both_came}
 
 -- nothing happens but one call on the line
@@ -100,10 +100,6 @@ idle_with_unsent = nothing_but sabm_half_sent.view left_zero Idle
 abbrev pub idle_with_queued : TurnRow
 idle_with_queued = nothing_but sabm_queued.view asked_zero Idle
 
--- a request is kept aside
-abbrev pub idle_with_aside : TurnRow
-idle_with_aside = nothing_but request_aside.view opening_zero Idle
-
 -- an outcome waits for a place
 abbrev pub idle_with_outcome : TurnRow
 idle_with_outcome = nothing_but outcome_waits.view opening_zero Idle
@@ -158,10 +154,10 @@ abbrev pub idle_with_lost_frame : TurnRow
 idle_with_lost_frame =
     nothing_but (settled zero_came sabm_zero (first_request ∷ []) [] [] [] last_flag) left_zero Idle
 
--- the request that was kept aside was thrown away
-abbrev pub idle_with_lost_request : TurnRow
-idle_with_lost_request =
-    goes_to request_aside.view (record request_aside.view { aside = None }) opening_zero Idle
+-- a request is taken from the desk and dropped
+abbrev pub idle_with_dropped_request : TurnRow
+idle_with_dropped_request =
+    goes_to zero_opened.view (asking (second_request ∷ []) zero_opened.view) opening_zero Idle
 
 -- no line waits, and the connection is still held
 abbrev pub idle_and_still_held : TurnRow
@@ -294,15 +290,11 @@ full_though_taken = record {
   says = WriterFull;
 }
 
--- a request is kept aside
-abbrev pub full_with_aside : TurnRow
-full_with_aside = offers_in_vain (record request_aside.view { unwritten = last_flag }) opening_zero
-
--- the request that was kept aside was thrown away
-abbrev pub full_with_lost_request : TurnRow
-full_with_lost_request = record {
-  old = record request_aside.view { unwritten = last_flag };
-  new = at_calls 42 (record request_aside.view { unwritten = last_flag; aside = None });
+-- a request is taken from the desk and dropped
+abbrev pub full_with_dropped_request : TurnRow
+full_with_dropped_request = record {
+  old = record zero_opened.view { unwritten = last_flag };
+  new = at_calls 42 (record (asking (second_request ∷ []) zero_opened.view) { unwritten = last_flag });
   before = opening_zero;
   acts = [];
   says = WriterFull;
@@ -414,13 +406,6 @@ waiting_with_command =
     nothing_but (asking (third_request ∷ []) (with_one [] [] opened_zero (outcome_of 2 Opened ∷ [])))
     command_stays (Waiting 0)
 
--- a request is kept aside
-abbrev pub waiting_with_aside : TurnRow
-waiting_with_aside =
-    nothing_but (record (told_late zero_came (first_request ∷ second_request ∷ [])) {
-      aside = Some second_request;
-    }) opening_zero (Waiting 0)
-
 -- so many lines wait too that the connection had to be held, and it isn't
 abbrev pub waiting_and_not_held : TurnRow
 waiting_and_not_held =
@@ -531,12 +516,6 @@ blocked_with_queued =
     (ring_came ++ takes 4 (OpenChannel two) ∷ sends Sabm 2 [] ∷ [])
     (Blocked Ring)
 
--- a request is kept aside
-abbrev pub blocked_with_aside : TurnRow
-blocked_with_aside =
-    nothing_but (record (asking (third_request ∷ []) ring_waits.view) { aside = Some third_request })
-    ring_came (Blocked Ring)
-
 -- a call on the line failed
 abbrev pub blocked_and_failed : TurnRow
 blocked_and_failed = goes_to ring_waits.view (failing ring_waits.view) ring_came (Blocked Ring)
@@ -616,21 +595,6 @@ two_frames = record {
   says = Moved;
 }
 
--- the request kept aside is taken, and another one
-abbrev pub aside_and_another : TurnRow
-aside_and_another = record {
-  old = request_aside.view;
-  new = at_calls 41 (record zero_opened.view {
-    desk = record zero_opened.view.desk { taken = first_request ∷ second_request ∷ third_request ∷ [] };
-    unplaced = outcome_of 3 NotOpen ∷ [];
-  });
-  before = opening_zero;
-  acts =
-      takes 2 (OpenChannel one) ∷ sends Sabm 1 [] ∷ takes 3 (Command one (codes "AT+CSQ")) ∷
-      tells 3 NotOpen ∷ [];
-  says = Moved;
-}
-
 -- two requests are taken from the desk
 abbrev pub two_requests : TurnRow
 two_requests = record {
@@ -664,32 +628,27 @@ held_too_early = record {
   says = Moved;
 }
 
--- a request is taken from the desk and kept aside, and the turn says that it moved
-abbrev pub moved_with_aside : TurnRow
-moved_with_aside = record {
-  old = outcome_waits.view;
-  new = at_calls 41 request_aside.view;
-  before = opening_zero;
-  acts = [];
-  says = Moved;
-}
+-- a request is taken from the desk and dropped, and the turn says that it moved
+abbrev pub moved_by_dropped_request : TurnRow
+moved_by_dropped_request =
+    goes_to zero_opened.view (asking (second_request ∷ []) zero_opened.view) opening_zero Moved
 
 abbrev pub wrong_turns : List TurnRow
 wrong_turns =
     idle_with_frame ∷ idle_with_unfed ∷ idle_half_unfed ∷ idle_with_unsent ∷ idle_with_queued ∷
-    idle_with_aside ∷ idle_with_outcome ∷ idle_with_line ∷ idle_with_command ∷ idle_after_read ∷
+    idle_with_outcome ∷ idle_with_line ∷ idle_with_command ∷ idle_after_read ∷
     idle_without_read ∷ idle_though_told ∷ idle_though_sent ∷ idle_though_announced ∷ idle_with_lost_frame ∷
-    idle_with_lost_request ∷ idle_and_still_held ∷ idle_and_failed ∷ moved_by_nothing ∷ moved_by_a_mark ∷
+    idle_with_dropped_request ∷ idle_and_still_held ∷ idle_and_failed ∷ moved_by_nothing ∷ moved_by_a_mark ∷
     unfed_grows ∷ full_unoffered ∷ full_but_taken ∷ full_of_nothing ∷ full_without_read ∷ full_with_frame ∷
     full_with_unfed ∷ full_with_test ∷ full_though_told ∷ full_though_read ∷ full_though_taken ∷
-    full_with_aside ∷ full_with_lost_request ∷ full_and_not_held ∷ full_and_still_held ∷ full_and_failed ∷
+    full_with_dropped_request ∷ full_and_not_held ∷ full_and_still_held ∷ full_and_failed ∷
     waiting_but_told ∷ waiting_for_another ∷ waiting_for_the_greater ∷ waiting_with_unsent ∷
     waiting_with_frame ∷ waiting_without_read ∷ waiting_for_none ∷ waiting_untried ∷ waiting_half_unfed ∷
-    waiting_with_lost_frame ∷ waiting_with_queued ∷ waiting_with_command ∷ waiting_with_aside ∷
+    waiting_with_lost_frame ∷ waiting_with_queued ∷ waiting_with_command ∷
     waiting_and_not_held ∷ waiting_and_still_held ∷ waiting_and_failed ∷ blocked_by_none ∷
     blocked_by_a_later ∷ blocked_with_command ∷ blocked_and_not_held ∷ blocked_and_still_held ∷
     blocked_by_another ∷ blocked_though_announced ∷ blocked_untried ∷ blocked_with_unsent ∷
     blocked_with_outcome ∷ blocked_with_frame ∷ blocked_half_unfed ∷ blocked_without_read ∷
-    blocked_with_queued ∷ blocked_with_aside ∷ blocked_and_failed ∷ tick_in_a_turn ∷ loss_in_a_turn ∷
-    failed_and_moved ∷ three_calls ∷ read_twice ∷ read_while_unfed ∷ two_frames ∷ aside_and_another ∷
-    two_requests ∷ told_at_once ∷ held_too_early ∷ moved_with_aside ∷ []
+    blocked_with_queued ∷ blocked_and_failed ∷ tick_in_a_turn ∷ loss_in_a_turn ∷
+    failed_and_moved ∷ three_calls ∷ read_twice ∷ read_while_unfed ∷ two_frames ∷
+    two_requests ∷ told_at_once ∷ held_too_early ∷ moved_by_dropped_request ∷ []

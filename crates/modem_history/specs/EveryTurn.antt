@@ -117,10 +117,9 @@ abbrev pub asked_in_vain : {A : Type 0} → Option (Option A) → ℕ
 asked_in_vain (Some None) = 1
 asked_in_vain _ = 0
 
--- The desk was asked for a request, unless one was aside or there was no room for one more. It counted where it had
--- none.
+-- The desk was asked for a request, unless there was no room for one more. It counted where it had none.
 pub record Asks (old new : SessionView) (t : Exchange) (past : List Act) : Type 0 where
-  pub asks : t.next ≡ None → old.aside ≡ None → length (in_hand past) + length new.unplaced ≡ 128
+  pub asks : t.next ≡ None → length (in_hand past) + length new.unplaced ≡ 128
   pub found_none : new.desk.found_none ≡ counted old.desk.found_none (asked_in_vain t.next)
 
 -- ## A turn

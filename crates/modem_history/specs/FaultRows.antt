@@ -1,14 +1,14 @@
 -- Faults of turns, and ticks, right and wrong.
-use Rattle.std.specs.Prelude.{List, [], ◌∷◌, ◌++◌, Some, None, take, drop, codes}
+use Rattle.std.specs.Prelude.{List, [], ◌∷◌, ◌++◌, None, take, drop, codes}
 use Rattle.mux_frame.specs.declared.frame.Kind.TheVariants.{Sabm, Uih}
 use Rattle.modem_desk.specs.declared.request.Ask.TheVariants.{OpenChannel, Command}
 use Rattle.modem_desk.specs.declared.request.Answer.TheVariants.{LineLost}
 use Rattle.modem_history.specs.Acts.{Act, Tick, Lost, Given, after}
 use Rattle.modem_history.specs.Sessions.{SessionView, SessionFits}
 use Rattle.modem_history.specs.Turns.{Exchange, TurnFault, NoMemory, LineFailed, Failed, IsFault, IsTick}
-use Rattle.modem_history.specs.Rows.{one, cr, takes, tells, sends, opening_zero}
+use Rattle.modem_history.specs.Rows.{one, cr, takes, tells, sends, opening_zero, opening_one}
 use Rattle.modem_history.specs.SessionRows.{beginning, settled, lf_octet, zero_came, sabm_zero, sabm_one, first_request, second_request, third_request, opened_zero, outcome_of, last_flag}
-use Rattle.modem_history.specs.GoodSessions.{asked_zero, sabm_queued, csq_sent, asked_csq, zero_opened, outcome_waits, request_aside, line_lost, loss_told}
+use Rattle.modem_history.specs.GoodSessions.{asked_zero, sabm_queued, csq_sent, asked_csq, zero_opened, outcome_waits, ring_comes, line_lost, loss_told}
 use Rattle.modem_history.specs.GoodTurns.{at_calls, exchanged, offers}
 
 -- a session before and after a turn, what happened before it and in it, and its fault
@@ -66,21 +66,15 @@ fails_again = record {
   says = Failed;
 }
 
--- there is no memory for a request, which is kept aside
-abbrev pub keeps_aside : FaultRow
-keeps_aside = record {
-  old = zero_opened.view;
-  new = at_calls 41 request_aside.view;
-  before = opening_zero;
-  acts = [];
-  says = NoMemory;
-}
+-- there is no memory for the data at hand, which stays there
+abbrev pub keeps_frame : FaultRow
+keeps_frame = record { old = ring_comes.view; new = ring_comes.view; before = opening_one; acts = []; says = NoMemory }
 
 pub record AreRightFaults : Type 0 where
   pub first : IsRightFault fails
       (record (exchanged (offers (drop 2 sabm_one) 0) None) { read = None; next = None })
   pub later : IsRightFault fails_again (record (exchanged None None) { read = None; next = None })
-  pub memory : IsRightFault keeps_aside (exchanged None (Some second_request))
+  pub memory : IsRightFault keeps_frame (record (exchanged None None) { read = None; next = None })
 
 -- ## Wrong faults
 
@@ -179,10 +173,31 @@ goes_on_faulty = record {
   says = NoMemory;
 }
 
+-- the write fails in this turn, and the line isn't lost
+abbrev pub failure_passed_over : FaultRow
+failure_passed_over = record {
+  old = one_half_sent;
+  new = record one_half_sent { line = record one_half_sent.line { calls = 41; failures = 1 } };
+  before = asked_one;
+  acts = [];
+  says = NoMemory;
+}
+
+-- a call failed before, and what waits is placed
+abbrev pub places_faulty : FaultRow
+places_faulty = record {
+  old = record outcome_waits.view { line = record outcome_waits.view.line { failures = 1 } };
+  new = record zero_opened.view { line = record zero_opened.view.line { failures = 1 } };
+  before = opening_zero;
+  acts = [];
+  says = NoMemory;
+}
+
 abbrev pub wrong_faults : List FaultRow
 wrong_faults =
     fails_unfailed ∷ lost_before ∷ failed_too_soon ∷ calls_lost_line ∷ memory_for_loss ∷ loss_untold ∷
-    loss_and_request ∷ sends_behind_loss ∷ feeds_when_lost ∷ goes_on_faulty ∷ []
+    loss_and_request ∷ sends_behind_loss ∷ feeds_when_lost ∷ goes_on_faulty ∷ failure_passed_over ∷
+    places_faulty ∷ []
 
 -- ## Ticks
 

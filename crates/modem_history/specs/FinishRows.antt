@@ -1,11 +1,13 @@
 -- What is left at the end of a session, right and wrong.
-use Rattle.std.specs.Prelude.{List, [], ◌∷◌, ◌++◌, Some}
+use Rattle.std.specs.Prelude.{List, [], ◌∷◌, ◌++◌}
+use Rattle.mux_frame.specs.declared.frame.Kind.TheVariants.{Sabm}
+use Rattle.modem_desk.specs.declared.request.Ask.TheVariants.{OpenChannel}
 use Rattle.modem_desk.specs.declared.request.Request.{Request}
 use Rattle.modem_desk.specs.declared.request.Outcome.{Outcome}
 use Rattle.modem_desk.specs.declared.request.Urc.{Urc}
 use Rattle.modem_history.specs.Acts.{Act, after}
 use Rattle.modem_history.specs.Sessions.{SessionView, Leftovers, Finishes}
-use Rattle.modem_history.specs.Rows.{opening_zero}
+use Rattle.modem_history.specs.Rows.{two, takes, sends, opening_zero}
 use Rattle.modem_history.specs.SessionRows.{settled, one_came, one_left, csq_one, first_request, second_request, third_request, fourth_request, opened_zero, opened_both, ring, last_flag}
 use Rattle.modem_history.specs.GoodSessions.{asked_csq, ring_came, outcome_waits, ring_waits}
 
@@ -31,20 +33,21 @@ leaves v requests told lines = record {
   unannounced = lines;
 }
 
--- the command waits for its answer, and the request to open 2 is kept aside
+-- the command waits for its answer, and 2 is being opened
 abbrev pub two_left : SessionView
 two_left =
-    record (settled one_came (one_left ++ csq_one)
-    (first_request ∷ second_request ∷ third_request ∷ fourth_request ∷ []) opened_both [] [] last_flag) {
-      aside = Some fourth_request;
-    }
+    settled one_came (one_left ++ csq_one)
+    (first_request ∷ second_request ∷ third_request ∷ fourth_request ∷ []) opened_both [] [] last_flag
+
+abbrev pub asked_two : List Act
+asked_two = asked_csq ++ takes 4 (OpenChannel two) ∷ sends Sabm 2 [] ∷ []
 
 -- ## Right ends
 
 abbrev pub both_handed_back : FinishRow
 both_handed_back = record {
   view = two_left;
-  acts = asked_csq;
+  acts = asked_two;
   left = leaves two_left (third_request ∷ fourth_request ∷ []) [] [];
 }
 
@@ -67,27 +70,27 @@ right_ends = both_handed_back ∷ outcome_handed_back ∷ line_handed_back ∷ [
 
 -- ## Wrong ends
 
--- what is in hand is left out
-abbrev pub hand_left_out : FinishRow
-hand_left_out = record {
+-- the first in hand is left out
+abbrev pub first_left_out : FinishRow
+first_left_out = record {
   view = two_left;
-  acts = asked_csq;
+  acts = asked_two;
   left = leaves two_left (fourth_request ∷ []) [] [];
 }
 
--- what is kept aside is left out
-abbrev pub aside_left_out : FinishRow
-aside_left_out = record {
+-- the last in hand is left out
+abbrev pub last_left_out : FinishRow
+last_left_out = record {
   view = two_left;
-  acts = asked_csq;
+  acts = asked_two;
   left = leaves two_left (third_request ∷ []) [] [];
 }
 
--- what is kept aside stands first
-abbrev pub aside_first : FinishRow
-aside_first = record {
+-- the last in hand stands first
+abbrev pub last_first : FinishRow
+last_first = record {
   view = two_left;
-  acts = asked_csq;
+  acts = asked_two;
   left = leaves two_left (fourth_request ∷ third_request ∷ []) [] [];
 }
 
@@ -133,5 +136,5 @@ told_at_end = record {
 
 abbrev pub wrong_ends : List FinishRow
 wrong_ends =
-    hand_left_out ∷ aside_left_out ∷ aside_first ∷ told_in_hand ∷ outcome_left_out ∷ line_left_out ∷
+    first_left_out ∷ last_left_out ∷ last_first ∷ told_in_hand ∷ outcome_left_out ∷ line_left_out ∷
     line_called ∷ told_at_end ∷ []

@@ -76,16 +76,6 @@ outcome_waits = record {
   acts = opening_zero;
 }
 
--- 0 is open, and the request to open 1 is kept aside
-abbrev pub request_aside : SessionRow
-request_aside = record {
-  view =
-      record (settled zero_came sabm_zero (first_request ∷ second_request ∷ []) opened_zero [] [] last_flag) {
-        aside = Some second_request;
-      };
-  acts = opening_zero;
-}
-
 -- the command left, and waits for its answer
 abbrev pub csq_sent : SessionRow
 csq_sent = record {
@@ -102,6 +92,17 @@ ring_announced = record {
       settled (one_came ++ ring_one) one_left (first_request ∷ second_request ∷ []) opened_both (ring ∷ []) []
       last_flag;
   acts = ring_came;
+}
+
+-- RING is the frame at hand, and its first flag ended the frame before it
+abbrev pub ring_comes : SessionRow
+ring_comes = record {
+  view =
+      record (settled (one_came ++ drop 1 ring_one) one_left (first_request ∷ second_request ∷ []) opened_both []
+      [] []) {
+        deframer = record { n1 = 31; undecided = ring_one; next = Some (written Responder Uih 1 (framed (codes "RING"))) };
+      };
+  acts = opening_one;
 }
 
 -- RING waits for a place
@@ -143,4 +144,4 @@ line_lost = record {
 abbrev pub right_sessions : List SessionRow
 right_sessions =
     nothing_yet ∷ sabm_queued ∷ sabm_half_sent ∷ ua_unfed ∷ ua_at_hand ∷ zero_opened ∷ outcome_waits ∷
-    request_aside ∷ csq_sent ∷ ring_announced ∷ ring_waits ∷ line_lost ∷ []
+    csq_sent ∷ ring_announced ∷ ring_comes ∷ ring_waits ∷ line_lost ∷ []

@@ -17,7 +17,6 @@ abbrev pub fresh : Beginning → SessionView
 fresh b = record {
   line = b.line;
   desk = b.desk;
-  aside = None;
   unfed = [];
   deframer = record { n1 = b.n1; undecided = []; next = None };
   unwritten = [];

@@ -131,7 +131,6 @@ abbrev pub settled : (came left : List ℕ) → List Request → List Outcome �
 settled came left requests told rings cregs kept = record {
   line = record { received = entry_answer ++ came; sent = entry_text ++ left; calls = 40; failures = 0; empty_reads = 0; stalled_writes = 0 };
   desk = record { taken = requests; told = told ∷ [] ∷ []; announced = rings ∷ cregs ∷ []; found_none = 0; told_back = 0 ∷ 0 ∷ []; announced_back = 0 ∷ 0 ∷ [] };
-  aside = None;
   unfed = [];
   deframer = record { n1 = 31; undecided = kept; next = None };
   unwritten = [];

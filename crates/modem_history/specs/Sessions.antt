@@ -1,6 +1,6 @@
 -- What a session fits: one history tells all that its line and its desk's end did since it began, and all that it still
 -- has.
-use Rattle.std.specs.Prelude.{◌≡◌, ℕ, ◌+◌, ◌-◌, ◌<◌, ◌≤◌, ◌==◌, true, List, [], ◌∷◌, ◌++◌, length, take, drop, map, filter, flat_map, Option, option_to_list, slice_index_or, if◌then◌else◌, nat_lt, nat_le}
+use Rattle.std.specs.Prelude.{◌≡◌, ℕ, ◌+◌, ◌-◌, ◌<◌, ◌≤◌, ◌==◌, true, List, [], ◌∷◌, ◌++◌, length, take, drop, map, filter, flat_map, slice_index_or, if◌then◌else◌, nat_lt, nat_le}
 use Rattle.std.specs.List.{list_all}
 use mathlib.Core.Option.{some}
 use lib.ListN.{get_elem?}
@@ -60,8 +60,6 @@ pub record Beginning : Type 0 where
 pub record SessionView : Type 0 where
   pub line : LineView
   pub desk : EndView
-  -- the request that is kept aside, since there was no memory for it
-  pub aside : Option Request
   -- the octets read and not yet given to the deframer
   pub unfed : List ℕ
   pub deframer : Deframing
@@ -162,14 +160,13 @@ taken_since b v = drop (length b.desk.taken) v.desk.taken
 abbrev pub AreOnce : Beginning → SessionView → Type 0
 AreOnce b v = are_distinct (taken_since b v) ≡ true
 
--- Requests: the desk's end took those that the history took, and then the one kept aside. No caller used a number
--- twice, and each is a caller of the desk. The requests in hand, the one aside and the outcomes that wait are 128 at
--- most.
+-- Requests: the desk's end took those that the history took. No caller used a number twice, and each is a caller of the
+-- desk. The requests in hand and the outcomes that wait are 128 at most.
 pub record FitsRequests (b : Beginning) (v : SessionView) (past : List Act) : Type 0 where
-  pub taken_are : v.desk.taken ≡ b.desk.taken ++ taken_requests past ++ option_to_list v.aside
+  pub taken_are : v.desk.taken ≡ b.desk.taken ++ taken_requests past
   pub once : AreOnce b v
   pub callers : list_all (λ (q : Request). nat_lt q.caller b.callers) (taken_since b v) ≡ true
-  pub few : length (in_hand past) + length (option_to_list v.aside) + length v.unplaced ≤ 128
+  pub few : length (in_hand past) + length v.unplaced ≤ 128
 
 -- Octets that came: the deframer took the first of those received, and the others aren't fed yet. Of those that it took
 -- it has handed out what the history got.
@@ -275,11 +272,10 @@ pub record Leftovers : Type 0 where
   pub unplaced : List Outcome
   pub unannounced : List Urc
 
--- line and desk's end as they are; each request taken and not told, in order, and then the one kept
--- aside; all outcomes and all lines that wait
+-- line and desk's end as they are; each request taken and not told, in order; all outcomes and all lines that wait
 pub record Finishes (v : SessionView) (past : List Act) (f : Leftovers) : Type 0 where
   pub line_stays : f.line ≡ v.line
   pub desk_stays : f.desk ≡ v.desk
-  pub hand_is : f.in_hand ≡ in_hand past ++ option_to_list v.aside
+  pub hand_is : f.in_hand ≡ in_hand past
   pub unplaced_are : f.unplaced ≡ v.unplaced
   pub unannounced_are : f.unannounced ≡ v.unannounced

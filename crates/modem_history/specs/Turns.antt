@@ -99,8 +99,8 @@ pub record HandsBack (t : Exchange) : Type 0 where
   pub outcomes : (c : ℕ) → caller_outcomes c t.told_back ≡ take 1 (caller_outcomes c t.still_told)
   pub lines : (k : UrcKind) → of_kind k t.heard_back ≡ take 1 (of_kind k t.still_heard)
 
--- what the turn exchanged with its line and its desk: it read only where all octets that had come were fed,
--- and asked the desk for a request only where none was kept aside; it handled one frame at most
+-- what the turn exchanged with its line and its desk: it read only where all octets that had come were fed; it handled
+-- one frame at most
 pub record Exchanges (old new : SessionView) (t : Exchange) (acts : List Act) : Type 0 where
   pub came : new.line.received ≡ old.line.received ++ octets_read t.read
   pub room : ReadHasRoom t.read
@@ -112,7 +112,6 @@ pub record Exchanges (old new : SessionView) (t : Exchange) (acts : List Act) : 
   pub lines_wait : map heard_as new.unannounced ≡ map heard_as t.still_heard ++ lines_heard acts
   pub unfed : length new.unfed ≤ length old.unfed + length (octets_read t.read)
   pub reads_fed : t.read ≢ None → old.unfed ≡ []
-  pub asks_bare : t.next ≢ None → old.aside ≡ None
   pub one_got : length (gots acts) ≤ 1
 
 -- ## Its acts
@@ -246,12 +245,11 @@ pub record IsBlocked (b : Beginning) (v : SessionView) (t : Exchange) (past : Li
   pub handed_back : of_kind k t.heard_back ≡ line ∷ []
   pub rest : IsAtRest b v t past
 
--- nothing waits for the line or for a place, no request is kept aside, and nothing is left to do
+-- nothing waits for the line or for a place, and nothing is left to do
 pub record IsIdle (b : Beginning) (v : SessionView) (t : Exchange) (past : List Act) : Type 0 where
   pub written : v.unwritten ≡ []
   pub placed : v.unplaced ≡ []
   pub announced : v.unannounced ≡ []
-  pub none_aside : v.aside ≡ None
   pub rest : IsAtRest b v t past
 
 -- what an answer says of the session, of the turn's calls and of the history before the turn and after it
@@ -265,8 +263,7 @@ Means b v t before past Idle = IsIdle b v t past
 -- ## A turn
 
 -- A turn that ends in this answer, after a past, by these acts: Moved is the answer exactly where something
--- moved, no call on the line has failed since the session began, no request stays aside, and any other answer
--- means what it says.
+-- moved, no call on the line has failed since the session began, and any other answer means what it says.
 pub record IsTurn (b : Beginning) (old new : SessionView) (t : Exchange) (past acts : List Act)
     (says : TurnAnswer) : Type 0 where
   pub exchanges : Exchanges old new t acts
@@ -274,7 +271,6 @@ pub record IsTurn (b : Beginning) (old new : SessionView) (t : Exchange) (past a
   pub sound : new.line.failures ≡ b.line.failures
   pub acts_may : list_all (may_act t.still_heard) acts ≡ true
   pub moved : has_moved old new acts ≡ says_moved says
-  pub none_aside : new.aside ≡ None
   pub means : Means b new t past (after past acts) says
 
 -- ## Faults
@@ -315,14 +311,13 @@ pub record HasFailed (old new : SessionView) (past acts : List Act) : Type 0 whe
   pub gone : is_lost past ≡ true
   pub places : PlacesAlone old new acts
 
--- there is no memory: the line isn't lost yet; and where a call on it had failed before, what waits is placed, and
--- nothing else is done
-pub record WantsMemory (b : Beginning) (old new : SessionView) (past acts : List Act) : Type 0 where
+-- there is no memory: the line isn't lost, and no call on it has failed since the session began
+pub record WantsMemory (b : Beginning) (new : SessionView) (past acts : List Act) : Type 0 where
   pub live : is_lost (after past acts) ≡ false
-  pub behind : (old.line.failures ≡ b.line.failures) ⊎ PlacesAlone old new acts
+  pub sound : new.line.failures ≡ b.line.failures
 
 abbrev pub FaultMeans : Beginning → SessionView → SessionView → List Act → List Act → TurnFault → Type 0
-FaultMeans b old new past acts NoMemory = WantsMemory b old new past acts
+FaultMeans b old new past acts NoMemory = WantsMemory b new past acts
 FaultMeans b old new past acts LineFailed = LosesLine b old new past acts
 FaultMeans b old new past acts Failed = HasFailed old new past acts
 
@@ -349,7 +344,6 @@ pub record IsTick (old new : SessionView) (past acts : List Act) : Type 0 where
   pub follow : list_all is_said more ≡ true
   pub line_stays : new.line ≡ old.line
   pub desk_stays : new.desk ≡ old.desk
-  pub aside_stays : new.aside ≡ old.aside
   pub unfed_stay : new.unfed ≡ old.unfed
 
 -- a tick by some acts, the same whatever the session began with and whatever history it had

@@ -3,7 +3,7 @@ use Rattle.std.proofs.Common.{ap, sym, ◌∙◌, subst, arith, ⊎_elim}
 use Rattle.std.proofs.lemmas.Bool.{and_parts, eq-eqb}
 use Rattle.std.proofs.lemmas.Bool.Decides.{eqb_tells}
 use Rattle.std.proofs.lemmas.List.{append-nil}
-use Rattle.std.specs.Prelude.{◌≡◌, ◌≢◌, ◌==◌, ℕ, ◌+◌, ◌≤◌, Bool, true, false, List, [], ◌∷◌, ◌++◌, length, map, refl, option_to_list, Option, None, Some, MatchOption, if◌then◌else◌}
+use Rattle.std.specs.Prelude.{◌≡◌, ◌≢◌, ◌==◌, ℕ, Bool, true, false, List, [], ◌∷◌, ◌++◌, length, map, refl, Option, None, Some, MatchOption, if◌then◌else◌}
 use Rattle.std.specs.List.{list_all}
 use mathlib.Core.Option.{some, some-injective}
 use lib.ListN.{get_elem?}
@@ -199,16 +199,10 @@ polls_line (Some u) old new next h = gives_line old new next u h.0 h.1
 
 -- ## What is left
 
-pub leaves : (e : EndpointState) (hand : List Request) (outcomes : List Outcome) (lines : List Urc) → e.machine.aside ≡ None → (length e.machine.core.hand + length (option_to_list e.machine.aside) ≤ 128 → hand ≡ e.machine.core.hand ++ option_to_list e.machine.aside) → outcomes ≡ e.machine.unplaced → lines ≡ e.machine.unannounced
+pub leaves : (e : EndpointState) (hand : List Request) (outcomes : List Outcome) (lines : List Urc) → hand ≡ e.machine.core.hand → outcomes ≡ e.machine.unplaced → lines ≡ e.machine.unannounced
     → Leaves e hand outcomes lines
-leaves e hand outcomes lines none all outcomes_are lines_are = record {
-  hand = λ b l d past fit.
-      let f = fit.stands in
-      let few = f.session.requests.few in
-      let same = f.inside.fits.hand_is in
-      let long = ap (length {A = Request}) same in
-      let bare : length (option_to_list e.machine.aside) ≡ 0 = ap (λ (o : Option Request). length (option_to_list o)) none in
-      all (omega (arith, few, long, bare)) ∙ (ap (λ (o : Option Request). e.machine.core.hand ++ option_to_list o) none ∙ (append-nil e.machine.core.hand ∙ sym same));
+leaves e hand outcomes lines all outcomes_are lines_are = record {
+  hand = λ b l d past fit. all ∙ sym fit.stands.inside.fits.hand_is;
   outcomes_are = outcomes_are;
   lines_are = lines_are;
 }

@@ -2,9 +2,8 @@
 use Rattle.std.proofs.Common.{ap, sym, ◌∙◌, subst, arith}
 use Rattle.std.proofs.Math.Seq.{drop-length}
 use Rattle.std.proofs.lemmas.Bool.{and_from, and_parts}
-use Rattle.std.proofs.lemmas.List.{append-nil}
 use Rattle.std.proofs.lemmas.List.Folds.{list_all-append}
-use Rattle.std.specs.Prelude.{◌≡◌, ℕ, ◌+◌, ◌<◌, ◌≤◌, true, List, [], ◌∷◌, ◌++◌, length, map, refl, option_to_list, Option, None, Some, Contains, Result, Ok, Err, OnErr}
+use Rattle.std.specs.Prelude.{◌≡◌, ℕ, ◌+◌, ◌<◌, ◌≤◌, true, List, [], ◌∷◌, ◌++◌, length, refl, Contains, Result, Ok, Err, OnErr}
 use Rattle.std.specs.List.{list_all}
 use Rattle.at_text.specs.Dialects.{Dialect, standard}
 use Rattle.at_text.specs.Rules.{Rules, no_rules, dialect_of}
@@ -15,22 +14,17 @@ use Rattle.modem_desk.specs.declared.request.Request.{Request}
 use Rattle.modem_desk.specs.Ends.{DriverView}
 use Rattle.modem_history.specs.Requests.{are_distinct, is_apart}
 use Rattle.modem_history.specs.Acts.{Act}
-use Rattle.modem_history.specs.Wholes.{taken_requests}
-use Rattle.modem_history.specs.Sessions.{Beginning, LineView, taken_since, heard_as}
+use Rattle.modem_history.specs.Sessions.{Beginning, LineView, taken_since}
 use Rattle.modem_history.proofs.law_proofs.SessionLaws.{since_more}
 use Rattle.modem_driver.specs.Cores.{Fits}
 use Rattle.modem_driver.specs.Holding.{HoldsFit}
 use Rattle.modem_driver.specs.EndpointSteps.{HandLacksRoom, HandlesFrames}
-use Rattle.modem_driver.specs.Endpoints.{EndpointFits, Begins, BeginsBy, HasNoneAside, LeadsOver, Numbers, Refuses, TakesRequest, is_numbered, with_taken}
-use Rattle.modem_driver.specs.SessionStates.{Machine, MachineGoes, machine_by, new_machine, seen_by, end_of}
-use Rattle.modem_driver.specs.TurnSteps.{StandingFits, turn_state}
-use Rattle.modem_driver.specs.TurnTakes.{TakesAside}
+use Rattle.modem_driver.specs.Endpoints.{EndpointFits, Begins, BeginsBy, LeadsOver, Numbers, Refuses, TakesRequest, is_numbered, with_taken}
+use Rattle.modem_driver.specs.SessionStates.{Machine, machine_by, new_machine, seen_by, end_of}
+use Rattle.modem_driver.specs.TurnTakes.{MachineTakes, TakesNext}
 use Rattle.modem_driver.proofs.endpoints.WholeCalls.{handled_all, handled_alone}
-use Rattle.modem_driver.proofs.sessions.steps.LineOctets.{loss_with}
 use Rattle.modem_driver.proofs.sessions.steps.OutcomeCounts.{is_caller}
 use Rattle.modem_driver.proofs.sessions.steps.StartAndTick.{begins_over, machine_begins}
-use Rattle.modem_driver.proofs.sessions.polls.StopProgress.{come_on, grows_none}
-use Rattle.modem_driver.proofs.sessions.steps.WaitingDeliveries.{told_part, heard_part, sent_part, received_part}
 
 -- ## The beginning
 
@@ -86,57 +80,27 @@ numbered_last n ask qs h =
     let r : Request = record { caller = 0; number = n; ask = ask } in
     list_all-append (is_numbered (n + 1)) qs (r ∷ []) ∙ and_from (list_all (is_numbered (n + 1)) qs) (list_all (is_numbered (n + 1)) (r ∷ [])) (lower_all n qs h) (and_from (is_numbered (n + 1) r) true (last_low n ask) refl)
 
--- ## The request waits aside
+-- ## The request is next
 
-is_caller_0 : (n : ℕ) (q : Request) → q.caller ≡ 0 → 1 ≤ n → list_all (is_caller n) (q ∷ []) ≡ true
+is_caller_0 : (n : ℕ) (q : Request) → q.caller ≡ 0 → 1 ≤ n → is_caller n q ≡ true
 is_caller_0 n q e h = grind arith
 
-asks_here : (b : Beginning) (l : LineView) (d : DriverView) (old : Machine) (n : ℕ) (ask : Ask) (past : List Act) → old.aside ≡ None → length old.core.hand + length old.unplaced < 128 → 1 ≤ length d.desk.rings
+next_here : (b : Beginning) (l : LineView) (d : DriverView) (old : Machine) (n : ℕ) (ask : Ask) (past : List Act) → length old.core.hand + length old.unplaced < 128 → 1 ≤ length d.desk.rings
     → EndpointFits b l d (record { machine = old; next = n }) past
-    → StandingFits b (turn_state l (with_taken d (record { caller = 0; number = n; ask = ask })) (record old { aside = Some (record { caller = 0; number = n; ask = ask }) })) past
-asks_here b l d old n ask past none room some fit =
+    → TakesNext b l d (with_taken d (record { caller = 0; number = n; ask = ask })) old (record { caller = 0; number = n; ask = ask })
+next_here b l d old n ask past room some fit =
     let q : Request = record { caller = 0; number = n; ask = ask } in
-    let f = fit.stands in
-    let e = with_taken d q in
-    let new : Machine = record old { aside = Some q } in
     let v = seen_by l (end_of d) old in
-    let w = seen_by l (end_of e) new in
-    let s = f.session in
-    let hand = ap (length {A = Request}) f.inside.fits.hand_is in
-    let since = since_more b v w past (q ∷ []) s refl in
-    let same : length d.desk.rings ≡ b.callers = f.inside.callers_are in
+    let w = seen_by l (end_of (with_taken d q)) old in
+    let s = fit.stands.session in
     record {
-      session = record {
-        history = s.history;
-        loss = loss_with b v w past s (omega arith);
-        requests = record {
-          taken_are =
-              ap (λ (qs : List Request). qs ++ q ∷ []) (s.requests.taken_are ∙ ap (λ (x : Option Request). b.desk.taken ++ taken_requests past ++ option_to_list x) none)
-              ∙ ap (λ (qs : List Request). qs ++ q ∷ []) (append-nil (b.desk.taken ++ taken_requests past));
-          once = ap are_distinct since ∙ distinct_last n ask (taken_since b v) fit.numbers s.requests.once;
-          callers =
-              ap (list_all (is_caller b.callers)) since
-              ∙ (list_all-append (is_caller b.callers) (taken_since b v) (q ∷ [])
-              ∙ and_from (list_all (is_caller b.callers) (taken_since b v)) (list_all (is_caller b.callers) (q ∷ [])) s.requests.callers (is_caller_0 b.callers q refl (omega (arith, same, some))));
-          few = let one = s.requests.few in omega arith;
-        };
-        received = received_part b v w past past s.received refl refl refl refl;
-        sent = sent_part b v w past past s.sent refl refl refl;
-        told = told_part b v w past [] s.told refl (sym (append-nil old.unplaced)) refl;
-        heard = heard_part b v w past [] s.heard refl (sym (append-nil (map heard_as old.unannounced))) refl;
-      };
-      inside = record {
-        setting = f.inside.setting;
-        fits = f.inside.fits;
-        holds = f.inside.holds;
-        kinds_are = f.inside.kinds_are;
-        callers_are = f.inside.callers_are;
-        sound = f.inside.sound;
-        by_fault = f.inside.by_fault;
-        one_stop = f.inside.one_stop;
-        delays_are = f.inside.delays_are;
-        come = come_on b v w past [] old.course (λ h. h) (grows_none v w refl refl) f.inside.come;
-      };
+      taken = refl;
+      caller = is_caller_0 (length d.desk.rings) q refl some;
+      once = ap are_distinct (since_more b v w past (q ∷ []) s refl) ∙ distinct_last n ask (taken_since b v) fit.numbers s.requests.once;
+      room = room;
+      desk_stays = refl;
+      told_stays = refl;
+      announced_stays = refl;
     }
 
 -- the numbers that its desk's end took then
@@ -150,39 +114,36 @@ numbered_here b l d old k n ask past fit =
 
 -- ## It is taken
 
-pub takes_request : (k0 k1 k2 : Machine) (n : ℕ) (ask : Ask) → HandlesFrames k0 k1 → HandLacksRoom k1 → k1.aside ≡ None → length k1.core.hand + length k1.unplaced < 128 → TakesAside (record k1 { aside = Some (record { caller = 0; number = n; ask = ask }) }) k2 → (l : LineView) (d : DriverView)
+pub takes_request : (k0 k1 k2 : Machine) (n : ℕ) (ask : Ask) → HandlesFrames k0 k1 → HandLacksRoom k1 → length k1.core.hand + length k1.unplaced < 128 → MachineTakes k1 k2 (record { caller = 0; number = n; ask = ask }) → (l : LineView) (d : DriverView)
     → TakesRequest l d (record { machine = k0; next = n }) (record { machine = k2; next = n + 1 }) ask n
-unfolding MachineGoes LeadsOver
-takes_request k0 k1 k2 n ask handles lacks none room takes l d =
+unfolding LeadsOver
+takes_request k0 k1 k2 n ask handles lacks room takes l d =
     let e = with_taken d (record { caller = 0; number = n; ask = ask }) in
     record {
       between = record { machine = k1; next = n };
       frames = handled_all k0 k1 n handles lacks l d;
       acts = takes.acts;
       leads = λ some b past f. record {
-        stands = takes.goes b l e past (asks_here b l d k1 n ask past none room some f);
+        stands = takes.goes b l d e past f.stands (next_here b l d k1 n ask past room some f);
         numbers = numbered_here b l d k1 k2 n ask past f;
       };
-      may = λ some b past f waiting. (takes.adds waiting b l e past (asks_here b l d k1 n ask past none room some f)).may;
+      may = λ some b past f waiting. (takes.adds waiting b l d e past f.stands (next_here b l d k1 n ask past room some f)).may;
     }
 
-pub numbers : (k0 k1 k2 : Machine) (n later : ℕ) (ask : Ask) → HandlesFrames k0 k1 → HandLacksRoom k1 → k1.aside ≡ None → length k1.core.hand + length k1.unplaced < 128 → TakesAside (record k1 { aside = Some (record { caller = 0; number = n; ask = ask }) }) k2 → later ≡ n + 1
+pub numbers : (k0 k1 k2 : Machine) (n later : ℕ) (ask : Ask) → HandlesFrames k0 k1 → HandLacksRoom k1 → length k1.core.hand + length k1.unplaced < 128 → MachineTakes k1 k2 (record { caller = 0; number = n; ask = ask }) → later ≡ n + 1
     → Numbers (record { machine = k0; next = n }) (record { machine = k2; next = later }) ask n
-numbers k0 k1 k2 n later ask handles lacks none room takes e = record {
+numbers k0 k1 k2 n later ask handles lacks room takes e = record {
   number = refl;
   later = e;
-  takes = λ l d. subst (λ (m : ℕ). TakesRequest l d (record { machine = k0; next = n }) (record { machine = k2; next = m }) ask n) (sym e) (takes_request k0 k1 k2 n ask handles lacks none room takes l d);
+  takes = λ l d. subst (λ (m : ℕ). TakesRequest l d (record { machine = k0; next = n }) (record { machine = k2; next = m }) ask n) (sym e) (takes_request k0 k1 k2 n ask handles lacks room takes l d);
 }
 
 pub refuses : (k0 k1 : Machine) (n : ℕ) → HandlesFrames k0 k1 → Refuses (record { machine = k0; next = n }) (record { machine = k1; next = n })
 refuses k0 k1 n handles = record { number = refl; handles = handled_alone k0 k1 n handles }
 
--- the octets are all fed, and none is kept aside
-pub fed_after : (k1 k2 : Machine) (q : Request) → TakesAside (record k1 { aside = Some q }) k2 → k1.unfed ≡ [] → HasNoneAside k2
-fed_after k1 k2 q takes fed = record {
-  fed = ap (λ (k : Machine). k.unfed) takes.stays ∙ fed;
-  bare = ap (λ (k : Machine). k.aside) takes.stays;
-}
+-- the octets are all fed
+pub fed_after : (k1 k2 : Machine) (q : Request) → MachineTakes k1 k2 q → k1.unfed ≡ [] → k2.unfed ≡ []
+fed_after k1 k2 q takes fed = ap (λ (k : Machine). k.unfed) takes.stays ∙ fed
 
 -- where a call was refused, whatever it is of
 pub always_err : {A E : Type 0} (P : Type 0) (r : Result A E) → P → OnErr r P

@@ -1,11 +1,11 @@
 -- A tick passes, and the line is lost.
 use Rattle.std.proofs.Common.{ap, ◌∙◌}
-use Rattle.std.specs.Prelude.{ℕ, true, List, [], refl}
+use Rattle.std.specs.Prelude.{◌≡◌, ℕ, true, List, [], refl}
 use Rattle.modem_desk.specs.Ends.{DriverView}
 use Rattle.modem_history.specs.Acts.{Act}
 use Rattle.modem_history.specs.Sessions.{LineView}
 use Rattle.modem_driver.specs.EndpointSteps.{HandLacksRoom, HandlesFrames}
-use Rattle.modem_driver.specs.Endpoints.{HasNoneAside, Loses, Ticks, with_failure}
+use Rattle.modem_driver.specs.Endpoints.{Loses, Ticks, with_failure}
 use Rattle.modem_driver.specs.SessionStates.{Machine, MachineGoes, MachineLoses, MachineMoves, MachineTicks}
 use Rattle.modem_driver.specs.TurnSteps.{Leads, turn_state}
 use Rattle.modem_driver.proofs.endpoints.WholeCalls.{handled_all, leads_over}
@@ -49,6 +49,6 @@ loses k0 k1 k2 next handles lacks loss l d =
           record { live = t.live; gone = t.gone; before = t.before; told = t.told; acts_are = t.acts_are; may = a.may; none_got = a.none_got; none_in_hand = t.none_in_hand };
     }
 
--- the octets are all fed, and none is kept aside
-pub bare_after : (k1 k2 : Machine) → MachineLoses (record k1 { faulty = true }) k2 → HasNoneAside k1 → HasNoneAside k2
-bare_after k1 k2 loss h = record { fed = ap (λ (k : Machine). k.unfed) loss.stays ∙ h.fed; bare = ap (λ (k : Machine). k.aside) loss.stays ∙ h.bare }
+-- the octets are all fed
+pub fed_lost : (k1 k2 : Machine) → MachineLoses (record k1 { faulty = true }) k2 → k1.unfed ≡ [] → k2.unfed ≡ []
+fed_lost k1 k2 loss fed = ap (λ (k : Machine). k.unfed) loss.stays ∙ fed

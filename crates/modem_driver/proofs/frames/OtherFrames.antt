@@ -1,5 +1,5 @@
 -- A frame that isn't data of an open connection: the acts are what it calls for, and the core fits them.
-use Rattle.std.specs.Prelude.{◌≡◌, ℕ, ◌<◌, ◌≤◌, ◌&&◌, not, Bool, true, false, List, [], ◌∷◌, ◌++◌, length, map, drop, filter, filter_map, slice_get, refl, None, Some, if◌then◌else◌}
+use Rattle.std.specs.Prelude.{◌≡◌, ℕ, ◌<◌, ◌≤◌, ◌&&◌, not, Bool, true, false, List, [], ◌∷◌, ◌++◌, length, map, take, drop, filter, filter_map, slice_get, refl, None, Some, if◌then◌else◌}
 use Rattle.std.specs.List.{list_all}
 use Rattle.std.proofs.Common.{ap, sym, ◌∙◌, subst, arith}
 use Rattle.std.proofs.lemmas.Bool.{and_parts}
@@ -28,7 +28,8 @@ use Rattle.modem_history.specs.Calls.{Setting, HistoryView, seen, calls, is_lost
 use Rattle.modem_driver.specs.Telling.{told_by, told_to, left_by, probe_noted}
 use Rattle.modem_driver.specs.Cores as cores
 use Rattle.modem_driver.specs.Cores.{Core, Runs, RunsUnless, Fits, IsRun, IsSettingOf, MayCome, GoesOn, Handles, state_shown, may_wait, probe_or, probe_in}
-use Rattle.modem_driver.specs.Receiving.{sent_in, answer_room, afresh_if, reads_data, fits_in, HasRoom}
+use Rattle.modem_driver.specs.Doing.{QueuesAtMost, new_frames}
+use Rattle.modem_driver.specs.Receiving.{sent_in, answer_room, afresh_if, brings_data, cut_to, reads_data, fits_in, HasRoom}
 use Rattle.mux_station.specs.declared.error.StationError.TheVariants.{NoRoom}
 use Rattle.mux_station.specs.Tables.{have_room, octets_of, by_frame}
 use Rattle.modem_history.proofs.calls.CalledActs.{Saids, calls_said}
@@ -45,7 +46,7 @@ use Rattle.modem_driver.proofs.outgoing.CoreAfterFrame.{IsSound, own, own_is, ru
 use Rattle.modem_driver.proofs.probes.OneProbe.{one_probe, probes}
 use Rattle.modem_driver.proofs.probes.ProbeAnswers.{EachProbe, each_probe, probe_says, probe_left, still}
 use Rattle.modem_driver.proofs.probes.ProbeAfterFrame.{needs_open, probe_then}
-use Rattle.modem_driver.proofs.frames.StationAfterFrame.{seen_then, same_then, now_then, shown_then, sent_there, sent_whole, frames_short, queued_since}
+use Rattle.modem_driver.proofs.frames.StationAfterFrame.{cut_one, seen_then, same_then, now_then, shown_then, sent_there, sent_whole, frames_short, queued_since}
 use Rattle.modem_driver.proofs.frames.LanesAfterFrame.{opens_noted, other_lanes}
 use Rattle.modem_driver.proofs.requests.WaitingRequests.{left_waits}
 
@@ -187,12 +188,6 @@ other_own old new l past f n st ended_now acts i w m =
       run = subst (λ (x : List Act). IsRun s (after past x)) (sym called) (runs.run_on s past (Got f) refl tt m.run m.numbers);
     }
 
-pub other_handles : (old new : Core) (f : Frame) (n : Noted) (st : Station) (ended_now : Bool) (acts : List Act) → IsSound old → OtherCame old new f n st ended_now acts → Handles old new (Got f) acts
-unfolding Handles
-other_handles old new f n st ended_now acts i w s past m =
-    let e = own_is s old m.setting in
-    subst (λ (x : Setting). GoesOn x new past (Got f) acts) (sym e) (other_own old new s.listens past f n st ended_now acts i w (subst (λ (x : Setting). MayCome x old past (Got f)) e m))
-
 -- the same acts, where what was sent is read off the control queue
 pub other_since : (old new : Core) (f : Frame) (n : Noted) (st : Station) (ended_now : Bool) (acts : List Act) → IsSound old → OtherCame old new f n st ended_now acts
     → Handles old new (Got f) (Got f ∷ (map Sent (drop (length old.station.queue) st.queue) ++ map act_of (told_to (told_by (happened.Got n) ended_now (λ d. state_shown st false d)) old.hand)))
@@ -212,6 +207,33 @@ other_since old new f n st ended_now acts i w s past m =
     = w.acts_are ∙ ap (λ (x : List Act). Got f ∷ (x ++ told)) (sym (since ∙ whole)) in
     subst (λ (x : List Act). GoesOn s new past (Got f) x) same
     (subst (λ (x : Setting). GoesOn x new past (Got f) acts) (sym e) (other_own old new s.listens past f n st ended_now acts i w may))
+
+-- one frame at most is queued, with the information of the one that came or four octets
+pub other_queues : (old new : Core) (f : Frame) (n : Noted) (st : Station) (ended_now : Bool) (acts : List Act) → IsSound old → OtherCame old new f n st ended_now acts → QueuesAtMost 1 (answer_room f) old new (Got f)
+unfolding QueuesAtMost
+other_queues old new f n st ended_now acts i w s past m =
+    let e = own_is s old m.setting in
+    let may = subst (λ (x : Setting). MayCome x old past (Got f)) e m in
+    let live : is_lost past ≡ false = may.fits.lost_is ∙ w.live in
+    let r = running old past w.live may.fits in
+    let there = w.handles.fits r.seen r.fits in
+    let fs = frames_in (own old s.listens) past (Got f) in
+    let since : new_frames old new ≡ fs = ap (λ (v : Core). drop (length old.station.queue) v.station.queue) w.new_is ∙ queued_since old s.listens past r f st i live there in
+    subst (λ (gs : List Frame). map (cut_to (answer_room f)) (take 1 gs) ≡ gs) (sym since) (cut_one (answer_room f) fs (frames_short (own old s.listens) past f refl))
+
+-- while the line isn't lost, what brings no data isn't read, and what brings some is
+pub unread_live : (v : Core) (f : Frame) → v.lost ≡ false → brings_data v f ≡ false → reads_data v f ≡ false
+unread_live v f live h = sym (ap (λ (b : Bool). not b && reads_data v f) live) ∙ h
+
+pub read_in : (v : Core) (f : Frame) → brings_data v f ≡ true → reads_data v f ≡ true
+read_in v f h = (and_parts (not v.lost) (reads_data v f) h).1
+
+pub live_in : (v : Core) (f : Frame) → brings_data v f ≡ true → v.lost ≡ false
+live_in v f h = not_so v.lost (and_parts (not v.lost) (reads_data v f) h).0
+  where
+    not_so : (b : Bool) → not b ≡ true → b ≡ false
+    not_so false e = refl
+    not_so true e = cc
 
 -- ## Room
 

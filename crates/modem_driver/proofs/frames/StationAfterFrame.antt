@@ -133,6 +133,19 @@ sent_whole room [] h = refl
 sent_whole room (f ∷ []) h = ap (λ (g : Frame). Sent g ∷ []) (sym (cut_same room f h))
 sent_whole room (f ∷ g ∷ fs) h = absurd h
 
+-- the first of them, cut to the room, is all of them
+pub cut_one : (room : ℕ) (fs : List Frame) → AreShort room fs → map (cut_to room) (take 1 fs) ≡ fs
+cut_one room [] h = refl
+cut_one room (f ∷ []) h = ap (λ (g : Frame). g ∷ []) (cut_same room f h)
+cut_one room (f ∷ g ∷ fs) h = absurd h
+
+-- the frame at a place
+pub sent_first : (room place : ℕ) (fs : List Frame) → sent_in room (slice_get fs place) ≡ map Sent (map (cut_to room) (take 1 (drop place fs)))
+sent_first room zero [] = refl
+sent_first room (suc n) [] = refl
+sent_first room zero (f ∷ fs) = refl
+sent_first room (suc n) (f ∷ fs) = sent_first room n fs
+
 short_if : (room : ℕ) (b : Bool) (fs gs : List Frame) → AreShort room fs → AreShort room gs → AreShort room (if b then fs else gs)
 short_if room true fs gs h k = h
 short_if room false fs gs h k = k

@@ -360,14 +360,11 @@ flow_acts : (d : Dlci) (go : Bool) → act_of (if go then code.TheVariants.Freed
 flow_acts d true = refl
 flow_acts d false = refl
 
-pub turn_handles : (v new : Core) (w : Station) (d : Dlci) (go : Bool) (f : FrameBuf) (acts : List code.Act) → v.station.role ≡ Initiator → v.lost ≡ false → length v.lanes ≡ 62 → Flowing v w d.number go
-    → new ≡ record v { station = w; lanes = turned v.lanes d.number (not go) } → kept_frame f ≡ flow_frame d.number go Initiator
-    → acts ≡ (if go then code.TheVariants.Freed d else code.TheVariants.Held d) ∷ code.TheVariants.Sent f ∷ [] → TurnsFlow v new d.number go (map act_of acts)
-unfolding TurnsFlow
-turn_handles v new w d go f acts role lost size o n k h s past m =
-    let acts_are : map act_of acts ≡ flow_act d.number go ∷ Sent (flow_frame d.number go Initiator) ∷ []
-    = ap (map act_of) h ∙ (ap (λ (a : Act). a ∷ Sent (kept_frame f) ∷ []) (flow_acts d go) ∙ ap (λ (g : Frame). flow_act d.number go ∷ Sent g ∷ []) k) in
-    subst (λ (x : List Act). GoesOn s new past (flow_act d.number go) x × HoldsFit new (after past x)) (sym acts_are) (turn_on s v new past w d.number go role lost size o m n)
+-- the acts that were written down are those that are due
+pub flow_written : (d : Dlci) (go : Bool) (f : FrameBuf) (acts : List code.Act) → kept_frame f ≡ flow_frame d.number go Initiator
+    → acts ≡ (if go then code.TheVariants.Freed d else code.TheVariants.Held d) ∷ code.TheVariants.Sent f ∷ [] → map act_of acts ≡ flow_act d.number go ∷ Sent (flow_frame d.number go Initiator) ∷ []
+flow_written d go f acts k h =
+    ap (map act_of) h ∙ (ap (λ (a : Act). a ∷ Sent (kept_frame f) ∷ []) (flow_acts d go) ∙ ap (λ (g : Frame). flow_act d.number go ∷ Sent g ∷ []) k)
 
 pub turns_since : (v new : Core) (w : Station) (d : ℕ) (go : Bool) → v.station.role ≡ Initiator → v.lost ≡ false → length v.lanes ≡ 62 → Flowing v w d go
     → new ≡ record v { station = w; lanes = turned v.lanes d (not go) } → TurnsFlow v new d go (flow_act d go ∷ Sent (flow_frame d go Initiator) ∷ [])

@@ -1,13 +1,11 @@
 -- Calls on other matters keep what is held.
-use Rattle.std.specs.Prelude.{◌≡◌, ℕ, ◌&&◌, Bool, true, false, List, [], ◌∷◌, map, refl, Result, Ok, Err, IfOk}
+use Rattle.std.specs.Prelude.{◌≡◌, ℕ, ◌&&◌, Bool, true, false, List, [], ◌∷◌, refl}
 use Rattle.std.proofs.Common.{ap, sym, ◌∙◌, subst}
-use Rattle.std.specs.Global.{Vec}
 use Rattle.mux_station.specs.declared.role.Role.{Role}
 use Rattle.mux_station.specs.declared.role.Role.TheVariants.{Initiator}
 use Rattle.mux_station.specs.Opening.{is_open}
 use Rattle.modem_desk.specs.declared.request.Request.{Request}
-use Rattle.modem_history.specs.declared.act.Act as code
-use Rattle.modem_history.specs.Acts.{Act, Took, Tick, Lost, act_of, after, wire}
+use Rattle.modem_history.specs.Acts.{Act, Took, Tick, Lost, after, wire}
 use Rattle.modem_history.specs.Information.{opens_here}
 use Rattle.modem_history.specs.Calls.{Setting}
 use Rattle.modem_driver.specs.Lanes.{Lane}
@@ -46,10 +44,6 @@ tick_keeps = record {
   lasts = λ d past. if_not (opens_here Initiator d past Tick) (last_held Initiator d past) (opens_tick Initiator d (wire past));
   was_open = λ s d past r o. tick_was Initiator d (wire past) (first_open s d past Tick r o);
 }
-
-pub keeps_took : {E : Type 0} → (r : Result (Vec code.Act) E) (old new : Core) (q : Request) → new.lanes ≡ old.lanes → IfOk r (λ acts. Handles old new (Took q) (map act_of acts.items)) → IfOk r (λ acts. KeepsHeld old new (Took q) (map act_of acts.items))
-keeps_took (Ok x) old new q n h = keeps_by old new (Took q) (map act_of x.items) (took_keeps q) n h
-keeps_took (Err e) old new q n h = h
 
 pub keeps_sent : (old new : Core) (q : Request) (acts : List Act) → new.lanes ≡ old.lanes → Handles old new (Took q) acts → KeepsHeld old new (Took q) acts
 keeps_sent old new q acts n h = keeps_by old new (Took q) acts (took_keeps q) n h

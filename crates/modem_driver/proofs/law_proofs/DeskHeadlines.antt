@@ -4,7 +4,7 @@ use Rattle.std.proofs.lemmas.Bool.{and_parts, and_from}
 use Rattle.std.proofs.lemmas.List.{append_assoc, append-nil, length-append, map-append}
 use Rattle.std.proofs.lemmas.List.Elements.{filter-append, All-contains}
 use Rattle.std.proofs.lemmas.List.Folds.{list_all-append, list_any-append}
-use Rattle.std.specs.Prelude.{◌≡◌, ℕ, zero, suc, ◌+◌, ◌≤◌, ◌==◌, ◌&&◌, ◌||◌, Bool, true, false, List, [], ◌∷◌, ◌++◌, length, map, filter, flat_map, option_to_list, slice_index_or, refl, if◌then◌else◌, Contains}
+use Rattle.std.specs.Prelude.{◌≡◌, ℕ, zero, suc, ◌+◌, ◌≤◌, ◌==◌, ◌&&◌, ◌||◌, Bool, true, false, List, [], ◌∷◌, ◌++◌, length, map, filter, flat_map, slice_index_or, refl, if◌then◌else◌, Contains}
 use Rattle.std.specs.List.{list_all, list_any}
 use mathlib.Core.Option.{some, some-injective, some-ne-none}
 use lib.ListN.{get_elem?}
@@ -19,6 +19,7 @@ use Rattle.modem_history.specs.EveryTurn.{GivesSome}
 use Rattle.modem_history.specs.Kinds.{of_kind}
 use Rattle.modem_history.specs.Lawful.{Lawful}
 use Rattle.modem_history.specs.SessionLaws.{untold}
+use Rattle.modem_history.proofs.law_proofs.SessionLaws.{distinct_taken}
 use Rattle.modem_history.specs.Sessions.{Beginning, EndView, Leftovers, SessionFits, SessionView, at_place, caller_outcomes, driving, heard_as, heards}
 use Rattle.modem_history.specs.Wholes.{is_same, outcomes, taken_requests}
 use Rattle.modem_history.proofs.commands.SentPrefixes.{leaves_once}
@@ -29,7 +30,7 @@ use Rattle.modem_driver.specs.DeskHeadline.{AnnouncedOver, DeskRun, Follow, Hold
 use Rattle.modem_driver.specs.TurningAway.{line_lost}
 use Rattle.modem_driver.proofs.replays.FullFrames.{turns_are_full}
 use Rattle.modem_driver.proofs.law_proofs.GrownHistories.{fits_in}
-use Rattle.modem_driver.proofs.law_proofs.Headlines.{any_more, answers_own, hears_each, of_its_own, once_taken, order_of, own_answers, subscription_at, while_open}
+use Rattle.modem_driver.proofs.law_proofs.Headlines.{any_more, answers_own, hears_each, of_its_own, order_of, own_answers, subscription_at, while_open}
 use Rattle.modem_driver.proofs.law_proofs.RequestNumbers.{numbered_once}
 use Rattle.modem_driver.proofs.law_proofs.RequestPlaces.{counted_own, is_counted, is_told, many_untold, no_answer, some_answer, told_taken}
 use Rattle.modem_driver.proofs.sessions.polls.OfflinePasses.{gives_on, gives_then}
@@ -81,13 +82,9 @@ module _ (kinds : List UrcKind) (callers : ℕ) (d : EndView) (s : Spell) (p : I
   facts : RestFacts kinds s.leftovers s.rest
   facts = rest_facts kinds callers p.rests
 
--- what was taken behind what the history took
-abbrev later_of : (kinds : List UrcKind) (callers : ℕ) (d : EndView) (s : Spell) → IsSpell kinds callers d s → List Request
-later_of kinds callers d s p = option_to_list s.session.aside ++ (facts kinds callers d s p).more
-
 -- all that was taken
 abbrev taken_of : (kinds : List UrcKind) (callers : ℕ) (d : EndView) (s : Spell) → IsSpell kinds callers d s → List Request
-taken_of kinds callers d s p = taken_requests s.past ++ later_of kinds callers d s p
+taken_of kinds callers d s p = taken_requests s.past ++ (facts kinds callers d s p).more
 
 spell_taken : (kinds : List UrcKind) (callers : ℕ) (d : EndView) (s : Spell) (p : IsSpell kinds callers d s) → s.rest.desk.taken ≡ d.taken ++ taken_of kinds callers d s p
 spell_taken kinds callers d s p =
@@ -95,9 +92,8 @@ spell_taken kinds callers d s p =
     f.taken
     ∙ (ap (λ (e : EndView). e.taken ++ f.more) p.finishes.desk_stays
     ∙ (ap (λ (qs : List Request). qs ++ f.more) (fits_in p.grown).requests.taken_are
-    ∙ (ap (λ (e : EndView). ((e.taken ++ taken_requests s.past) ++ option_to_list s.session.aside) ++ f.more) p.begins
-    ∙ (append_assoc (d.taken ++ taken_requests s.past) (option_to_list s.session.aside) f.more
-    ∙ append_assoc d.taken (taken_requests s.past) (option_to_list s.session.aside ++ f.more)))))
+    ∙ (ap (λ (e : EndView). (e.taken ++ taken_requests s.past) ++ f.more) p.begins
+    ∙ append_assoc d.taken (taken_requests s.past) f.more)))
 
 spell_told : (kinds : List UrcKind) (callers : ℕ) (d : EndView) (s : Spell) (p : IsSpell kinds callers d s) (c : ℕ)
     → GivesSome (at_place c d.told) (at_place c s.rest.desk.told) (caller_outcomes c (outcomes s.past) ++ caller_outcomes c (map line_lost (facts kinds callers d s p).lost)) (caller_outcomes c s.rest.unplaced)
@@ -164,7 +160,7 @@ counts_once b v past f r few = by_told (is_told (outcomes past) r) refl
     by_told : (t : Bool) → is_told (outcomes past) r ≡ t → answers r (outcomes past) + many r (untold past) ≡ many r (taken_requests past)
     by_told true t =
         let some_one = some_answer r (outcomes past) t in
-        let most = (answers_once (driving b) past f.history.lawful).once (uses_once (taken_requests past) (once_taken b v past f)) r in
+        let most = (answers_once (driving b) past f.history.lawful).once (uses_once (taken_requests past) (distinct_taken b v past f)) r in
         let waits : many r (untold past) ≡ 0 = many_untold r (outcomes past) (taken_requests past) ∙ ap (λ (c : Bool). if c then 0 else many r (taken_requests past)) t in
         let was = told_taken r (outcomes past) (taken_requests past) (all_answer (driving b) past f.history.lawful) t in
         omega (arith, some_one, most, waits, was, few)
@@ -179,18 +175,17 @@ spell_counts : (kinds : List UrcKind) (callers : ℕ) (d : EndView) (s : Spell) 
 spell_counts kinds callers d s p r few =
     let f = facts kinds callers d s p in
     let c = r.caller in
-    let whole : many r (taken_of kinds callers d s p) ≡ many r (taken_requests s.past) + (many r (option_to_list s.session.aside) + many r f.more)
-    = many_append r (taken_requests s.past) (later_of kinds callers d s p) ∙ ap (λ (n : ℕ). many r (taken_requests s.past) + n) (many_append r (option_to_list s.session.aside) f.more) in
+    let whole : many r (taken_of kinds callers d s p) ≡ many r (taken_requests s.past) + many r f.more = many_append r (taken_requests s.past) f.more in
     let told : answers r ((spell_told kinds callers d s p c).given ++ caller_outcomes c s.rest.unplaced) ≡ answers r (outcomes s.past) + answers r (map line_lost f.lost)
     = ap (answers r) ((spell_told kinds callers d s p c).rest_are)
     ∙ (answers_both r (caller_outcomes c (outcomes s.past)) (caller_outcomes c (map line_lost f.lost))
     ∙ (ap (λ (n : ℕ). n + answers r (caller_outcomes c (map line_lost f.lost))) (answers_own_caller r (outcomes s.past)) ∙ ap (λ (n : ℕ). answers r (outcomes s.past) + n) (answers_own_caller r (map line_lost f.lost)))) in
     let lost : answers r (map line_lost f.lost) ≡ many r f.lost = answers_lost r f.lost ∙ many_filtered r f.lost in
-    let hand : s.leftovers.in_hand ≡ untold s.past ++ option_to_list s.session.aside
-    = p.finishes.hand_is ∙ ap (λ (qs : List Request). qs ++ option_to_list s.session.aside) (hand_is (driving s.start) s.past (fits_in p.grown).history.lawful (once_taken s.start s.session s.past (fits_in p.grown))) in
+    let hand : s.leftovers.in_hand ≡ untold s.past
+    = p.finishes.hand_is ∙ hand_is (driving s.start) s.past (fits_in p.grown).history.lawful (distinct_taken s.start s.session s.past (fits_in p.grown)) in
     let places : many r s.rest.in_hand + many r f.lost ≡ many r s.leftovers.in_hand + many r f.more
     = sym (many_append r s.rest.in_hand f.lost) ∙ (ap (many r) f.places ∙ many_append r s.leftovers.in_hand f.more) in
-    let in_hand_are : many r s.leftovers.in_hand ≡ many r (untold s.past) + many r (option_to_list s.session.aside) = ap (many r) hand ∙ many_append r (untold s.past) (option_to_list s.session.aside) in
+    let in_hand_are : many r s.leftovers.in_hand ≡ many r (untold s.past) = ap (many r) hand in
     let once = counts_once s.start s.session s.past (fits_in p.grown) r (omega (arith, whole, few)) in
     omega (arith, whole, told, lost, places, in_hand_are, once)
 
@@ -252,17 +247,16 @@ spell_own kinds callers d s p c =
     let all = taken_of kinds callers d s p in
     let lost = map line_lost f.lost in
     let within : (r : Request) → many r f.lost ≤ many r all = λ r.
-    let whole : many r all ≡ many r (taken_requests s.past) + (many r (option_to_list s.session.aside) + many r f.more)
-    = many_append r (taken_requests s.past) (later_of kinds callers d s p) ∙ ap (λ (n : ℕ). many r (taken_requests s.past) + n) (many_append r (option_to_list s.session.aside) f.more) in
-    let hand : s.leftovers.in_hand ≡ untold s.past ++ option_to_list s.session.aside
-    = p.finishes.hand_is ∙ ap (λ (qs : List Request). qs ++ option_to_list s.session.aside) (hand_is (driving s.start) s.past (fits_in p.grown).history.lawful (once_taken s.start s.session s.past (fits_in p.grown))) in
+    let whole : many r all ≡ many r (taken_requests s.past) + many r f.more = many_append r (taken_requests s.past) f.more in
+    let hand : s.leftovers.in_hand ≡ untold s.past
+    = p.finishes.hand_is ∙ hand_is (driving s.start) s.past (fits_in p.grown).history.lawful (distinct_taken s.start s.session s.past (fits_in p.grown)) in
     let places : many r s.rest.in_hand + many r f.lost ≡ many r s.leftovers.in_hand + many r f.more
     = sym (many_append r s.rest.in_hand f.lost) ∙ (ap (many r) f.places ∙ many_append r s.leftovers.in_hand f.more) in
-    let in_hand_are : many r s.leftovers.in_hand ≡ many r (untold s.past) + many r (option_to_list s.session.aside) = ap (many r) hand ∙ many_append r (untold s.past) (option_to_list s.session.aside) in
+    let in_hand_are : many r s.leftovers.in_hand ≡ many r (untold s.past) = ap (many r) hand in
     let fewer = few_untold (is_told (outcomes s.past) r) (many r (untold s.past)) (many r (taken_requests s.past)) (many_untold r (outcomes s.past) (taken_requests s.past)) in
     omega (arith, whole, places, in_hand_are, fewer) in
     let told : list_all (answered_in all) (outcomes s.past) ≡ true
-    = all_wider (answered_in (taken_requests s.past)) (answered_in all) (λ o. any_more o (taken_requests s.past) (later_of kinds callers d s p)) (outcomes s.past) (all_answer (driving s.start) s.past (fits_in p.grown).history.lawful) in
+    = all_wider (answered_in (taken_requests s.past)) (answered_in all) (λ o. any_more o (taken_requests s.past) f.more) (outcomes s.past) (all_answer (driving s.start) s.past (fits_in p.grown).history.lawful) in
     let one = own_answers c all [] (outcomes s.past) told in
     let other = own_answers c all [] lost (lost_answered all f.lost within) in
     ap (list_all (answered_in (of_caller c all))) (spell_told kinds callers d s p c).rest_are
@@ -387,7 +381,7 @@ spell_headline kinds callers d s p more left cs submitted = record {
     is_prefix = leaves_once (driving s.start) older (lawful_part (driving s.start) newer older (subst (Lawful (driving s.start)) joins (fits_in p.grown).history.lawful)) n;
     order = λ i c at.
         let own = λ (q : Request). q.caller == c.place.number in
-        let later = later_of kinds callers d s p in
+        let later = (facts kinds callers d s p).more in
         order_of c.place.number c.submitted (of_caller c.place.number d.taken) ((of_caller c.place.number later ++ of_caller c.place.number more) ++ of_caller c.place.number left) s.start s.session s.past (fits_in p.grown)
         (submitted i c at ∙ parted own d.taken (taken_requests s.past) later more left) newer older joins n;
   };

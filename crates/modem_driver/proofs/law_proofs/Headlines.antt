@@ -4,7 +4,7 @@ use Rattle.std.proofs.lemmas.Bool.{and_parts, and_from}
 use Rattle.std.proofs.lemmas.List.{append_assoc, append-nil}
 use Rattle.std.proofs.lemmas.List.Elements.{filter-append, All-nil, All-cons, All-contains}
 use Rattle.std.proofs.lemmas.List.Folds.{list_any-append}
-use Rattle.std.specs.Prelude.{◌≡◌, ℕ, zero, suc, ◌+◌, ◌≤◌, ◌==◌, ◌||◌, Bool, true, false, List, [], ◌∷◌, ◌++◌, length, map, filter, option_to_list, slice_index_or, refl, if◌then◌else◌, All, Contains}
+use Rattle.std.specs.Prelude.{◌≡◌, ℕ, zero, suc, ◌+◌, ◌≤◌, ◌==◌, ◌||◌, Bool, true, false, List, [], ◌∷◌, ◌++◌, length, map, filter, slice_index_or, refl, if◌then◌else◌, All, Contains}
 use Rattle.std.specs.List.{list_all, list_any}
 use mathlib.Core.Option.{some, some-injective, some-ne-none}
 use lib.ListN.{get_elem?}
@@ -21,11 +21,10 @@ use Rattle.modem_history.specs.Acts.{Act, Took, Got, Sent, Told, Heard, Tick, Lo
 use Rattle.modem_history.specs.Information.{command_on}
 use Rattle.modem_history.specs.Kinds.{of_kind}
 use Rattle.modem_history.specs.Lawful.{Gated, Lawful, When, owed}
-use Rattle.modem_history.specs.Requests.{are_distinct}
 use Rattle.modem_history.specs.Sessions as session
 use Rattle.modem_history.specs.Sessions.{AreOnce, Beginning, IsHistory, SessionFits, SessionView, TakesWithRoom, driving, heard_as, heards, taken_since}
 use Rattle.modem_history.specs.SessionLaws.{untold}
-use Rattle.modem_history.proofs.law_proofs.SessionLaws.{since_are}
+use Rattle.modem_history.proofs.law_proofs.SessionLaws.{distinct_taken}
 use Rattle.modem_history.specs.Hearing.{HearsAll}
 use Rattle.modem_history.specs.Wholes.{TellsOwn, is_same, outcomes, taken_requests}
 use Rattle.modem_history.proofs.lists.Filters.{swapped}
@@ -33,7 +32,6 @@ use Rattle.modem_history.proofs.lines.HeardLines.{hears_all}
 use Rattle.modem_history.proofs.commands.SentPrefixes.{leaves_once}
 use Rattle.modem_history.proofs.outcomes.OutcomeCounts.{answers_once, lawful_part, many, many_append, many_filtered}
 use Rattle.modem_history.proofs.outcomes.OwnAnswers.{tells_own}
-use Rattle.modem_history.proofs.requests.RequestsAfterCalls.{distinct_front}
 use Rattle.modem_history.proofs.outcomes.SingleOutcomes.{of_its_caller, uses_once}
 use Rattle.modem_history.proofs.requests.UntoldRequests.{all_answer, hand_is}
 use Rattle.modem_driver.specs.Headline.{AnswersOwn, Announces, HasEnd, HasOnePlace, HearsEach, Holds, InSubmittedOrder, IsHeadline, IsSettled, NoneAfterClose, Run, outcomes_of}
@@ -45,23 +43,18 @@ use Rattle.modem_driver.proofs.law_proofs.SubmittedOrder.{Stretch, stretch_of}
 
 -- ## What leaves
 
-abbrev aside_of : Run → List Request
-aside_of run = option_to_list run.session.aside
-
--- what the driver's end took is what the history took, and then what is kept aside
-driver_took : (run : Run) (s : IsSettled run) (past : List Act) → SessionFits run.start run.session past → run.driver.taken ≡ taken_requests past ++ aside_of run
+-- what the driver's end took is what the history took
+driver_took : (run : Run) (s : IsSettled run) (past : List Act) → SessionFits run.start run.session past → run.driver.taken ≡ taken_requests past
 driver_took run s past f =
-    s.taken ∙ (ap (λ (d : session.EndView). d.taken) s.desk ∙ (f.requests.taken_are ∙ ap (λ (qs : List Request). qs ++ taken_requests past ++ aside_of run) s.none_taken))
+    s.taken ∙ (ap (λ (d : session.EndView). d.taken) s.desk ∙ (f.requests.taken_are ∙ ap (λ (qs : List Request). qs ++ taken_requests past) s.none_taken))
 
--- what a caller submitted: of what the history took, of what is kept aside, and of what was left
+-- what a caller submitted: of what the history took, and of what was left
 submitted_are : (run : Run) (s : IsSettled run) (past : List Act) → SessionFits run.start run.session past → (i : ℕ) (c : CallerView) → get_elem? run.callers i ≡ some c
-    → c.submitted ≡ of_caller c.place.number (taken_requests past) ++ (of_caller c.place.number (aside_of run) ++ of_caller c.place.number run.settlement.left)
+    → c.submitted ≡ of_caller c.place.number (taken_requests past) ++ of_caller c.place.number run.settlement.left
 submitted_are run s past f i c at =
     let n = c.place.number in
     sym ((s.books.callers i c at).order)
-    ∙ (ap (λ (qs : List Request). of_caller n qs ++ of_caller n run.settlement.left) (driver_took run s past f)
-    ∙ (ap (λ (qs : List Request). qs ++ of_caller n run.settlement.left) (filter-append (λ (q : Request). q.caller == n) (taken_requests past) (aside_of run))
-    ∙ append_assoc (of_caller n (taken_requests past)) (of_caller n (aside_of run)) (of_caller n run.settlement.left)))
+    ∙ ap (λ (qs : List Request). of_caller n qs ++ of_caller n run.settlement.left) (driver_took run s past f)
 
 pub room_before : (newer older : List Act) → TakesWithRoom (newer ++ older) → TakesWithRoom older
 room_before [] older h = h
@@ -129,13 +122,9 @@ while_open b past l newer older f joins is_data =
 
 -- ## What is answered, and what is announced
 
-pub once_taken : (b : Beginning) (v : SessionView) (past : List Act) → SessionFits b v past → are_distinct (taken_requests past) ≡ true
-once_taken b v past f =
-    (distinct_front (taken_requests past) (option_to_list v.aside) (sym (ap are_distinct (since_are b v past f)) ∙ f.requests.once)).0
-
 pub answers_own : (b : Beginning) (v : SessionView) (past : List Act) → SessionFits b v past → AnswersOwn b past
 unfolding TellsOwn
-answers_own b v past f = tells_own (driving b) past f.history.lawful refl f.history.calls (uses_once (taken_requests past) (once_taken b v past f))
+answers_own b v past f = tells_own (driving b) past f.history.lawful refl f.history.calls (uses_once (taken_requests past) (distinct_taken b v past f))
 
 pub hears_each : (b : Beginning) (v : SessionView) (past : List Act) → SessionFits b v past → HearsEach b past
 unfolding HearsAll
@@ -179,39 +168,36 @@ of_its_own n (q ∷ qs) = by_caller (q.caller == n) refl (of_its_own n qs)
     by_caller true h rest = All-cons (λ x. x.caller ≡ n) q (of_caller n qs) (eqb-true q.caller n h) rest
     by_caller false h rest = rest
 
--- a caller's request stands once among all that were taken, are kept aside or were left
+-- a caller's request stands once among all that were taken or left
 stands_once : (run : Run) (s : IsSettled run) (past : List Act) → SessionFits run.start run.session past → (i : ℕ) (c : CallerView) → get_elem? run.callers i ≡ some c
-    → (r : Request) → r.caller ≡ c.place.number → Contains c.submitted r → many r (taken_requests past) + (many r (aside_of run) + many r run.settlement.left) ≡ 1
+    → (r : Request) → r.caller ≡ c.place.number → Contains c.submitted r → many r (taken_requests past) + many r run.settlement.left ≡ 1
 stands_once run s past f i c at r own in_it =
     let book = s.books.callers i c at in
     let few : many r c.submitted ≤ 1 = subst (λ (n : ℕ). n ≤ 1) (many_filtered r c.submitted) (uses_once c.submitted (numbered_once c.place.first c.submitted book.numbered) r) in
     let some = is_counted c.submitted r in_it in
-    let whole : many r c.submitted ≡ many r (of_caller r.caller (taken_requests past)) + (many r (of_caller r.caller (aside_of run)) + many r (of_caller r.caller run.settlement.left)) =
-    ap (many r) (submitted_are run s past f i c at ∙ ap (λ (n : ℕ). of_caller n (taken_requests past) ++ (of_caller n (aside_of run) ++ of_caller n run.settlement.left)) (sym own))
-    ∙ (many_append r (of_caller r.caller (taken_requests past)) (of_caller r.caller (aside_of run) ++ of_caller r.caller run.settlement.left)
-    ∙ ap (λ (n : ℕ). many r (of_caller r.caller (taken_requests past)) + n) (many_append r (of_caller r.caller (aside_of run)) (of_caller r.caller run.settlement.left))) in
+    let whole : many r c.submitted ≡ many r (of_caller r.caller (taken_requests past)) + many r (of_caller r.caller run.settlement.left) =
+    ap (many r) (submitted_are run s past f i c at ∙ ap (λ (n : ℕ). of_caller n (taken_requests past) ++ of_caller n run.settlement.left) (sym own))
+    ∙ many_append r (of_caller r.caller (taken_requests past)) (of_caller r.caller run.settlement.left) in
     let t = counted_own r (taken_requests past) in
-    let a = counted_own r (aside_of run) in
     let l = counted_own r run.settlement.left in
-    omega (arith, few, some, whole, t, a, l)
+    omega (arith, few, some, whole, t, l)
 
 has_one_place : (run : Run) (s : IsSettled run) (e : HasEnd run) (i : ℕ) (c : CallerView) → get_elem? run.callers i ≡ some c → (r : Request) → Contains c.submitted r → HasOnePlace (outcomes_of run i c) run.leftovers.in_hand run.settlement.left r
 has_one_place run s e i c at r in_it =
     let n = c.place.number in
     let f = (fits_in e.grown) in
-    let once = once_taken run.start run.session run.past f in
-    let whole : c.submitted ≡ of_caller n (taken_requests run.past ++ (aside_of run ++ run.settlement.left)) =
-    submitted_are run s run.past f i c at
-    ∙ sym (filter-append (λ (q : Request). q.caller == n) (taken_requests run.past) (aside_of run ++ run.settlement.left) ∙ ap (λ (qs : List Request). of_caller n (taken_requests run.past) ++ qs) (filter-append (λ (q : Request). q.caller == n) (aside_of run) run.settlement.left)) in
+    let once = distinct_taken run.start run.session run.past f in
+    let whole : c.submitted ≡ of_caller n (taken_requests run.past ++ run.settlement.left) =
+    submitted_are run s run.past f i c at ∙ sym (filter-append (λ (q : Request). q.caller == n) (taken_requests run.past) run.settlement.left) in
     let own : r.caller ≡ n =
-    All-contains (λ q. q.caller ≡ n) (of_caller n (taken_requests run.past ++ (aside_of run ++ run.settlement.left))) r (of_its_own n (taken_requests run.past ++ (aside_of run ++ run.settlement.left))) (subst (λ (qs : List Request). Contains qs r) whole in_it) in
+    All-contains (λ q. q.caller ≡ n) (of_caller n (taken_requests run.past ++ run.settlement.left)) r (of_its_own n (taken_requests run.past ++ run.settlement.left)) (subst (λ (qs : List Request). Contains qs r) whole in_it) in
     let answers : length (filter (λ o. is_for r o) (outcomes_of run i c)) ≡ length (filter (λ o. is_for r o) (outcomes run.past)) =
     ap (λ (os : List Outcome). length (filter (λ o. is_for r o) os)) (outcomes_are run s e i c at ∙ ap (λ (m : ℕ). session.caller_outcomes m (outcomes run.past)) (sym own))
     ∙ ap (λ (os : List Outcome). length os) (of_its_caller r (outcomes run.past)) in
-    let hand : run.leftovers.in_hand ≡ untold run.past ++ aside_of run = e.finishes.hand_is ∙ ap (λ (qs : List Request). qs ++ aside_of run) (hand_is (driving run.start) run.past f.history.lawful once) in
+    let hand : run.leftovers.in_hand ≡ untold run.past = e.finishes.hand_is ∙ hand_is (driving run.start) run.past f.history.lawful once in
     let few = (answers_once (driving run.start) run.past f.history.lawful).once (uses_once (taken_requests run.past) once) r in
-    let place = one_place r (outcomes run.past) (taken_requests run.past) (aside_of run) run.settlement.left few (all_answer (driving run.start) run.past f.history.lawful) (stands_once run s run.past f i c at r own in_it) in
-    let in_hand_are : length (filter (is_same r) run.leftovers.in_hand) ≡ many r (untold run.past ++ aside_of run) = many_filtered r run.leftovers.in_hand ∙ ap (many r) hand in
+    let place = one_place r (outcomes run.past) (taken_requests run.past) run.settlement.left few (all_answer (driving run.start) run.past f.history.lawful) (stands_once run s run.past f i c at r own in_it) in
+    let in_hand_are : length (filter (is_same r) run.leftovers.in_hand) ≡ many r (untold run.past) = many_filtered r run.leftovers.in_hand ∙ ap (many r) hand in
     let left_are = many_filtered r run.settlement.left in
     omega (arith, answers, place, in_hand_are, left_are)
 
@@ -254,8 +240,8 @@ holds_each run s e i c at =
       each = has_one_place run s e i c at;
       own =
           ap (λ (qs : List Request). list_all (λ o. list_any (λ r. is_for r o) qs) (outcomes_of run i c)) (submitted_are run s run.past (fits_in e.grown) i c at)
-          ∙ (ap (list_all (λ o. list_any (λ r. is_for r o) (of_caller n (taken_requests run.past) ++ (of_caller n (aside_of run) ++ of_caller n run.settlement.left)))) (outcomes_are run s e i c at)
-          ∙ own_answers n (taken_requests run.past) (of_caller n (aside_of run) ++ of_caller n run.settlement.left) (outcomes run.past) (all_answer (driving run.start) run.past (fits_in e.grown).history.lawful));
+          ∙ (ap (list_all (λ o. list_any (λ r. is_for r o) (of_caller n (taken_requests run.past) ++ of_caller n run.settlement.left))) (outcomes_are run s e i c at)
+          ∙ own_answers n (taken_requests run.past) (of_caller n run.settlement.left) (outcomes run.past) (all_answer (driving run.start) run.past (fits_in e.grown).history.lawful));
     }
 
 -- ## The headline
@@ -268,7 +254,7 @@ headline run s =
       fits = (fits_in e.grown);
       leaves = λ newer older joins d. record {
         is_prefix = leaves_once (driving run.start) older (lawful_part (driving run.start) newer older (subst (Lawful (driving run.start)) joins (fits_in e.grown).history.lawful)) d;
-        order = λ i c at. order_of c.place.number c.submitted [] (of_caller c.place.number (aside_of run) ++ of_caller c.place.number run.settlement.left) run.start run.session run.past (fits_in e.grown) (submitted_are run s run.past (fits_in e.grown) i c at) newer older joins d;
+        order = λ i c at. order_of c.place.number c.submitted [] (of_caller c.place.number run.settlement.left) run.start run.session run.past (fits_in e.grown) (submitted_are run s run.past (fits_in e.grown) i c at) newer older joins d;
       };
       none_after_close = while_open run.start run.past (fits_in e.grown).history.lawful;
       full = turns_are_full (driving run.start) run.past (fits_in e.grown).history.in_turn;

@@ -2,14 +2,14 @@
 use Rattle.std.proofs.Common.{ap, sym, ◌∙◌, arith, zero-add, eqb-true}
 use Rattle.std.proofs.lemmas.Bool.{and_parts, eq-eqb}
 use Rattle.std.proofs.lemmas.List.Elements.{All-nil, All-cons, All-contains}
-use Rattle.std.specs.Prelude.{◌≡◌, ℕ, suc, ◌+◌, ◌≤◌, ◌==◌, ◌&&◌, ◌||◌, not, Bool, true, false, List, [], ◌∷◌, ◌++◌, length, filter, refl, if◌then◌else◌, All, Contains}
+use Rattle.std.specs.Prelude.{◌≡◌, ℕ, suc, ◌+◌, ◌≤◌, ◌==◌, ◌&&◌, ◌||◌, not, Bool, true, false, List, [], ◌∷◌, length, filter, refl, if◌then◌else◌, All, Contains}
 use Rattle.std.specs.List.{list_all, list_any}
 use Rattle.modem_desk.specs.declared.request.Request.{Request}
 use Rattle.modem_desk.specs.declared.request.Outcome.{Outcome}
 use Rattle.modem_desk.specs.Rule.{of_caller}
 use Rattle.modem_history.specs.Acts.{is_for}
 use Rattle.modem_history.specs.Wholes.{is_same}
-use Rattle.modem_history.proofs.outcomes.OutcomeCounts.{one, many, many_append}
+use Rattle.modem_history.proofs.outcomes.OutcomeCounts.{one, many}
 use Rattle.modem_history.proofs.lists.Filters.{passed, taken_too}
 
 -- ## Requests of one caller
@@ -135,21 +135,19 @@ told_taken r (o ∷ os) qs a h =
     by_first true e k here more = found r o qs e here
     by_first false e k here more = more k
 
--- a request that was taken, is taken_too (is_of aside) or was left has one place
-pub one_place : (r : Request) (os : List Outcome) (taken aside left : List Request) → length (filter (λ o. is_for r o) os) ≤ 1
-    → list_all (λ o. list_any (λ q. is_for q o) taken) os ≡ true → many r taken + (many r aside + many r left) ≡ 1
-    → length (filter (λ o. is_for r o) os) + (many r (filter (λ q. not (is_told os q)) taken ++ aside) + many r left) ≡ 1
-one_place r os taken aside left few answers whole = by_told (is_told os r) refl
+-- a request that was taken or left has one place
+pub one_place : (r : Request) (os : List Outcome) (taken left : List Request) → length (filter (λ o. is_for r o) os) ≤ 1
+    → list_all (λ o. list_any (λ q. is_for q o) taken) os ≡ true → many r taken + many r left ≡ 1
+    → length (filter (λ o. is_for r o) os) + (many r (filter (λ q. not (is_told os q)) taken) + many r left) ≡ 1
+one_place r os taken left few answers whole = by_told (is_told os r) refl
   where
-    by_told : (b : Bool) → is_told os r ≡ b → length (filter (λ o. is_for r o) os) + (many r (filter (λ q. not (is_told os q)) taken ++ aside) + many r left) ≡ 1
+    by_told : (b : Bool) → is_told os r ≡ b → length (filter (λ o. is_for r o) os) + (many r (filter (λ q. not (is_told os q)) taken) + many r left) ≡ 1
     by_told true t =
         let count : length (filter (λ o. is_for r o) os) ≡ 1 = let some = some_answer r os t in omega (arith, some, few) in
         let waits : many r (filter (λ q. not (is_told os q)) taken) ≡ 0 = many_untold r os taken ∙ ap (λ (b : Bool). if b then 0 else many r taken) t in
-        let both = many_append r (filter (λ q. not (is_told os q)) taken) aside in
         let was = told_taken r os taken answers t in
-        omega (arith, count, waits, both, was, whole)
+        omega (arith, count, waits, was, whole)
     by_told false t =
         let count : length (filter (λ o. is_for r o) os) ≡ 0 = no_answer r os t in
         let waits : many r (filter (λ q. not (is_told os q)) taken) ≡ many r taken = many_untold r os taken ∙ ap (λ (b : Bool). if b then 0 else many r taken) t in
-        let both = many_append r (filter (λ q. not (is_told os q)) taken) aside in
-        omega (arith, count, waits, both, whole)
+        omega (arith, count, waits, whole)

@@ -107,7 +107,7 @@ told_stop_once v new q why role lost few asks h n =
 -- nobody else was told
 pub asks_alone : (old new : Core) (was : List Outcome) (q : Request) (answer : Option Answer) → Handles old new (Took q) (taken_acts q answer) → Asks old new was was q answer
 asks_alone old new was q (Some why) h = (h, refl)
-asks_alone old new was q None h = record { told = []; past = subst (Handles old new (Took q)) (sym (append-nil (taken_acts q None))) h; adds = λ few. sym (append-nil was) }
+asks_alone old new was q None h = record { told = []; few = omega arith; past = subst (Handles old new (Took q)) (sym (append-nil (taken_acts q None))) h; adds = λ few. sym (append-nil was) }
 
 outcomes_asked : (fs : List Frame) (os : List Outcome) → outcomes_told (map Sent fs ++ map Told os) ≡ os
 outcomes_asked [] [] = refl
@@ -137,3 +137,21 @@ takes_once old new was mid now q why lanes h same o is put = record {
   adds = λ few. put (let m = ap (length {A = Outcome}) same in omega (arith, few, m)) ∙ (ap (λ (x : List Outcome). x ++ o ∷ []) same ∙ ap (λ (x : Outcome). was ++ x ∷ []) is);
   unheard = refl;
 }
+
+-- ## Its acts, written down
+
+-- what others are told is no more than were in hand
+pub few_asked : (old new : Core) (now : List Outcome) (q : Request) (answer : Option Answer) → length old.hand ≤ 128 → Asks old new [] now q answer → length now ≤ length old.hand
+few_asked old new now q (Some why) few asks = let none = ap (length {A = Outcome}) asks.1 in omega (arith, none)
+few_asked old new now q None few asks =
+    let less = asks.few in
+    let told = ap (length {A = Outcome}) (asks.adds (omega (arith, few, less))) in
+    omega (arith, less, told)
+
+-- the request was taken, it was told this or its frame was sent, and others were told
+pub asked_all : (old new : Core) (now : List Outcome) (q : Request) (answer : Option Answer) → length old.hand ≤ 128 → Asks old new [] now q answer → Handles old new (Took q) (taken_acts q answer ++ map Told now)
+asked_all old new now q (Some why) few asks =
+    subst (λ (os : List Outcome). Handles old new (Took q) (taken_acts q (Some why) ++ map Told os)) (sym asks.1) asks.0
+asked_all old new now q None few asks =
+    let less = asks.few in
+    subst (λ (os : List Outcome). Handles old new (Took q) (taken_acts q None ++ map Told os)) (sym (asks.adds (omega (arith, few, less)))) asks.past

@@ -2,9 +2,8 @@
 use Rattle.std.specs.Prelude.{◌≡◌, ℕ, ◌<◌, ◌==◌, ◌&&◌, not, Bool, true, false, List, [], ◌∷◌, ◌++◌, length, map, refl, Option, Some, None, option_map, if◌then◌else◌}
 use Rattle.std.proofs.Common.{ap, sym, ◌∙◌, arith}
 use Rattle.std.proofs.lemmas.Bool.{eq-eqb}
-use Rattle.mux_frame.specs.Frames.{Frame, kept_frame}
+use Rattle.mux_frame.specs.Frames.{Frame}
 use Rattle.mux_frame.specs.declared.dlci.Dlci.{Dlci}
-use Rattle.mux_frame.specs.declared.frame.FrameBuf.{FrameBuf}
 use Rattle.mux_frame.specs.declared.frame.Kind.TheVariants.{Disc}
 use Rattle.mux_station.specs.declared.role.Role.{Role}
 use Rattle.mux_station.specs.declared.role.Role.TheVariants.{Initiator}
@@ -20,23 +19,22 @@ use Rattle.mux_station.specs.Sending.{refused, or_else, probe_of}
 use Rattle.mux_station.specs.Stations.{Station, channel_at, setting_of, seen_in}
 use Rattle.mux_station.specs.Fitting as station_fits
 use Rattle.mux_station.proofs.user_calls.CallFrames.{state_called, state_sent, probe_sent, probe_called}
-use Rattle.modem_desk.specs.declared.request.Ask.{Ask}
 use Rattle.modem_desk.specs.declared.request.Ask.TheVariants.{CloseChannel, Probe}
 use Rattle.modem_desk.specs.declared.request.Request.{Request}
 use Rattle.modem_desk.specs.declared.request.Answer.{Answer}
 use Rattle.modem_desk.specs.declared.request.Answer.TheVariants.{NotOpen, ControlChannel, Busy}
 use Rattle.modem_history.specs.declared.act.Act as code
 use Rattle.modem_driver.specs.declared.telling.Happened.TheVariants as happened
-use Rattle.modem_history.specs.Acts.{Act, Took, Sent, act_of, wire}
+use Rattle.modem_history.specs.Acts.{Act, Took, act_of, wire}
 use Rattle.modem_history.specs.Information.{command_on}
 use Rattle.modem_history.specs.Calls.{Setting, seen, asking, refused_ask}
-use Rattle.modem_driver.specs.Telling.{told_by, told_to, left_by}
+use Rattle.modem_driver.specs.Telling.{told_by, left_by}
 use Rattle.modem_driver.specs.Refusals.{refusal_answer, told_act}
 use Rattle.modem_driver.specs.Cores.{Core, MayCome, Handles, may_wait, is_closing, state_shown, probe_in}
 use Rattle.modem_history.proofs.calls.CallEnds.{ended}
 use Rattle.modem_driver.proofs.cores.UnchangedParts.{is_probe, probe_more}
 use Rattle.modem_driver.proofs.requests.TakenRequests.{Live, probe_kept}
-use Rattle.modem_driver.proofs.requests.AcceptedRequests.{Accepts, refused_handles, accepted_handles}
+use Rattle.modem_driver.proofs.requests.AcceptedRequests.{Accepts, refused_handles}
 use Rattle.modem_driver.proofs.requests.OneFrameRequests.{Asks, seen_then, asked_fits, kept_states, asked_accepts, probe_left}
 
 -- ## What it is told at once
@@ -160,17 +158,6 @@ close_accepts v w q d few o s past l m =
     (ap (refused_ask s (seen s past)) o.asks ∙ (close_told s v past d l ∙ ap (option_map refusal_answer) o.taken_on))
     (ap (λ (x : State). is_opened (channel_at st 0).state && not (is_opened x)) zero ∙ and_not (is_opened (channel_at st 0).state))
     (ap (may_wait (state_shown w false)) o.asks ∙ ap (λ (x : State). is_closing (as_shown x)) closing) probe_here
-
-pub close_handles : (v new : Core) (w : Station) (q : Request) (d : Dlci) (f : FrameBuf) (acts : List code.Act) → v.station.role ≡ Initiator → v.lost ≡ false → length v.hand < 128 → Closes v w q d
-    → new ≡ record v { station = w; hand = left_by (told_by happened.Took false (state_shown w false)) v.hand ++ q ∷ [] } → kept_frame f ≡ written Initiator Disc d.number []
-    → acts ≡ code.TheVariants.Took q ∷ code.TheVariants.Sent f ∷ told_to (told_by happened.Took false (state_shown w false)) v.hand → Handles v new (Took q) (map act_of acts)
-close_handles v new w q d f acts role lost few o n k h =
-    let told = map act_of (told_to (told_by happened.Took false (state_shown w false)) v.hand) in
-    accepted_handles v new q w false acts role lost (close_accepts v w q d few o)
-    (λ s past l m. record {
-      new_is = n;
-      acts_are = ap (map act_of) h ∙ (ap (λ (g : Frame). Took q ∷ Sent g ∷ told) k ∙ ap (λ (ask : Ask). Took q ∷ (map Sent (asking Initiator ask) ++ told)) (sym o.asks));
-    })
 
 -- ## It is refused
 

@@ -1,11 +1,10 @@
 -- A connection is to be opened.
 use Rattle.std.specs.Prelude.{◌≡◌, ℕ, ◌<◌, ◌==◌, ◌&&◌, not, Bool, true, false, List, [], ◌∷◌, ◌++◌, length, map, refl, Option, Some, None, option_map, if◌then◌else◌}
 use Rattle.std.specs.List.{list_all}
-use Rattle.std.proofs.Common.{ap, sym, ◌∙◌, arith, eqb-true, append-nil}
+use Rattle.std.proofs.Common.{ap, sym, ◌∙◌, arith, eqb-true}
 use Rattle.std.proofs.lemmas.Bool.{and_parts, and_from, eq-eqb}
-use Rattle.mux_frame.specs.Frames.{Frame, kept_frame}
+use Rattle.mux_frame.specs.Frames.{Frame}
 use Rattle.mux_frame.specs.declared.dlci.Dlci.{Dlci}
-use Rattle.mux_frame.specs.declared.frame.FrameBuf.{FrameBuf}
 use Rattle.mux_frame.specs.declared.frame.Kind.TheVariants.{Sabm}
 use Rattle.mux_station.specs.declared.role.Role.{Role}
 use Rattle.mux_station.specs.declared.role.Role.TheVariants.{Initiator}
@@ -31,7 +30,7 @@ use Rattle.modem_desk.specs.declared.request.Answer.{Answer}
 use Rattle.modem_desk.specs.declared.request.Answer.TheVariants.{NotOpen, AlreadyOpen, Busy}
 use Rattle.modem_history.specs.declared.act.Act as code
 use Rattle.modem_driver.specs.declared.telling.Happened.TheVariants as happened
-use Rattle.modem_history.specs.Acts.{Act, Took, Sent, act_of, wire}
+use Rattle.modem_history.specs.Acts.{Act, Took, act_of, wire}
 use Rattle.modem_history.specs.Information.{command_on}
 use Rattle.modem_history.specs.Calls.{Setting, seen, asking, at_once, refused_ask}
 use Rattle.modem_driver.specs.Telling.{told_by, left_by}
@@ -39,8 +38,8 @@ use Rattle.modem_driver.specs.Refusals.{refusal_answer, told_act}
 use Rattle.modem_driver.specs.Cores.{Core, MayCome, Handles, may_wait, shows_opening, is_closing, shows_opened as channel_opened, shows_stopping, state_shown, probe_in}
 use Rattle.modem_history.proofs.calls.CallEnds.{now_in, ended}
 use Rattle.modem_driver.proofs.cores.UnchangedParts.{is_probe, probe_more}
-use Rattle.modem_driver.proofs.requests.TakenRequests.{Live, AllWait, none_told, all_left, asked_frames, probe_kept}
-use Rattle.modem_driver.proofs.requests.AcceptedRequests.{Accepts, called_fits, once_is, state_then, refused_handles, accepted_handles, plain_offered}
+use Rattle.modem_driver.proofs.requests.TakenRequests.{Live, AllWait, all_left, asked_frames, probe_kept}
+use Rattle.modem_driver.proofs.requests.AcceptedRequests.{Accepts, called_fits, once_is, state_then, refused_handles, plain_offered}
 
 -- ## What it is told at once
 
@@ -231,20 +230,6 @@ open_accepts v w q d few o s past l m =
       probe_is = probe_here;
       offered_are = λ e b z h. plain_offered s v past q c (sabm st.role n ∷ []) e l b z same h refl (ap (command_on e) o.asks);
     }
-
-pub open_handles : (v new : Core) (w : Station) (q : Request) (d : Dlci) (f : FrameBuf) (acts : List code.Act) → v.station.role ≡ Initiator → v.lost ≡ false → length v.hand < 128 → Opens v w q d
-    → new ≡ record v { station = w; hand = v.hand ++ q ∷ [] } → kept_frame f ≡ written Initiator Sabm d.number [] → acts ≡ code.TheVariants.Took q ∷ code.TheVariants.Sent f ∷ [] → Handles v new (Took q) (map act_of acts)
-open_handles v new w q d f acts role lost few o n k h =
-    accepted_handles v new q w false acts role lost (open_accepts v w q d few o)
-    (λ s past l m.
-    let waits = open_waits v w q d s past o l in
-    record {
-      new_is = n ∙ ap (λ (rs : List Request). record v { station = w; hand = rs ++ q ∷ [] }) (sym (all_left (state_shown w false) false v.hand waits));
-      acts_are = ap (map act_of) h ∙ (ap (λ (g : Frame). Took q ∷ Sent g ∷ []) k
-          ∙ (ap (λ (ask : Ask). Took q ∷ map Sent (asking Initiator ask)) (sym o.asks)
-          ∙ (ap (λ (x : List Act). Took q ∷ x) (sym (append-nil (map Sent (asking Initiator q.ask))))
-          ∙ ap (λ (x : List code.Act). Took q ∷ (map Sent (asking Initiator q.ask) ++ map act_of x)) (sym (none_told (state_shown w false) false v.hand waits)))));
-    })
 
 -- ## It is refused
 

@@ -1,11 +1,10 @@
 -- A probe is to be sent.
 use Rattle.std.specs.Prelude.{◌≡◌, ℕ, ◌<◌, ◌≤◌, ◌==◌, ◌&&◌, ◌||◌, not, nat_le, Bool, true, false, List, [], ◌∷◌, ◌++◌, length, map, refl, Option, Some, None, is_some, option_map, if◌then◌else◌}
 use Rattle.std.specs.List.{list_all}
-use Rattle.std.proofs.Common.{ap, sym, ◌∙◌, arith, append-nil}
+use Rattle.std.proofs.Common.{ap, sym, ◌∙◌, arith}
 use Rattle.std.proofs.lemmas.Bool.{and_parts, and_from, eq-eqb}
 use Rattle.std.proofs.lemmas.Bool.Decides.{nat_tests}
-use Rattle.mux_frame.specs.Frames.{Frame, kept_frame}
-use Rattle.mux_frame.specs.declared.frame.FrameBuf.{FrameBuf}
+use Rattle.mux_frame.specs.Frames.{Frame}
 use Rattle.mux_station.specs.declared.role.Role.{Role}
 use Rattle.mux_station.specs.declared.role.Role.TheVariants.{Initiator}
 use Rattle.mux_station.specs.declared.role.ChannelState.{ChannelState}
@@ -29,7 +28,7 @@ use Rattle.modem_desk.specs.declared.request.Answer.{Answer}
 use Rattle.modem_desk.specs.declared.request.Answer.TheVariants.{NotOpen, Busy}
 use Rattle.modem_history.specs.declared.act.Act as code
 use Rattle.modem_driver.specs.declared.telling.Happened.TheVariants as happened
-use Rattle.modem_history.specs.Acts.{Act, Took, Sent, act_of, wire, in_hand}
+use Rattle.modem_history.specs.Acts.{Act, Took, act_of, wire, in_hand}
 use Rattle.modem_history.specs.Information.{command_on}
 use Rattle.modem_history.specs.Calls.{Setting, seen, asking, asks_probe, probe_waits, ticks_since, calls, refused_ask}
 use Rattle.modem_driver.specs.Telling.{told_by, left_by}
@@ -38,8 +37,8 @@ use Rattle.modem_driver.specs.Cores.{Core, MayCome, Handles, may_wait, shows_ope
 use Rattle.modem_history.proofs.calls.CalledActs.{calls_said}
 use Rattle.modem_history.proofs.calls.CallEnds.{ended}
 use Rattle.modem_driver.proofs.cores.UnchangedParts.{ticks_behind}
-use Rattle.modem_driver.proofs.requests.TakenRequests.{Live, AllWait, none_told, all_left, probe_kept}
-use Rattle.modem_driver.proofs.requests.AcceptedRequests.{Accepts, refused_handles, accepted_handles}
+use Rattle.modem_driver.proofs.requests.TakenRequests.{Live, AllWait, all_left, probe_kept}
+use Rattle.modem_driver.proofs.requests.AcceptedRequests.{Accepts, refused_handles}
 use Rattle.modem_driver.proofs.requests.CloseRequests.{and_not}
 use Rattle.modem_driver.proofs.requests.OneFrameRequests.{Asks, seen_then, asked_fits, kept_states, asked_accepts}
 
@@ -214,20 +213,6 @@ probe_accepts v w q octets few o s past l m =
   where
     shown_open : (x : State) → is_opened x ≡ true → channel_opened (as_shown x) ≡ true
     shown_open x h = opened_shown x ∙ h
-
-pub probe_handles : (v new : Core) (w : Station) (q : Request) (octets : List ℕ) (f : FrameBuf) (acts : List code.Act) → v.station.role ≡ Initiator → v.lost ≡ false → length v.hand < 128 → Probes v w q octets
-    → new ≡ record v { station = w; hand = v.hand ++ q ∷ [] } → kept_frame f ≡ message_frame Initiator test octets → acts ≡ code.TheVariants.Took q ∷ code.TheVariants.Sent f ∷ [] → Handles v new (Took q) (map act_of acts)
-probe_handles v new w q octets f acts role lost few o n k h =
-    accepted_handles v new q w false acts role lost (probe_accepts v w q octets few o)
-    (λ s past l m.
-    let waits = probe_wait v w q octets s past o l in
-    record {
-      new_is = n ∙ ap (λ (rs : List Request). record v { station = w; hand = rs ++ q ∷ [] }) (sym (all_left (state_shown w false) false v.hand waits));
-      acts_are = ap (map act_of) h ∙ (ap (λ (g : Frame). Took q ∷ Sent g ∷ []) k
-          ∙ (ap (λ (ask : Ask). Took q ∷ map Sent (asking Initiator ask)) (sym o.asks)
-          ∙ (ap (λ (x : List Act). Took q ∷ x) (sym (append-nil (map Sent (asking Initiator q.ask))))
-          ∙ ap (λ (x : List code.Act). Took q ∷ (map Sent (asking Initiator q.ask) ++ map act_of x)) (sym (none_told (state_shown w false) false v.hand waits)))));
-    })
 
 -- ## It is refused
 

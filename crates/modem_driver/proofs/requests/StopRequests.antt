@@ -1,8 +1,7 @@
 -- The multiplexer is to be ended.
-use Rattle.std.specs.Prelude.{◌≡◌, ℕ, ◌<◌, ◌&&◌, not, Bool, true, false, List, [], ◌∷◌, ◌++◌, length, map, refl, Option, Some, None, is_none, option_map, if◌then◌else◌}
+use Rattle.std.specs.Prelude.{◌≡◌, ℕ, ◌<◌, ◌&&◌, not, Bool, true, false, List, [], ◌∷◌, length, map, refl, Option, Some, None, is_none, option_map, if◌then◌else◌}
 use Rattle.std.proofs.Common.{ap, sym, ◌∙◌, arith}
-use Rattle.mux_frame.specs.Frames.{Frame, kept_frame}
-use Rattle.mux_frame.specs.declared.frame.FrameBuf.{FrameBuf}
+use Rattle.mux_frame.specs.Frames.{Frame}
 use Rattle.mux_station.specs.declared.role.Role.{Role}
 use Rattle.mux_station.specs.declared.role.Role.TheVariants.{Initiator}
 use Rattle.mux_station.specs.declared.error.StationError.{StationError}
@@ -18,23 +17,22 @@ use Rattle.mux_station.specs.Stations.{Station, channel_at, setting_of, seen_in}
 use Rattle.mux_station.specs.Fitting as station_fits
 use Rattle.mux_station.proofs.states.StatesAfterActs.{state_next}
 use Rattle.mux_station.proofs.user_calls.CallFrames.{probe_needs}
-use Rattle.modem_desk.specs.declared.request.Ask.{Ask}
 use Rattle.modem_desk.specs.declared.request.Ask.TheVariants.{Probe, Stop}
 use Rattle.modem_desk.specs.declared.request.Request.{Request}
 use Rattle.modem_desk.specs.declared.request.Answer.{Answer}
 use Rattle.modem_desk.specs.declared.request.Answer.TheVariants.{NotOpen, Busy}
 use Rattle.modem_history.specs.declared.act.Act as code
 use Rattle.modem_driver.specs.declared.telling.Happened.TheVariants as happened
-use Rattle.modem_history.specs.Acts.{Act, Took, Sent, act_of, wire}
+use Rattle.modem_history.specs.Acts.{Act, Took, act_of, wire}
 use Rattle.modem_history.specs.Information.{command_on}
 use Rattle.modem_history.specs.Calls.{Setting, seen, asking, refused_ask}
-use Rattle.modem_driver.specs.Telling.{told_by, told_to, left_by}
+use Rattle.modem_driver.specs.Telling.{told_by, left_by}
 use Rattle.modem_driver.specs.Refusals.{refusal_answer, told_act}
 use Rattle.modem_driver.specs.Cores.{Core, MayCome, Handles, may_wait, shows_stopping, state_shown, probe_in}
 use Rattle.modem_history.proofs.calls.CallEnds.{ended}
 use Rattle.modem_driver.proofs.cores.UnchangedParts.{is_probe, probe_more}
 use Rattle.modem_driver.proofs.requests.TakenRequests.{Live}
-use Rattle.modem_driver.proofs.requests.AcceptedRequests.{Accepts, refused_handles, accepted_handles}
+use Rattle.modem_driver.proofs.requests.AcceptedRequests.{Accepts, refused_handles}
 use Rattle.modem_driver.proofs.requests.OneFrameRequests.{Asks, seen_then, asked_fits, kept_states, asked_accepts, probe_gone}
 
 -- ## What it is told at once
@@ -115,17 +113,6 @@ stop_accepts v w q few o s past l m =
     (ap (λ (x : State). is_opened (channel_at st 0).state && not (is_opened x)) zero ∙ ap (λ (b : Bool). b && true) running)
     (ap (may_wait (state_shown w false)) o.asks ∙ ap (λ (x : State). shows_stopping (as_shown x)) zero)
     (probe_more past' (left_by says v.hand) q (ap is_probe o.asks) ∙ (gone ∙ sym probe))
-
-pub stop_handles : (v new : Core) (w : Station) (q : Request) (f : FrameBuf) (acts : List code.Act) → v.station.role ≡ Initiator → v.lost ≡ false → length v.hand < 128 → Stops v w q
-    → new ≡ record v { station = w; hand = left_by (told_by happened.Took true (state_shown w false)) v.hand ++ q ∷ [] } → kept_frame f ≡ message_frame Initiator cld []
-    → acts ≡ code.TheVariants.Took q ∷ code.TheVariants.Sent f ∷ told_to (told_by happened.Took true (state_shown w false)) v.hand → Handles v new (Took q) (map act_of acts)
-stop_handles v new w q f acts role lost few o n k h =
-    let told = map act_of (told_to (told_by happened.Took true (state_shown w false)) v.hand) in
-    accepted_handles v new q w true acts role lost (stop_accepts v w q few o)
-    (λ s past l m. record {
-      new_is = n;
-      acts_are = ap (map act_of) h ∙ (ap (λ (g : Frame). Took q ∷ Sent g ∷ told) k ∙ ap (λ (ask : Ask). Took q ∷ (map Sent (asking Initiator ask) ++ told)) (sym o.asks));
-    })
 
 -- ## It is refused
 

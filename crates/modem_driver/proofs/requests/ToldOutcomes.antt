@@ -112,3 +112,12 @@ told_back says (r ∷ rs) = by_said (says r.ask) (told_back says rs)
         → map Told (outcomes_told (map act_of (said_to r o ++ told_to says rs))) ≡ map act_of (said_to r o ++ told_to says rs)
     by_said None h = h
     by_said (Some answer) h = ap (λ (x : List Act). Told (record { caller = r.caller; number = r.number; answer = answer }) ∷ x) h
+
+-- they are no more than the requests
+pub few_outcomes : (says : Says) (rs : List Request) → length (outcomes_to says rs) ≤ length rs
+few_outcomes says [] = omega arith
+few_outcomes says (r ∷ rs) = by_said (says r.ask) (few_outcomes says rs)
+  where
+    by_said : (o : Option Answer) → length (outcomes_to says rs) ≤ length rs → length (outcomes_told (map act_of (said_to r o ++ told_to says rs))) ≤ length (r ∷ rs)
+    by_said None h = omega (arith, h)
+    by_said (Some answer) h = omega (arith, h)

@@ -1,12 +1,11 @@
 -- The worked calls of an entry, computed by the definitions.
-use Rattle.std.specs.Prelude.{◌≡◌, ℕ, ◌<◌, ◌^◌, ◌-◌, List, [], ◌∷◌, ◌++◌, length, refl}
+use Rattle.std.specs.Prelude.{◌≡◌, ℕ, ◌<◌, ◌^◌, ◌-◌, List, [], length, refl}
 use Rattle.std.proofs.Common.{ap, sym, ◌∙◌, arith}
 use Rattle.mux_frame.specs.CheckOctet.{check_octet_of}
 use Rattle.mux_frame.specs.Spelling.{body_of, spelled}
-use Rattle.modem_history.specs.Sessions.{LineView}
 use Rattle.modem_driver.specs.EntrySteps.{close_down_frame}
-use Rattle.modem_driver.specs.EntryTries.{AreBelow, AsksEach, EachIsAsked, IsSent, closing, fill}
-use Rattle.modem_driver.specs.EntryTryRows.{AsksRight, AsksWrong, ClosesRight, ClosesWrong, after_none, after_octets, after_one, quiet_line}
+use Rattle.modem_driver.specs.EntryTries.{AreBelow, closing}
+use Rattle.modem_driver.specs.EntryTryRows.{AsksRight, AsksWrong, ClosesRight, ClosesWrong, after_none, after_one}
 
 below_none : (asked idle : ℕ) → asked < 2 ^ 64 - 1 → idle < 2 ^ 64 - 1 → AreBelow after_none asked idle
 below_none asked idle a i = record { calls = omega arith; reads = omega arith; writes = omega arith; asked = a; idle = i }

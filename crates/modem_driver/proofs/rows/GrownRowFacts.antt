@@ -204,7 +204,7 @@ refused seen before acts later earlier =
     let got_later = all_got (one_came ++ ok_one) (one_left ++ csq_one) (first_request ∷ second_request ∷ third_request ∷ []) opened_and_done (after before acts) refl later in
     let none : gots (newest acts) ≡ [] = append_cancel_left (gots before) (gots (newest acts)) [] (sym (got_both (newest acts) before) ∙ (ap gots (sym same) ∙ (sym got_later ∙ (got_before ∙ sym (append-nil (gots before)))))) in
     let some = taken_first (after before acts) later before acts same none in
-    let taken : taken_requests before ≡ first_request ∷ second_request ∷ [] = sym (append-nil (taken_requests before)) ∙ sym earlier.requests.taken_are in
+    let taken : taken_requests before ≡ first_request ∷ second_request ∷ [] = sym earlier.requests.taken_are in
     differ (sym (ap (list_any is_third) taken) ∙ some)
 
 by_sights : (seen : List SessionView) (past : List Act) → HasGrown beginning (ok_counted ∷ ok_came ∷ seen) past → ⊥

@@ -2,7 +2,7 @@
 use Rattle.std.proofs.Common.{ap, sym, ◌∙◌, subst, arith, lit<, lit≤}
 use Rattle.std.proofs.lemmas.Bool.{and_parts, ltb-true}
 use Rattle.std.proofs.lemmas.List.{get_or_past, length-append}
-use Rattle.std.specs.Prelude.{◌≡◌, ℕ, zero, suc, ◌+◌, ◌-◌, ◌^◌, ◌<◌, ◌≤◌, ◌==◌, ◌||◌, not, min, nat_lt, Bool, true, false, List, [], ◌∷◌, ◌++◌, length, flat_map, refl, Option, None, Some, option_to_list, Ok}
+use Rattle.std.specs.Prelude.{◌≡◌, ℕ, zero, suc, ◌+◌, ◌-◌, ◌^◌, ◌<◌, ◌≤◌, ◌==◌, ◌||◌, not, min, nat_lt, Bool, true, false, List, [], ◌∷◌, ◌++◌, length, flat_map, refl, Option, None, Some, Ok}
 use Rattle.std.specs.List.{list_all, list_any}
 use Rattle.mux_frame.specs.Frames.{Frame}
 use Rattle.mux_station.specs.declared.role.Role.TheVariants.{Initiator}
@@ -354,7 +354,7 @@ first_moves at new turn still =
     let is = turn.turn.turn b [] (is_new_session at) in
     let steps = turn.turn.steps b [] (is_new_session at) in
     let later = turn.turn.goes b [] (is_new_session at) in
-    let taken : taken_requests (after [] acts) ≡ [] = prefix_none (taken_requests (after [] acts)) (option_to_list new.machine.aside) (sym later.session.requests.taken_are ∙ still.taken) in
+    let taken : taken_requests (after [] acts) ≡ [] = sym later.session.requests.taken_are ∙ still.taken in
     let none = no_acts b t.still_heard acts is.acts_may (none_got b _ acts steps.handles) later.session.history.lawful taken in
     or_cases _ _ is.moved (λ h. never (sym (ap (list_any (λ a. not (is_mark a))) none) ∙ h))
     (λ h1. or_cases _ _ h1 (no_more 0 (length new.line.received) (ap length still.received))

@@ -15,7 +15,7 @@ pub mod StartAndTick
 pub mod LineOctets
 pub mod OneBacklog
 pub mod LineLoss
-pub mod RequestAside
+pub mod OneRequest
 pub mod LineCalls
 pub mod NextRequest
 pub mod TakenRequests

@@ -38,7 +38,9 @@ use Rattle.modem_history.specs.Information.{accepted, texts, info_got}
 use Rattle.modem_history.specs.Placing.{marks}
 use Rattle.modem_history.specs.Calls.{Setting, HistoryView, seen, asks_probe, is_lost, ticks_since, calls, later, told_later, tolds}
 use Rattle.modem_driver.specs.Telling.{stop_told, told_by, told_to, left_by}
-use Rattle.modem_driver.specs.Ticked.{queued_from, asking_from, is_probe_given}
+use Rattle.modem_driver.specs.Ticked.{bared, asking_from, is_probe_given}
+use Rattle.modem_driver.specs.Doing.{QueuesAtMost, new_frames}
+use Rattle.modem_driver.proofs.cores.DoneCalls.{bare_cut}
 use Rattle.modem_driver.specs.Cores.{dialect_in, Core, Fits, Runs, RunsUnless, LaneFits, IsRun, MayCome, GoesOn, Handles, lane_at, may_wait, state_shown, probe_or, probe_in}
 use Rattle.modem_history.proofs.calls.CalledActs.{calls_said}
 use Rattle.modem_history.proofs.requests.RequestsAfterCalls.{stays}
@@ -389,18 +391,16 @@ tick_since v new w ups g e role lost t n s past m =
     (subst (λ (fs : List Frame). GoesOn s (record v { station = w; hand = left_by (told_by (happened.Tick g) e (state_shown w false)) v.hand }) past Tick (Tick ∷ (map Sent fs ++ told))) (sym since)
     (tick_on s v past w ups g e l m t lost))
 
-pub tick_handles : (v new : Core) (w : Station) (ups : List GivenUp) (g e : Bool) (acts : List code.Act) → v.station.role ≡ Initiator → v.lost ≡ false → Ticks v w ups g e
-    → new ≡ record v { station = w; hand = left_by (told_by (happened.Tick g) e (state_shown w false)) v.hand }
-    → map act_of acts ≡ Tick ∷ (map Sent (queued_from w.queue (length v.station.queue) (asking_from v.station 0 62)) ++ map act_of (told_to (told_by (happened.Tick g) e (state_shown w false)) v.hand))
-    → Handles v new Tick (map act_of acts)
-unfolding Handles
-tick_handles v new w ups g e acts role lost t n h s past m =
+-- each connection that waits for an answer may send one frame more, with no information
+pub tick_queues : (v new : Core) (w : Station) (ups : List GivenUp) (g e : Bool) → v.station.role ≡ Initiator → v.lost ≡ false → Ticks v w ups g e → new.station ≡ w → QueuesAtMost (asking_from v.station 0 62) 0 v new Tick
+unfolding QueuesAtMost
+tick_queues v new w ups g e role lost t n s past m =
     let l = live_of s v past Tick role lost m in
     let c = tick_comes s v past w ups g e l t in
-    let told = map act_of (told_to (told_by (happened.Tick g) e (state_shown w false)) v.hand) in
-    let acts_are : map act_of acts ≡ Tick ∷ (map Sent (tick_frames v.station) ++ told) = h ∙ ap (λ (fs : List Frame). Tick ∷ (map Sent fs ++ told)) (read_back v.station w.queue c.queued) in
-    subst (λ (x : List Act). GoesOn s new past Tick x) (sym acts_are)
-    (subst (λ (x : Core). GoesOn s x past Tick (Tick ∷ (map Sent (tick_frames v.station) ++ told))) (sym n) (tick_on s v past w ups g e l m t lost))
+    let new_is : new_frames v new ≡ drop (length v.station.queue) w.queue = ap (λ (x : Station). drop (length v.station.queue) x.queue) n in
+    let since : new_frames v new ≡ tick_frames v.station = new_is ∙ (ap (drop (length v.station.queue)) c.queued ∙ drop_front v.station.queue (tick_frames v.station)) in
+    sym (bare_cut (take (asking_from v.station 0 62) (new_frames v new)))
+    ∙ (ap (λ (fs : List Frame). map bared (take (asking_from v.station 0 62) fs)) new_is ∙ (read_back v.station w.queue c.queued ∙ sym since))
 
 -- ## After a loss
 

@@ -1,5 +1,6 @@
 //! Requests that the caller makes.
 ghost use Rattle.std.specs.Prelude.{◌≡◌, ◌↔◌, true, IfOk, IfErr, OnErr};
+ghost use Rattle.modem_driver.specs.GettingSteps.{HasData};
 ghost use Rattle.modem_driver.specs.Endpoints.{IsFull, Numbers, Refuses};
 ghost use Rattle.modem_driver.specs.declared.endpoint.error.RequestError.TheVariants as why;
 ghost use Rattle.modem_desk.specs.declared.request.Ask.TheVariants as Ask;
@@ -20,6 +21,7 @@ impl Endpoint {
         ensures takes { IfOk result (λ n. Numbers self.old self.new ask n) }
         ensures refused { OnErr result (Refuses self.old self.new) }
         ensures full { IfErr result (λ e. (e.why ≡ why.Full) ↔ IsFull self.new) }
+        ensures memory { IfErr result (λ e. e.why ≡ why.NoMemory → HasData self.new.machine) }
         ensures back { IfErr result (λ e. e.ask ≡ ask) }
     {
         let handled = self.machine.handle_frames();
@@ -52,11 +54,13 @@ impl Endpoint {
     /// Asks for a connection to be opened, and says the request's number. What comes of it is an
     /// outcome of that number. It handles the frames at hand first. Refusals, after which nothing but the
     /// frames at hand has changed and the number is still the next: 2 Full where 128 requests are in
-    /// hand or told and not polled, or all numbers are used up; 1 NoMemory, where it isn't full.
+    /// hand or told and not polled, or all numbers are used up; 1 NoMemory, where it isn't full, at data of an open
+    /// connection, which stays at hand.
     pub fn open(&mut self, dlci: Dlci) -> Result<u64, RequestError>
         ensures takes { IfOk result (λ n. Numbers self.old self.new (Ask.OpenChannel dlci) n) }
         ensures refused { OnErr result (Refuses self.old self.new) }
         ensures full { IfErr result (λ e. (e ≡ why.Full) ↔ IsFull self.new) }
+        ensures memory { IfErr result (λ e. e ≡ why.NoMemory → HasData self.new.machine) }
     {
         match self.request(Ask::OpenChannel(dlci)) {
             Ok(number) => Ok(number),
@@ -69,6 +73,7 @@ impl Endpoint {
         ensures takes { IfOk result (λ n. Numbers self.old self.new (Ask.CloseChannel dlci) n) }
         ensures refused { OnErr result (Refuses self.old self.new) }
         ensures full { IfErr result (λ e. (e ≡ why.Full) ↔ IsFull self.new) }
+        ensures memory { IfErr result (λ e. e ≡ why.NoMemory → HasData self.new.machine) }
     {
         match self.request(Ask::CloseChannel(dlci)) {
             Ok(number) => Ok(number),
@@ -82,6 +87,7 @@ impl Endpoint {
         ensures takes { IfOk result (λ n. Numbers self.old self.new (Ask.Command dlci line) n) }
         ensures refused { OnErr result (Refuses self.old self.new) }
         ensures full { IfErr result (λ e. (e.why ≡ why.Full) ↔ IsFull self.new) }
+        ensures memory { IfErr result (λ e. e.why ≡ why.NoMemory → HasData self.new.machine) }
         ensures back { IfErr result (λ e. e.ask ≡ Ask.Command dlci line) }
     {
         self.request(Ask::Command(dlci, line))
@@ -93,6 +99,7 @@ impl Endpoint {
         ensures takes { IfOk result (λ n. Numbers self.old self.new (Ask.Probe octets) n) }
         ensures refused { OnErr result (Refuses self.old self.new) }
         ensures full { IfErr result (λ e. (e.why ≡ why.Full) ↔ IsFull self.new) }
+        ensures memory { IfErr result (λ e. e.why ≡ why.NoMemory → HasData self.new.machine) }
         ensures back { IfErr result (λ e. e.ask ≡ Ask.Probe octets) }
     {
         self.request(Ask::Probe(octets))
@@ -103,6 +110,7 @@ impl Endpoint {
         ensures takes { IfOk result (λ n. Numbers self.old self.new Ask.Stop n) }
         ensures refused { OnErr result (Refuses self.old self.new) }
         ensures full { IfErr result (λ e. (e ≡ why.Full) ↔ IsFull self.new) }
+        ensures memory { IfErr result (λ e. e ≡ why.NoMemory → HasData self.new.machine) }
     {
         match self.request(Ask::Stop) {
             Ok(number) => Ok(number),

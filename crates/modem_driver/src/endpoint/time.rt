@@ -4,6 +4,7 @@ ghost use Rattle.std.specs.List.{list_any};
 ghost use Rattle.modem_desk.specs.Ends.{DriverView};
 ghost use Rattle.modem_history.specs.Acts.{Act};
 ghost use Rattle.modem_history.specs.Sessions.{Beginning, LineView};
+ghost use Rattle.modem_driver.specs.GettingSteps.{HasData};
 ghost use Rattle.modem_driver.specs.Endpoints.{EndpointFits, Loses, Refuses, Ticks, wants_time};
 ghost use Rattle.modem_driver.specs.WaitingTicks.{waiting_ticks};
 ghost use Rattle.modem_driver.specs.declared.session.error.SessionFault.TheVariants as fault;
@@ -15,8 +16,8 @@ use mux_frame::Dlci;
 impl Endpoint {
     /// One T1 has passed (27.010, 5.7.3): SABM and DISC that weren't answered are sent again, and at the
     /// fourth tick what waits is given up. It handles the frames at hand first. Refusals, after which
-    /// nothing but the frames at hand has changed: 3 Failed where the line was lost; 1 NoMemory, where
-    /// it wasn't.
+    /// nothing but the frames at hand has changed: 3 Failed where the line was lost; 1 NoMemory, at data
+    /// of an open connection, which stays at hand.
     #[tactic(auto, using(crate::proofs::endpoints::Time::ticks, crate::proofs::endpoints::Requests::refuses))]
     pub fn tick(&mut self) -> Result<(), SessionFault>
         ensures ticks { OnOk result ((l : LineView) (d : DriverView) → Ticks l d self.old self.new) }
@@ -24,6 +25,7 @@ impl Endpoint {
         ensures failed { (result ≡ Err fault.Failed) ↔ (self.old.machine.core.lost ≡ true) }
         ensures lost { result ≡ Err fault.Failed → self.new.machine.core.lost ≡ true }
         ensures not_line { result ≢ Err fault.Line }
+        ensures memory { result ≡ Err fault.NoMemory → HasData self.new.machine }
     {
         let handled = self.machine.handle_frames();
         if self.machine.core.lost {
@@ -43,8 +45,9 @@ impl Endpoint {
 
     /// The caller's line has failed or ended: everyone in hand is told LineLost, and nothing is sent any
     /// more. It handles the frames at hand first. Refusals, after which nothing but the frames at hand has
-    /// changed: 3 Failed where the line was lost before; 1 NoMemory, where it wasn't.
-    #[tactic(auto, using(crate::proofs::endpoints::Time::loses, crate::proofs::endpoints::Time::bare_after, crate::proofs::endpoints::Requests::refuses))]
+    /// changed: 3 Failed where the line was lost before; 1 NoMemory, at data of an open connection,
+    /// which stays at hand.
+    #[tactic(auto, using(crate::proofs::endpoints::Time::loses, crate::proofs::endpoints::Time::fed_lost, crate::proofs::endpoints::Requests::refuses))]
     pub fn line_lost(&mut self) -> Result<(), SessionFault>
         ensures loses { OnOk result ((l : LineView) (d : DriverView) → Loses l d self.old self.new) }
         ensures gone { OnOk result (self.new.machine.core.lost ≡ true) }
@@ -52,6 +55,7 @@ impl Endpoint {
         ensures failed { (result ≡ Err fault.Failed) ↔ (self.old.machine.core.lost ≡ true) }
         ensures lost { result ≡ Err fault.Failed → self.new.machine.core.lost ≡ true }
         ensures not_line { result ≢ Err fault.Line }
+        ensures memory { result ≡ Err fault.NoMemory → HasData self.new.machine }
     {
         let frames = self.machine.handle_frames();
         if self.machine.core.lost {

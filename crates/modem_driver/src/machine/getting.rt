@@ -1,32 +1,31 @@
 //! Frames that are handled.
 ghost use Rattle.std.specs.Prelude.{◌≡◌, ◌≢◌, ◌<◌, length, true, None, IfOk, OnErr};
-ghost use Rattle.modem_driver.specs.GettingSteps.{MachineGets};
+ghost use Rattle.modem_driver.specs.GettingSteps.{HasData, MachineGets};
 ghost use Rattle.modem_driver.specs.declared.session.error.SessionFault.TheVariants as fault;
 
-use crate::error::CoreError;
 use crate::machine::Machine;
 use crate::session::SessionFault;
 
 impl Machine {
     /// Handles the frame at hand, and says whether there was one that could be handled. Where there is
     /// no room in the control queue for what it calls for, it stays at hand and nothing is done.
-    /// Refusal: 1 NoMemory, which changes nothing: the frame stays at hand too.
+    /// Refusal: 1 NoMemory, which comes only at data of an open connection and changes nothing: the frame stays at hand
+    /// too.
     pub(crate) fn get_one(&mut self) -> Result<bool, SessionFault>
         ensures gets { IfOk result (λ moved. MachineGets self.old self.new moved) }
         ensures shorter { IfOk result (λ moved. moved ≡ true
             → length self.new.deframer.undecided < length self.old.deframer.undecided) }
         ensures unfed { self.new.unfed ≡ self.old.unfed }
-        ensures aside { self.new.aside ≡ self.old.aside }
         ensures unwritten { self.new.unwritten ≡ self.old.unwritten }
         ensures lost { self.new.core.lost ≡ self.old.core.lost }
         ensures err { OnErr result (self.new ≡ self.old) }
-        ensures at_hand { OnErr result (self.old.deframer.next ≢ None) }
+        ensures at_hand { OnErr result (HasData self.old) }
         ensures no_memory { OnErr result (result ≡ Err fault.NoMemory) }
     {
         let Some(frame) = self.line_end.peek() else {
             return Ok(false);
         };
-        if self.core.is_other(frame) {
+        if !self.core.is_data(frame) {
             let Some(answered) = self.waiting.get(&mut self.core, frame) else {
                 return Ok(false);
             };
@@ -38,15 +37,12 @@ impl Machine {
             return Err(SessionFault::NoMemory);
         };
         let stop = self.core.stop();
-        match self.core.follow(frame, &mut self.fork) {
-            Ok(acts) => {
-                self.course.note(stop, acts.as_slice());
-                self.waiting.keep(acts);
-                self.line_end.advance();
-                Ok(true)
-            }
-            Err(CoreError::NoRoom) => Ok(false),
-            Err(_) => Err(SessionFault::NoMemory),
-        }
+        let Ok(acts) = self.core.follow(frame, &mut self.fork) else {
+            return Err(SessionFault::NoMemory);
+        };
+        self.course.note(stop, acts.as_slice());
+        self.waiting.keep(acts);
+        self.line_end.advance();
+        Ok(true)
     }
 }

@@ -2,6 +2,7 @@
 ghost use Rattle.std.specs.Prelude.{◌≡◌, ◌≢◌, ◌<◌, ◌≤◌, [], length, take, None, is_some, OnOk, OnErr};
 ghost use Rattle.modem_driver.specs.EndpointSteps.{FeedsFrom, HandLacksRoom, HandlesFrames, TakesFrom};
 ghost use Rattle.modem_driver.specs.Endpoints.{MachineSays};
+ghost use Rattle.modem_driver.specs.GettingSteps.{HasData};
 ghost use Rattle.modem_driver.specs.declared.session.error.SessionFault.TheVariants as fault;
 
 use crate::endpoint::{Blocked, Input};
@@ -10,14 +11,13 @@ use crate::session::SessionFault;
 
 impl Machine {
     /// Handles the frames at hand, one after the other, until none is, or one lacks room for what it
-    /// calls for. Refusal: 1 NoMemory, where the frame that needed it stays at hand.
+    /// calls for. Refusal: 1 NoMemory, at data of an open connection, which stays at hand.
     #[tactic(auto, using(crate::proofs::endpoints::TakenOctets::handles_none, crate::proofs::endpoints::TakenOctets::handles_one, crate::proofs::endpoints::TakenOctets::hand_lacks))]
     pub(crate) fn handle_frames(&mut self) -> Result<(), SessionFault>
         ensures handles { HandlesFrames self.old self.new }
         ensures lacks { OnOk result (HandLacksRoom self.new) }
-        ensures at_hand { OnErr result (self.new.deframer.next ≢ None) }
+        ensures at_hand { OnErr result (HasData self.new) }
         ensures unfed { self.new.unfed ≡ self.old.unfed }
-        ensures aside { self.new.aside ≡ self.old.aside }
         ensures lost { self.new.core.lost ≡ self.old.core.lost }
         ensures no_memory { OnErr result (result ≡ Err fault.NoMemory) }
     {
@@ -40,7 +40,6 @@ impl Machine {
         ensures feeds { FeedsFrom self.old self.new (take result octets.now) }
         ensures some { self.old.deframer.next ≡ None → 0 < length octets.now → 0 < result }
         ensures unfed { self.new.unfed ≡ [] }
-        ensures aside { self.new.aside ≡ self.old.aside }
         ensures few { result ≤ length octets.now }
     {
         self.line_end.feed_from(octets)
@@ -56,7 +55,6 @@ impl Machine {
         ensures few { result.taken ≤ length octets.now }
         ensures says { MachineSays self.new (result.taken ≡ length octets.now) result.blocked }
         ensures unfed { self.new.unfed ≡ [] }
-        ensures aside { self.new.aside ≡ self.old.aside }
     {
         let mut taken = 0;
         loop {

@@ -33,7 +33,6 @@ impl Machine {
         ensures behind { drop (place + result) room.new ≡ drop (place + result) room.old }
         ensures out { CopiesOut self.old self.new (take result self.old.unwritten) }
         ensures unfed { self.new.unfed ≡ self.old.unfed }
-        ensures aside { self.new.aside ≡ self.old.aside }
         ensures same { length room.new ≡ length room.old }
     {
         let count = copy_to(self.line_end.unwritten(), room, place);
@@ -49,7 +48,6 @@ impl Machine {
         ensures behind { drop result room.new ≡ drop result room.old }
         ensures drained { result < length room.old → MachineIsDrained self.new }
         ensures unfed { self.new.unfed ≡ self.old.unfed }
-        ensures aside { self.new.aside ≡ self.old.aside }
         ensures few { result ≤ length room.old }
         ensures same { length room.new ≡ length room.old }
     {

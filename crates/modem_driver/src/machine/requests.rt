@@ -1,6 +1,6 @@
 //! Requests that a call makes.
-ghost use Rattle.std.specs.Prelude.{◌≡◌, ◌+◌, nat_le, length, None, Some};
-ghost use Rattle.modem_driver.specs.TurnTakes.{TakesAside};
+ghost use Rattle.std.specs.Prelude.{◌≡◌, ◌+◌, nat_le, length};
+ghost use Rattle.modem_driver.specs.TurnTakes.{MachineTakes};
 
 use crate::machine::Machine;
 use modem_desk::Request;
@@ -13,10 +13,9 @@ impl Machine {
         self.waiting.count() >= self.core.hand_left()
     }
 
-    /// Takes a request. The condition is that none is kept aside.
+    /// Takes a request.
     pub(crate) fn take_request(&mut self, request: Request)
-        requires { self.old.aside ≡ None }
-        ensures takes { TakesAside (record self.old { aside = Some request }) self.new }
+        ensures takes { MachineTakes self.old self.new request }
     {
         self.waiting.take(&mut self.core, request);
     }

@@ -11,7 +11,6 @@ impl Machine {
     pub(crate) fn send_on(&mut self) -> bool
         ensures sends { MachineSends self.old self.new result }
         ensures unfed { self.new.unfed ≡ self.old.unfed }
-        ensures aside { self.new.aside ≡ self.old.aside }
         ensures next { self.new.deframer ≡ self.old.deframer }
     {
         if !self.line_end.is_written() {

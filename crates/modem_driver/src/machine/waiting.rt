@@ -1,10 +1,9 @@
 //! Outcomes and lines that wait for a place.
-ghost use Rattle.std.specs.Prelude.{◌≡◌, ◌≤◌, [], length, map, IfOk, OnOk, IfSome, IfNone, MatchOption, true, All, Contains};
-ghost use Rattle.std.specs.Prelude.{false, ◌||◌, not};
+ghost use Rattle.std.specs.Prelude.{◌≡◌, ◌≤◌, [], length, map, IfOk, OnOk, IfSome, IfNone, MatchOption, false, true, All, Contains};
 ghost use Rattle.mux_frame.specs.Frames.{frame_of};
 ghost use Rattle.mux_station.specs.declared.role.Role.TheVariants.{Initiator};
 ghost use Rattle.mux_frame.specs.Spelling.{most_info};
-ghost use Rattle.modem_driver.specs.Receiving.{HasRoom, reads_data};
+ghost use Rattle.modem_driver.specs.Receiving.{HasRoom, brings_data};
 ghost use Rattle.modem_driver.specs.Running.{CoreIsIdle};
 ghost use Rattle.modem_history.specs.Acts.{act_of, Got, Lost, Tick};
 ghost use Rattle.modem_driver.specs.Doing.{Does, Takes};
@@ -25,8 +24,8 @@ use std::collections::VecDeque;
 use std::marker::Model;
 
 /// The outcomes that wait for a place at their callers, and the lines that wait for one at their
-/// listeners, each in their order. Requests in hand, one kept aside and outcomes that wait are
-/// together 128 at most, and for so many outcomes there is room.
+/// listeners, each in their order. Requests in hand and outcomes that wait are together 128 at most, and
+/// for so many outcomes there is room.
 #[derive(Drop)]
 pub(crate) struct Waiting {
     pub(crate) outcomes: VecDeque<Outcome>,
@@ -123,11 +122,11 @@ impl Waiting {
         core.ask(request, &mut self.outcomes)
     }
 
-    /// A frame that isn't data of an open connection: what the core tells for it waits behind the others. Says whether the
+    /// A frame that isn't data of an open connection, or that came after a loss of the line: what the core tells for it waits behind the others. Says whether the
     /// Stop that was in hand has ended by it; nothing where the control queue has no room for what it calls for.
     pub(crate) fn get(&mut self, core: &mut Core, frame: FrameView<'_>) -> Option<bool>
         requires short { length frame.info.now ≤ most_info core.old.station.n1 frame.kind }
-        requires other { not (core.old.lost || reads_data core.old (frame_of frame)) ≡ true }
+        requires other { brings_data core.old (frame_of frame) ≡ false }
         ensures does { IfSome result (λ answered.
             Does core.old core.new self.old.outcomes self.new.outcomes (Got (frame_of frame.entry)) answered) }
         ensures no_room { IfNone result (HasRoom core.old (Got (frame_of frame.entry)) false) }

@@ -54,8 +54,8 @@ pub struct SessionRefused<L: SerialLine> {
 /// How a turn or a tick fails.
 #[derive(Clone, Copy, PartialEq, Eq, Debug, Error)]
 pub enum SessionFault {
-    /// 1: an allocation was refused. The acts so far stand. A frame that needed the memory stays at hand; a request
-    /// that needed it is kept aside and is the next to be taken. The next turn goes on.
+    /// 1: an allocation was refused. The acts so far stand. The data that needed the memory stays at hand. The next
+    /// turn goes on.
     #[error("out of memory")]
     NoMemory,
     /// 2: the line failed, and is lost: every request in hand is told LineLost.

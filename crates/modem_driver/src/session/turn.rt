@@ -1,5 +1,6 @@
 //! Turns of a session.
 ghost use Rattle.std.specs.Prelude.{◌≡◌, ◌≢◌, true, false, None, Err, IfOk, IfErr, OnErr};
+ghost use Rattle.modem_driver.specs.GettingSteps.{HasData};
 ghost use Rattle.modem_driver.specs.SessionStates.{has_lost_line, line_by, TakesMore};
 ghost use Rattle.modem_driver.specs.TurnSteps.{Places, Checks, SendsOn, Writes, Gets, ReadsOn, TakesOne};
 ghost use Rattle.modem_driver.specs.SessionTurns.{standing_of, turn_answer, fault_of, Answers, HasNoPlace, HasTurned, LeavesLost, LosesOr, TakesTurn, Faults};
@@ -95,7 +96,7 @@ impl<L: SerialLine, R: Wait + Drop> Session<L, R> {
             (standing_of (line_by L.received L.sent L.calls L.failures L.empty_reads L.stalled_writes) self.old)
             (standing_of (line_by L.received L.sent L.calls L.failures L.empty_reads L.stalled_writes) self.new) moved) }
         ensures err { OnErr result (self.new ≡ self.old) }
-        ensures at_hand { OnErr result (self.new.machine.deframer.next ≢ None) }
+        ensures at_hand { OnErr result (HasData self.new.machine) }
         ensures no_memory { OnErr result (result ≡ Err fault.NoMemory) }
         ensures line { self.new.line ≡ self.old.line }
     {
@@ -143,8 +144,8 @@ impl<L: SerialLine, R: Wait + Drop> Session<L, R> {
     /// looks at the backlog of each connection; where all octets are written, takes the next frame
     /// into the output; writes; handles the frame at hand; where no octets wait to be fed, reads, and
     /// feeds the deframer; takes a request, where those in hand and the outcomes that wait are fewer
-    /// than 128. Faults, which end the turn: 1 NoMemory for the frame at hand, which stays there, while
-    /// what was done before it stands; 2 Line, where a call on the line failed in this turn; 3 Failed in
+    /// than 128. Faults, which end the turn: 1 NoMemory for data of an open connection, which stays at
+    /// hand, while what was done before stands; 2 Line, where a call on the line failed in this turn; 3 Failed in
     /// every turn after that, which still offers to the desk what waits.
     pub fn turn(&mut self) -> Result<Turn, SessionFault>
         ensures turns { IfOk result (λ says. TakesTurn (line_by L.received L.sent L.calls L.failures L.empty_reads L.stalled_writes)
@@ -155,7 +156,7 @@ impl<L: SerialLine, R: Wait + Drop> Session<L, R> {
             (standing_of (line_by L.received L.sent L.calls L.failures L.empty_reads L.stalled_writes) self.new) }
         ensures lost { IfErr result (λ why. LeavesLost why self.new) }
         ensures failed { has_lost_line self.old ≡ true → result ≡ Err fault.Failed }
-        ensures memory { result ≡ Err fault.NoMemory → self.new.machine.deframer.next ≢ None }
+        ensures memory { result ≡ Err fault.NoMemory → HasData self.new.machine }
         ensures takes { TakesMore self.old.driver self.new.driver }
         ensures full { IfOk result (λ says. HasNoPlace self.new.driver (turn_answer says)) }
         ensures beyond { L.other_side self.new.line ≡ L.other_side self.old.line }

@@ -2,7 +2,7 @@
 use Rattle.std.proofs.Common.{ap, sym, ◌∙◌, subst, arith, lit≤}
 use Rattle.std.proofs.lemmas.List.{append-nil, append_assoc, append_cancel_left}
 use Rattle.std.proofs.lemmas.List.Concat.{flat_map-append}
-use Rattle.std.specs.Prelude.{◌≡◌, option_to_list, true, false, nat_lt, ℕ, List, [], ◌∷◌, ◌++◌, length, drop, refl, filter, ◌≤◌}
+use Rattle.std.specs.Prelude.{◌≡◌, true, false, nat_lt, ℕ, List, [], ◌∷◌, ◌++◌, length, drop, refl, filter, ◌≤◌}
 use Rattle.mux_frame.specs.Frames.{Frame}
 use Rattle.mux_frame.specs.Spelling.{spelled}
 use Rattle.mux_frame.specs.Laws.{AreOctets}
@@ -115,7 +115,7 @@ begins_fitting b = record {
   history = record { lawful = tt; complete = refl; calls = tt; room = tt; in_turn = tt };
   loss = record { one = lit≤ tt; by_fault = λ gone. absurd (never gone) };
   requests = record {
-    taken_are = sym (append-nil (b.desk.taken ++ []) ∙ append-nil b.desk.taken);
+    taken_are = sym (append-nil b.desk.taken);
     once = ap are_distinct (drop_own b.desk.taken);
     callers = ap (list_all (λ (q : Request). nat_lt q.caller b.callers)) (drop_own b.desk.taken);
     few = lit≤ tt;
@@ -128,16 +128,16 @@ begins_fitting b = record {
 
 -- ## Requests
 
--- what was taken since the session began is what the history took, and then what is kept aside
-pub since_are : (b : Beginning) (v : SessionView) (past : List Act) → SessionFits b v past → taken_since b v ≡ taken_requests past ++ option_to_list v.aside
-since_are b v past f =
-    ap (drop (length b.desk.taken)) (f.requests.taken_are ∙ append_assoc b.desk.taken (taken_requests past) (option_to_list v.aside))
-    ∙ drop-append_seam b.desk.taken (taken_requests past ++ option_to_list v.aside)
+-- what was taken since the session began is what the history took
+pub since_are : (b : Beginning) (v : SessionView) (past : List Act) → SessionFits b v past → taken_since b v ≡ taken_requests past
+since_are b v past f = ap (drop (length b.desk.taken)) f.requests.taken_are ∙ drop-append_seam b.desk.taken (taken_requests past)
+
+-- so no caller used a number twice
+pub distinct_taken : (b : Beginning) (v : SessionView) (past : List Act) → SessionFits b v past → are_distinct (taken_requests past) ≡ true
+distinct_taken b v past f = sym (ap are_distinct (since_are b v past f)) ∙ f.requests.once
 
 pub hand_is_untold : (b : Beginning) (v : SessionView) (past : List Act) → SessionFits b v past → in_hand past ≡ untold past
-hand_is_untold b v past f =
-    let once : are_distinct (taken_requests past ++ option_to_list v.aside) ≡ true = sym (ap are_distinct (since_are b v past f)) ∙ f.requests.once in
-    hand_is (driving b) past f.history.lawful (distinct_front (taken_requests past) (option_to_list v.aside) once).0
+hand_is_untold b v past f = hand_is (driving b) past f.history.lawful (distinct_taken b v past f)
 
 pub tells_once : (b : Beginning) (v : SessionView) (past : List Act) → SessionFits b v past → TellsOnce b v
 tells_once b v past f r since e =
@@ -145,8 +145,7 @@ tells_once b v past f r since e =
     let same : since ≡ to.since = append_cancel_left (at_place r.caller b.desk.told) since to.since (sym e ∙ to.told_are) in
     let whole : since ++ caller_outcomes r.caller v.unplaced ≡ caller_outcomes r.caller (outcomes past) = ap (λ (os : List Outcome). os ++ caller_outcomes r.caller v.unplaced) same ∙ to.outcomes_are in
     let theirs : filter (λ o. is_for r o) (since ++ caller_outcomes r.caller v.unplaced) ≡ filter (λ o. is_for r o) (outcomes past) = ap (filter (λ o. is_for r o)) whole ∙ of_its_caller r (outcomes past) in
-    let distinct : are_distinct (taken_requests past ++ option_to_list v.aside) ≡ true = sym (ap are_distinct (since_are b v past f)) ∙ f.requests.once in
-    let few = (answers_once (driving b) past f.history.lawful).once (uses_once (taken_requests past) (distinct_front (taken_requests past) (option_to_list v.aside) distinct).0) r in
+    let few = (answers_once (driving b) past f.history.lawful).once (uses_once (taken_requests past) (distinct_taken b v past f)) r in
     subst (λ (os : List Outcome). length os ≤ 1) (sym theirs) few
 
 pub fits_says : (b : Beginning) (v : SessionView) (past : List Act) → FitsSays b v past
@@ -165,9 +164,8 @@ fits_says b v past f = record {
 -- what was taken since the session began grows by what is taken more
 pub since_more : (b : Beginning) (old new : SessionView) (past : List Act) (more : List Request) → SessionFits b old past → new.desk.taken ≡ old.desk.taken ++ more → taken_since b new ≡ taken_since b old ++ more
 since_more b old new past more f e =
-    let since = taken_requests past ++ option_to_list old.aside in
-    let whole : old.desk.taken ≡ b.desk.taken ++ since = f.requests.taken_are ∙ append_assoc b.desk.taken (taken_requests past) (option_to_list old.aside) in
-    ap (drop (length b.desk.taken)) (e ∙ (ap (λ (qs : List Request). qs ++ more) whole ∙ append_assoc b.desk.taken since more))
+    let since = taken_requests past in
+    ap (drop (length b.desk.taken)) (e ∙ (ap (λ (qs : List Request). qs ++ more) f.requests.taken_are ∙ append_assoc b.desk.taken since more))
     ∙ (drop-append_seam b.desk.taken (since ++ more)
     ∙ ap (λ (qs : List Request). qs ++ more) (sym (since_are b old past f)))
 

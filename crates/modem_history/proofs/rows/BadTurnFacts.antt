@@ -2,7 +2,7 @@
 use Rattle.std.proofs.Common.{append-nil, ap, sym, ◌∙◌, subst, arith, lit<, lit≤, inl, inr}
 use Rattle.std.proofs.lemmas.List.{append_cancel_left, length-map}
 use Rattle.std.proofs.lemmas.Bool.{and_parts, leb-true, eq-eqb}
-use Rattle.std.specs.Prelude.{◌≡◌, ◌≢◌, ◌⊎◌, ℕ, zero, suc, ◌+◌, ◌-◌, ◌^◌, ◌<◌, ◌≤◌, ◌==◌, min, nat_le, true, false, List, [], ◌∷◌, ◌++◌, length, map, refl, Option, Some, None}
+use Rattle.std.specs.Prelude.{◌≡◌, ◌⊎◌, ℕ, zero, suc, ◌+◌, ◌-◌, ◌^◌, ◌<◌, ◌≤◌, ◌==◌, min, nat_le, true, false, List, [], ◌∷◌, ◌++◌, length, map, refl, Option, Some, None}
 use Rattle.mux_frame.specs.CheckOctet.{check_octet_of}
 use Rattle.mux_frame.specs.Spelling.{body_of}
 use Rattle.mux_frame.specs.Judging.{verdict_on, by_header, by_end}
@@ -19,7 +19,7 @@ use Rattle.modem_history.specs.Acts.{Act, after}
 use Rattle.modem_history.specs.Sessions.{driving, gots, heard_as, backlog_in}
 use Rattle.modem_history.specs.SessionRows.{TurnRow, IsWrongTurn, Each, beginning, entry_answer, zero_came, one_came, ring_one, test_command_info, outcome_of, ring}
 use Rattle.modem_history.specs.Turns.{counted, calls_made, octets_read, octets_written, request_given, AllAreGot, IsOffer, Offers, Read, Write}
-use Rattle.modem_history.specs.BadTurns.{test_frame, wrong_turns, idle_with_frame, idle_with_unfed, idle_half_unfed, idle_with_unsent, idle_with_queued, idle_with_aside, idle_with_outcome, idle_with_line, idle_with_command, idle_after_read, idle_without_read, idle_though_told, idle_though_sent, idle_though_announced, idle_with_lost_frame, idle_with_lost_request, idle_and_still_held, idle_and_failed, moved_by_nothing, moved_by_a_mark, unfed_grows, full_unoffered, full_but_taken, full_of_nothing, full_without_read, full_with_frame, full_with_unfed, full_with_test, full_though_told, full_though_read, full_though_taken, full_with_aside, full_with_lost_request, full_and_not_held, full_and_still_held, full_and_failed, waiting_but_told, waiting_for_another, waiting_for_the_greater, waiting_with_unsent, waiting_with_frame, waiting_without_read, waiting_for_none, waiting_untried, waiting_half_unfed, waiting_with_lost_frame, waiting_with_queued, waiting_with_command, waiting_with_aside, waiting_and_not_held, waiting_and_still_held, waiting_and_failed, blocked_by_none, blocked_by_a_later, blocked_with_command, blocked_and_not_held, blocked_and_still_held, blocked_by_another, blocked_though_announced, blocked_untried, blocked_with_unsent, blocked_with_outcome, blocked_with_frame, blocked_half_unfed, blocked_without_read, blocked_with_queued, blocked_with_aside, blocked_and_failed, tick_in_a_turn, loss_in_a_turn, failed_and_moved, three_calls, read_twice, read_while_unfed, two_frames, aside_and_another, two_requests, told_at_once, held_too_early, moved_with_aside}
+use Rattle.modem_history.specs.BadTurns.{test_frame, wrong_turns, idle_with_frame, idle_with_unfed, idle_half_unfed, idle_with_unsent, idle_with_queued, idle_with_outcome, idle_with_line, idle_with_command, idle_after_read, idle_without_read, idle_though_told, idle_though_sent, idle_though_announced, idle_with_lost_frame, idle_with_dropped_request, idle_and_still_held, idle_and_failed, moved_by_nothing, moved_by_a_mark, unfed_grows, full_unoffered, full_but_taken, full_of_nothing, full_without_read, full_with_frame, full_with_unfed, full_with_test, full_though_told, full_though_read, full_though_taken, full_with_dropped_request, full_and_not_held, full_and_still_held, full_and_failed, waiting_but_told, waiting_for_another, waiting_for_the_greater, waiting_with_unsent, waiting_with_frame, waiting_without_read, waiting_for_none, waiting_untried, waiting_half_unfed, waiting_with_lost_frame, waiting_with_queued, waiting_with_command, waiting_and_not_held, waiting_and_still_held, waiting_and_failed, blocked_by_none, blocked_by_a_later, blocked_with_command, blocked_and_not_held, blocked_and_still_held, blocked_by_another, blocked_though_announced, blocked_untried, blocked_with_unsent, blocked_with_outcome, blocked_with_frame, blocked_half_unfed, blocked_without_read, blocked_with_queued, blocked_and_failed, tick_in_a_turn, loss_in_a_turn, failed_and_moved, three_calls, read_twice, read_while_unfed, two_frames, two_requests, told_at_once, held_too_early, moved_by_dropped_request}
 use Rattle.at_text.specs.Kinds.{kind_place}
 use Rattle.modem_history.proofs.rows.HistoryTests.{unquiet}
 use Rattle.modem_history.proofs.rows.TurnTests.{no_more}
@@ -74,9 +74,6 @@ idle_with_queued_wrong t turn = octets_differ _ _ refl turn.means.rest.sent
 some_none : {A : Type 0} {a : A} → Some a ≡ None → ⊥
 some_none e = cc
 
-idle_with_aside_wrong : IsWrongTurn idle_with_aside
-idle_with_aside_wrong t turn = some_none turn.none_aside
-
 idle_with_outcome_wrong : IsWrongTurn idle_with_outcome
 idle_with_outcome_wrong t turn = not_empty turn.means.placed
 
@@ -112,13 +109,16 @@ idle_with_lost_frame_wrong : IsWrongTurn idle_with_lost_frame
 unfolding check_octet_of verdict_on by_header by_end
 idle_with_lost_frame_wrong t turn = unread idle_with_lost_frame zero_came refl refl refl turn.means.rest.all_got
 
--- where a request was kept aside the desk isn't asked, and fewer than 128 are in hand
-bare_and_few : (next : Option (Option Request)) → (next ≢ None → ⊥) → (n : ℕ) → n < 128 → (next ≡ Some None) ⊎ (n ≡ 128) → ⊥
-bare_and_few next bare n few (inl e) = bare (λ h. some_none (sym e ∙ h))
-bare_and_few next bare n few (inr e) = omega (arith, e, few)
+-- a request was given, and fewer than 128 are in hand
+given_and_few : (next : Option (Option Request)) (before later : List Request) → length before < length later → later ≡ before ++ request_given next → (n : ℕ) → n < 128 → (next ≡ Some None) ⊎ (n ≡ 128) → ⊥
+given_and_few next before later more e n few (inl none) =
+    let same : later ≡ before = e ∙ (ap (λ (o : Option (Option Request)). before ++ request_given o) none ∙ append-nil before) in
+    let size = ap length same in
+    omega (arith, more, size)
+given_and_few next before later more e n few (inr full) = omega (arith, full, few)
 
-idle_with_lost_request_wrong : IsWrongTurn idle_with_lost_request
-idle_with_lost_request_wrong t turn = bare_and_few t.next (λ asked. some_none (turn.exchanges.asks_bare asked)) 0 (lit< tt) turn.means.rest.no_request
+idle_with_dropped_request_wrong : IsWrongTurn idle_with_dropped_request
+idle_with_dropped_request_wrong t turn = given_and_few t.next idle_with_dropped_request.old.desk.taken idle_with_dropped_request.new.desk.taken (lit< tt) turn.exchanges.taken 0 (lit< tt) turn.means.rest.no_request
 
 idle_and_still_held_wrong : IsWrongTurn idle_and_still_held
 idle_and_still_held_wrong t turn = never_back (turn.means.rest.held.few 1 (lit< tt) (lit< tt))
@@ -187,11 +187,8 @@ full_though_read_wrong t turn = never_back turn.moved
 full_though_taken_wrong : IsWrongTurn full_though_taken
 full_though_taken_wrong t turn = never_back turn.moved
 
-full_with_aside_wrong : IsWrongTurn full_with_aside
-full_with_aside_wrong t turn = some_none turn.none_aside
-
-full_with_lost_request_wrong : IsWrongTurn full_with_lost_request
-full_with_lost_request_wrong t turn = bare_and_few t.next (λ asked. some_none (turn.exchanges.asks_bare asked)) 0 (lit< tt) turn.means.no_request
+full_with_dropped_request_wrong : IsWrongTurn full_with_dropped_request
+full_with_dropped_request_wrong t turn = given_and_few t.next full_with_dropped_request.old.desk.taken full_with_dropped_request.new.desk.taken (lit< tt) turn.exchanges.taken 0 (lit< tt) turn.means.no_request
 
 -- an MSC has a place where nothing waits in the control queue
 held_or_full : {P : Type 0} → P ⊎ ((d : ℕ) → 4127 < 10) → P
@@ -249,9 +246,6 @@ waiting_with_queued_wrong t turn = octets_differ _ _ refl turn.means.rest.sent
 
 waiting_with_command_wrong : IsWrongTurn waiting_with_command
 waiting_with_command_wrong t turn = unquiet (driving beginning) (after [] waiting_with_command.before) 1 (lit< tt) refl turn.means.rest.quiet
-
-waiting_with_aside_wrong : IsWrongTurn waiting_with_aside
-waiting_with_aside_wrong t turn = some_none turn.none_aside
 
 waiting_and_not_held_wrong : IsWrongTurn waiting_and_not_held
 waiting_and_not_held_wrong t turn = never (turn.means.rest.held.many 1 (lit< tt) refl refl (lit≤ tt))
@@ -311,9 +305,6 @@ blocked_with_queued_wrong : IsWrongTurn blocked_with_queued
 unfolding check_octet_of body_of
 blocked_with_queued_wrong t turn = octets_differ _ _ refl turn.means.rest.sent
 
-blocked_with_aside_wrong : IsWrongTurn blocked_with_aside
-blocked_with_aside_wrong t turn = some_none turn.none_aside
-
 blocked_and_failed_wrong : IsWrongTurn blocked_and_failed
 blocked_and_failed_wrong t turn = numbers_differ 1 0 refl turn.sound
 
@@ -368,16 +359,6 @@ read_while_unfed_wrong t turn = not_empty (turn.exchanges.reads_fed (was_read t.
 two_frames_wrong : IsWrongTurn two_frames
 two_frames_wrong t turn = let few : 2 ≤ 1 = turn.exchanges.one_got in omega arith
 
--- a request was taken from the desk, so it was asked
-was_asked : (next : Option (Option Request)) (before later : List Request) → length before < length later → later ≡ before ++ request_given next → next ≡ None → ⊥
-was_asked next before later more e none =
-    let same : later ≡ before = e ∙ (ap (λ (o : Option (Option Request)). before ++ request_given o) none ∙ append-nil before) in
-    let size = ap length same in
-    omega (arith, more, size)
-
-aside_and_another_wrong : IsWrongTurn aside_and_another
-aside_and_another_wrong t turn = some_none (turn.exchanges.asks_bare (was_asked t.next aside_and_another.old.desk.taken aside_and_another.new.desk.taken (lit< tt) turn.exchanges.taken))
-
 one_given : (next : Option (Option Request)) → 2 ≡ length (request_given next) → ⊥
 one_given None e = omega arith
 one_given (Some None) e = omega arith
@@ -405,8 +386,8 @@ held_too_early_wrong : IsWrongTurn held_too_early
 held_too_early_wrong t turn =
     few_wait t.still_heard 1 (heard_as ring ∷ []) refl (lit< tt) turn.exchanges.lines_wait (and_parts (nat_le 256 (backlog_in 1 t.still_heard)) true turn.acts_may).0
 
-moved_with_aside_wrong : IsWrongTurn moved_with_aside
-moved_with_aside_wrong t turn = some_none turn.none_aside
+moved_by_dropped_request_wrong : IsWrongTurn moved_by_dropped_request
+moved_by_dropped_request_wrong t turn = never turn.moved
 
 pub all_wrong_turns : Each IsWrongTurn wrong_turns
-all_wrong_turns = (idle_with_frame_wrong, (idle_with_unfed_wrong, (idle_half_unfed_wrong, (idle_with_unsent_wrong, (idle_with_queued_wrong, (idle_with_aside_wrong, (idle_with_outcome_wrong, (idle_with_line_wrong, (idle_with_command_wrong, (idle_after_read_wrong, (idle_without_read_wrong, (idle_though_told_wrong, (idle_though_sent_wrong, (idle_though_announced_wrong, (idle_with_lost_frame_wrong, (idle_with_lost_request_wrong, (idle_and_still_held_wrong, (idle_and_failed_wrong, (moved_by_nothing_wrong, (moved_by_a_mark_wrong, (unfed_grows_wrong, (full_unoffered_wrong, (full_but_taken_wrong, (full_of_nothing_wrong, (full_without_read_wrong, (full_with_frame_wrong, (full_with_unfed_wrong, (full_with_test_wrong, (full_though_told_wrong, (full_though_read_wrong, (full_though_taken_wrong, (full_with_aside_wrong, (full_with_lost_request_wrong, (full_and_not_held_wrong, (full_and_still_held_wrong, (full_and_failed_wrong, (waiting_but_told_wrong, (waiting_for_another_wrong, (waiting_for_the_greater_wrong, (waiting_with_unsent_wrong, (waiting_with_frame_wrong, (waiting_without_read_wrong, (waiting_for_none_wrong, (waiting_untried_wrong, (waiting_half_unfed_wrong, (waiting_with_lost_frame_wrong, (waiting_with_queued_wrong, (waiting_with_command_wrong, (waiting_with_aside_wrong, (waiting_and_not_held_wrong, (waiting_and_still_held_wrong, (waiting_and_failed_wrong, (blocked_by_none_wrong, (blocked_by_a_later_wrong, (blocked_with_command_wrong, (blocked_and_not_held_wrong, (blocked_and_still_held_wrong, (blocked_by_another_wrong, (blocked_though_announced_wrong, (blocked_untried_wrong, (blocked_with_unsent_wrong, (blocked_with_outcome_wrong, (blocked_with_frame_wrong, (blocked_half_unfed_wrong, (blocked_without_read_wrong, (blocked_with_queued_wrong, (blocked_with_aside_wrong, (blocked_and_failed_wrong, (tick_in_a_turn_wrong, (loss_in_a_turn_wrong, (failed_and_moved_wrong, (three_calls_wrong, (read_twice_wrong, (read_while_unfed_wrong, (two_frames_wrong, (aside_and_another_wrong, (two_requests_wrong, (told_at_once_wrong, (held_too_early_wrong, (moved_with_aside_wrong, tt))))))))))))))))))))))))))))))))))))))))))))))))))))))))))))))))))))))))))))))))
+all_wrong_turns = (idle_with_frame_wrong, (idle_with_unfed_wrong, (idle_half_unfed_wrong, (idle_with_unsent_wrong, (idle_with_queued_wrong, (idle_with_outcome_wrong, (idle_with_line_wrong, (idle_with_command_wrong, (idle_after_read_wrong, (idle_without_read_wrong, (idle_though_told_wrong, (idle_though_sent_wrong, (idle_though_announced_wrong, (idle_with_lost_frame_wrong, (idle_with_dropped_request_wrong, (idle_and_still_held_wrong, (idle_and_failed_wrong, (moved_by_nothing_wrong, (moved_by_a_mark_wrong, (unfed_grows_wrong, (full_unoffered_wrong, (full_but_taken_wrong, (full_of_nothing_wrong, (full_without_read_wrong, (full_with_frame_wrong, (full_with_unfed_wrong, (full_with_test_wrong, (full_though_told_wrong, (full_though_read_wrong, (full_though_taken_wrong, (full_with_dropped_request_wrong, (full_and_not_held_wrong, (full_and_still_held_wrong, (full_and_failed_wrong, (waiting_but_told_wrong, (waiting_for_another_wrong, (waiting_for_the_greater_wrong, (waiting_with_unsent_wrong, (waiting_with_frame_wrong, (waiting_without_read_wrong, (waiting_for_none_wrong, (waiting_untried_wrong, (waiting_half_unfed_wrong, (waiting_with_lost_frame_wrong, (waiting_with_queued_wrong, (waiting_with_command_wrong, (waiting_and_not_held_wrong, (waiting_and_still_held_wrong, (waiting_and_failed_wrong, (blocked_by_none_wrong, (blocked_by_a_later_wrong, (blocked_with_command_wrong, (blocked_and_not_held_wrong, (blocked_and_still_held_wrong, (blocked_by_another_wrong, (blocked_though_announced_wrong, (blocked_untried_wrong, (blocked_with_unsent_wrong, (blocked_with_outcome_wrong, (blocked_with_frame_wrong, (blocked_half_unfed_wrong, (blocked_without_read_wrong, (blocked_with_queued_wrong, (blocked_and_failed_wrong, (tick_in_a_turn_wrong, (loss_in_a_turn_wrong, (failed_and_moved_wrong, (three_calls_wrong, (read_twice_wrong, (read_while_unfed_wrong, (two_frames_wrong, (two_requests_wrong, (told_at_once_wrong, (held_too_early_wrong, (moved_by_dropped_request_wrong, tt)))))))))))))))))))))))))))))))))))))))))))))))))))))))))))))))))))))))))))

@@ -12,7 +12,7 @@ use Rattle.modem_history.specs.SessionRows.{Each}
 use Rattle.modem_history.specs.Sessions.{LineView, EndView, at_place}
 use Rattle.modem_history.specs.Entering.{IsEntry, EndsWithFinal, entry_text}
 use Rattle.modem_history.specs.EntryRows.{EntryRow, IsRightEntry, IsWrongEntry, line_before, right_entries, wrong_entries, entered, entered_after_ring, refused_plainly, refused_by_number, unanswered_entry, no_turns, failed_midway, failed_reading, entered_on_error, refused_on_ok, read_on, entered_at_second, entered_by_old_ok, entered_half_sent, read_before, sent_more, sent_another, read_without_room, offered_nothing, gave_up_too_soon, gave_up_on_ok, called_too_often, failed_without_fault, fault_passed_over}
-use Rattle.modem_history.specs.FinishRows.{IsRightEnd, IsWrongEnd, right_ends, wrong_ends, both_handed_back, outcome_handed_back, line_handed_back, hand_left_out, aside_left_out, aside_first, told_in_hand, outcome_left_out, line_left_out, line_called, told_at_end}
+use Rattle.modem_history.specs.FinishRows.{IsRightEnd, IsWrongEnd, right_ends, wrong_ends, both_handed_back, outcome_handed_back, line_handed_back, first_left_out, last_left_out, last_first, told_in_hand, outcome_left_out, line_left_out, line_called, told_at_end}
 use Rattle.modem_history.proofs.rows.SessionTests.{octets_differ, outcomes_differ, requests_differ}
 
 -- ## Right entries
@@ -323,14 +323,14 @@ line_handed_back_right = record { line_stays = refl; desk_stays = refl; hand_is 
 pub all_right_ends : Each IsRightEnd right_ends
 all_right_ends = (both_handed_back_right, (outcome_handed_back_right, (line_handed_back_right, tt)))
 
-hand_left_out_wrong : IsWrongEnd hand_left_out
-hand_left_out_wrong f = requests_differ _ _ refl f.hand_is
+first_left_out_wrong : IsWrongEnd first_left_out
+first_left_out_wrong f = requests_differ _ _ refl f.hand_is
 
-aside_left_out_wrong : IsWrongEnd aside_left_out
-aside_left_out_wrong f = requests_differ _ _ refl f.hand_is
+last_left_out_wrong : IsWrongEnd last_left_out
+last_left_out_wrong f = requests_differ _ _ refl f.hand_is
 
-aside_first_wrong : IsWrongEnd aside_first
-aside_first_wrong f = requests_differ _ _ refl f.hand_is
+last_first_wrong : IsWrongEnd last_first
+last_first_wrong f = requests_differ _ _ refl f.hand_is
 
 told_in_hand_wrong : IsWrongEnd told_in_hand
 told_in_hand_wrong f = requests_differ _ _ refl f.hand_is
@@ -349,11 +349,11 @@ told_at_end_wrong f = outcomes_differ _ _ refl (ap (λ (d : EndView). at_place 0
 
 pub all_wrong_ends : Each IsWrongEnd wrong_ends
 all_wrong_ends = (
-  hand_left_out_wrong,
+  first_left_out_wrong,
   (
-    aside_left_out_wrong,
+    last_left_out_wrong,
     (
-      aside_first_wrong,
+      last_first_wrong,
       (
         told_in_hand_wrong,
         (

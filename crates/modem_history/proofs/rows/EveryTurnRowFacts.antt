@@ -265,7 +265,7 @@ nothing_taken next before e = sym (append_cancel_left before [] (request_given n
 
 asks_for_none_skips : SkipsAStep asks_for_none
 asks_for_none_skips t turn steps =
-    unasked t.next 1 (lit< tt) (λ e. steps.asks.asks e refl) steps.asks.found_none (nothing_taken t.next asks_for_none.old.desk.taken turn.exchanges.taken)
+    unasked t.next 1 (lit< tt) steps.asks.asks steps.asks.found_none (nothing_taken t.next asks_for_none.old.desk.taken turn.exchanges.taken)
 
 -- ## Backlogs
 
@@ -360,39 +360,39 @@ offers_nothing_seems : SeemsATurn offers_nothing
 offers_nothing_seems =
     let row = offers_nothing in
     let t = reads_octets ua_zero (exchanged (offers (drop 2 sabm_zero) 0) None) in
-    seems row t (turn_by row.old row.new t (after [] row.before) row.acts row.says refl refl refl refl (lit≤ tt) (all_offered _ _ (lit≤ tt) (lit≤ tt) refl) (none_handed_back t refl refl refl refl) refl tt)
+    seems row t (turn_by row.old row.new t (after [] row.before) row.acts row.says refl refl refl (lit≤ tt) (all_offered _ _ (lit≤ tt) (lit≤ tt) refl) (none_handed_back t refl refl refl refl) tt)
 
 reads_without_room_seems : SeemsATurn reads_without_room
 reads_without_room_seems =
     let row = reads_without_room in
     let t : Exchange = record (exchanged None (Some first_request)) { read = Some (record { room = 0; octets = [] }) } in
-    seems row t (turn_by row.old row.new t (after [] row.before) row.acts row.says refl refl refl refl (lit≤ tt) refl (none_handed_back t refl refl refl refl) refl tt)
+    seems row t (turn_by row.old row.new t (after [] row.before) row.acts row.says refl refl refl (lit≤ tt) refl (none_handed_back t refl refl refl refl) tt)
 
 asks_for_none_seems : SeemsATurn asks_for_none
 asks_for_none_seems =
     let row = asks_for_none in
     let t : Exchange = record (exchanged (offers (drop 2 sabm_zero) 4) None) { next = None } in
-    seems row t (turn_by row.old row.new t (after [] row.before) row.acts row.says refl refl refl refl (lit≤ tt) (all_offered _ _ (lit≤ tt) (lit≤ tt) refl) (none_handed_back t refl refl refl refl) refl tt)
+    seems row t (turn_by row.old row.new t (after [] row.before) row.acts row.says refl refl refl (lit≤ tt) (all_offered _ _ (lit≤ tt) (lit≤ tt) refl) (none_handed_back t refl refl refl refl) tt)
 
 looks_at_no_backlog_seems : SeemsATurn looks_at_no_backlog
 looks_at_no_backlog_seems =
     let row = looks_at_no_backlog in
     let lines = replicate 256 ring in
     let t : Exchange = record (exchanged (offers last_flag 1) None) { still_heard = lines; heard_back = ring ∷ [] } in
-    seems row t (turn_by row.old row.new t (after [] row.before) row.acts row.says refl refl refl refl (lit≤ tt) (all_offered _ _ (lit≤ tt) (lit≤ tt) refl)
-    (record { outcomes = λ c. refl; lines = of_kinds (λ k. of_kind k (ring ∷ []) ≡ take 1 (of_kind k lines)) (record { ring = refl; cring = refl; creg = refl; cgreg = refl; cgev = refl; ciev = refl; other = refl; own = λ number. first_own number (ring ∷ []) lines refl refl }) }) refl tt)
+    seems row t (turn_by row.old row.new t (after [] row.before) row.acts row.says refl refl refl (lit≤ tt) (all_offered _ _ (lit≤ tt) (lit≤ tt) refl)
+    (record { outcomes = λ c. refl; lines = of_kinds (λ k. of_kind k (ring ∷ []) ≡ take 1 (of_kind k lines)) (record { ring = refl; cring = refl; creg = refl; cgreg = refl; cgev = refl; ciev = refl; other = refl; own = λ number. first_own number (ring ∷ []) lines refl refl }) }) tt)
 
 puts_half_seems : SeemsATurn puts_half
 puts_half_seems =
     let row = puts_half in
     let t = reads_octets lf_octet (exchanged (offers (take 3 sabm_zero) 0) None) in
-    seems row t (turn_by row.old row.new t (after [] row.before) row.acts row.says refl refl refl refl (lit≤ tt) (all_offered _ _ (lit≤ tt) (lit≤ tt) refl) (none_handed_back t refl refl refl refl) refl tt)
+    seems row t (turn_by row.old row.new t (after [] row.before) row.acts row.says refl refl refl (lit≤ tt) (all_offered _ _ (lit≤ tt) (lit≤ tt) refl) (none_handed_back t refl refl refl refl) tt)
 
 leaves_an_outcome_seems : SeemsATurn leaves_an_outcome
 leaves_an_outcome_seems =
     let row = leaves_an_outcome in
     let t = reads_octets lf_octet (outcome_back (outcome_of 1 Opened)) in
-    seems row t (turn_by row.old row.new t (after [] row.before) row.acts row.says refl refl refl refl (lit≤ tt) refl (record { outcomes = one_back (outcome_of 1 Opened); lines = λ k. refl }) refl tt)
+    seems row t (turn_by row.old row.new t (after [] row.before) row.acts row.says refl refl refl (lit≤ tt) refl (record { outcomes = one_back (outcome_of 1 Opened); lines = λ k. refl }) tt)
 
 pub all_seem : Each SeemsATurn skipping_turns
 all_seem = (offers_nothing_seems, (reads_without_room_seems, (asks_for_none_seems, (looks_at_no_backlog_seems, (puts_half_seems, (leaves_an_outcome_seems, tt))))))

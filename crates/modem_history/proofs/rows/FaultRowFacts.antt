@@ -1,6 +1,6 @@
 -- The rows of faults and ticks, computed.
-use Rattle.std.proofs.Common.{ap, sym, ◌∙◌, inl, inr, lit<, lit≤, arith}
-use Rattle.std.specs.Prelude.{◌≡◌, ℕ, ◌<◌, ◌==◌, ◌⊎◌, true, false, List, [], ◌∷◌, ◌++◌, length, drop, map, refl, Some, None}
+use Rattle.std.proofs.Common.{ap, sym, ◌∙◌, lit<, lit≤, arith}
+use Rattle.std.specs.Prelude.{◌≡◌, ℕ, ◌<◌, ◌==◌, true, false, List, [], ◌∷◌, ◌++◌, length, drop, map, refl, None}
 use Rattle.std.specs.List.{list_all}
 use Rattle.std.proofs.lemmas.Bool.{eq-eqb}
 use Rattle.modem_history.specs.Wholes.{is_said}
@@ -12,14 +12,12 @@ use Rattle.mux_frame.specs.Judging.{verdict_on, by_header, by_end}
 use Rattle.modem_desk.specs.declared.request.Answer.TheVariants.{LineLost}
 use Rattle.modem_history.specs.Acts.{Act, Sent, Told, Lost, after}
 use Rattle.modem_history.specs.Sessions.{SessionView, EndView, at_place}
-use Rattle.modem_history.specs.Turns.{PlacesAlone}
-use Rattle.modem_history.specs.SessionRows.{IsRight, Each, beginning, zero_came, sabm_one, second_request, outcome_of, last_flag}
+use Rattle.modem_history.specs.SessionRows.{IsRight, Each, zero_came, sabm_one, outcome_of, last_flag}
 use Rattle.modem_history.specs.GoodSessions.{loss_told}
-use Rattle.modem_history.specs.Rows.{opening_zero}
 use Rattle.modem_history.specs.GoodTurns.{exchanged, offers}
-use Rattle.modem_history.specs.FaultRows.{AreRightFaults, IsRightFault, IsWrongFault, IsRightTick, IsWrongTick, wrong_faults, right_ticks, wrong_ticks, asked_one, one_half_sent, fails, fails_again, keeps_aside, fails_unfailed, lost_before, failed_too_soon, calls_lost_line, memory_for_loss, loss_untold, loss_and_request, sends_behind_loss, feeds_when_lost, goes_on_faulty, sends_again, only_ticks, tick_left_out, two_ticks, data_at_tick, places_at_tick, ticks_when_lost}
+use Rattle.modem_history.specs.FaultRows.{AreRightFaults, IsRightFault, IsWrongFault, IsRightTick, IsWrongTick, wrong_faults, right_ticks, wrong_ticks, asked_one, one_half_sent, fails, fails_again, keeps_frame, fails_unfailed, lost_before, failed_too_soon, calls_lost_line, memory_for_loss, loss_untold, loss_and_request, sends_behind_loss, feeds_when_lost, goes_on_faulty, failure_passed_over, places_faulty, sends_again, only_ticks, tick_left_out, two_ticks, data_at_tick, places_at_tick, ticks_when_lost}
 use Rattle.modem_history.proofs.rows.SessionTests.{read_in, fits_none, outcomes_differ}
-use Rattle.modem_history.proofs.rows.SessionRowFacts.{zero_opened_right, request_aside_right, line_lost_right}
+use Rattle.modem_history.proofs.rows.SessionRowFacts.{ring_comes_right, line_lost_right}
 use Rattle.modem_history.proofs.rows.GoodTurnFacts.{still_fits}
 
 one_half_sent_right : IsRight (record { view = one_half_sent; acts = asked_one })
@@ -35,7 +33,7 @@ first_right = record {
   fitted = one_half_sent_right;
   fits = still_fits 41 _ (after [] loss_told) line_lost_right;
   fault = record {
-    exchanges = record { came = refl; room = tt; went = refl; calls = refl; taken = refl; hands_back = record { outcomes = λ c. refl; lines = λ k. refl }; outcomes_wait = refl; lines_wait = refl; unfed = lit≤ tt; reads_fed = λ _. refl; asks_bare = λ _. refl; one_got = lit≤ tt };
+    exchanges = record { came = refl; room = tt; went = refl; calls = refl; taken = refl; hands_back = record { outcomes = λ c. refl; lines = λ k. refl }; outcomes_wait = refl; lines_wait = refl; unfed = lit≤ tt; reads_fed = λ _. refl; one_got = lit≤ tt };
     acts_may = refl;
     means = record { live = refl; gone = refl; by_fault = lit< tt; none_taken = refl; before = []; told = outcome_of 2 LineLost ∷ []; acts_are = refl; none_in_hand = refl };
   };
@@ -46,20 +44,20 @@ later_right = record {
   fitted = line_lost_right;
   fits = fails_again_right;
   fault = record {
-    exchanges = record { came = refl; room = tt; went = refl; calls = refl; taken = refl; hands_back = record { outcomes = λ c. refl; lines = λ k. refl }; outcomes_wait = refl; lines_wait = refl; unfed = lit≤ tt; reads_fed = λ _. refl; asks_bare = λ _. refl; one_got = lit≤ tt };
+    exchanges = record { came = refl; room = tt; went = refl; calls = refl; taken = refl; hands_back = record { outcomes = λ c. refl; lines = λ k. refl }; outcomes_wait = refl; lines_wait = refl; unfed = lit≤ tt; reads_fed = λ _. refl; one_got = lit≤ tt };
     acts_may = refl;
     means = record { gone = refl; places = record { no_acts = refl; stays = refl } };
   };
 }
 
-memory_right : IsRightFault keeps_aside (exchanged None (Some second_request))
+memory_right : IsRightFault keeps_frame (record (exchanged None None) { read = None; next = None })
 memory_right = record {
-  fitted = zero_opened_right;
-  fits = still_fits 41 _ (after [] opening_zero) request_aside_right;
+  fitted = ring_comes_right;
+  fits = ring_comes_right;
   fault = record {
-    exchanges = record { came = refl; room = lit≤ tt; went = refl; calls = refl; taken = refl; hands_back = record { outcomes = λ c. refl; lines = λ k. refl }; outcomes_wait = refl; lines_wait = refl; unfed = lit≤ tt; reads_fed = λ _. refl; asks_bare = λ _. refl; one_got = lit≤ tt };
+    exchanges = record { came = refl; room = tt; went = refl; calls = refl; taken = refl; hands_back = record { outcomes = λ c. refl; lines = λ k. refl }; outcomes_wait = refl; lines_wait = refl; unfed = lit≤ tt; reads_fed = λ _. refl; one_got = lit≤ tt };
     acts_may = refl;
-    means = record { live = refl; behind = inl refl };
+    means = record { live = refl; sound = refl };
   };
 }
 
@@ -120,22 +118,24 @@ feeds_when_lost_wrong : IsWrongFault feeds_when_lost
 feeds_when_lost_wrong t f = numbers_differ 0 1 refl (ap (λ (v : SessionView). length v.unfed) f.means.places.stays)
 
 goes_on_faulty_wrong : IsWrongFault goes_on_faulty
-goes_on_faulty_wrong t f = by_side f.means.behind
-  where
-    by_side : (goes_on_faulty.old.line.failures ≡ beginning.line.failures) ⊎ PlacesAlone goes_on_faulty.old goes_on_faulty.new goes_on_faulty.acts → ⊥
-    by_side (inl e) = numbers_differ 1 0 refl e
-    by_side (inr p) = not_empty p.no_acts
+goes_on_faulty_wrong t f = numbers_differ 1 0 refl f.means.sound
+
+failure_passed_over_wrong : IsWrongFault failure_passed_over
+failure_passed_over_wrong t f = numbers_differ 1 0 refl f.means.sound
+
+places_faulty_wrong : IsWrongFault places_faulty
+places_faulty_wrong t f = numbers_differ 1 0 refl f.means.sound
 
 pub all_wrong_faults : Each IsWrongFault wrong_faults
-all_wrong_faults = (fails_unfailed_wrong, (lost_before_wrong, (failed_too_soon_wrong, (calls_lost_line_wrong, (memory_for_loss_wrong, (loss_untold_wrong, (loss_and_request_wrong, (sends_behind_loss_wrong, (feeds_when_lost_wrong, (goes_on_faulty_wrong, tt))))))))))
+all_wrong_faults = (fails_unfailed_wrong, (lost_before_wrong, (failed_too_soon_wrong, (calls_lost_line_wrong, (memory_for_loss_wrong, (loss_untold_wrong, (loss_and_request_wrong, (sends_behind_loss_wrong, (feeds_when_lost_wrong, (goes_on_faulty_wrong, (failure_passed_over_wrong, (places_faulty_wrong, tt))))))))))))
 
 -- ## Ticks
 
 sends_again_right : IsRightTick sends_again
-sends_again_right = record { live = refl; more = drop 1 sends_again.acts; acts_are = refl; follow = refl; line_stays = refl; desk_stays = refl; aside_stays = refl; unfed_stay = refl }
+sends_again_right = record { live = refl; more = drop 1 sends_again.acts; acts_are = refl; follow = refl; line_stays = refl; desk_stays = refl; unfed_stay = refl }
 
 only_ticks_right : IsRightTick only_ticks
-only_ticks_right = record { live = refl; more = []; acts_are = refl; follow = refl; line_stays = refl; desk_stays = refl; aside_stays = refl; unfed_stay = refl }
+only_ticks_right = record { live = refl; more = []; acts_are = refl; follow = refl; line_stays = refl; desk_stays = refl; unfed_stay = refl }
 
 pub all_right_ticks : Each IsRightTick right_ticks
 all_right_ticks = (sends_again_right, (only_ticks_right, tt))

@@ -51,40 +51,40 @@ unfolding check_octet_of body_of verdict_on by_header by_end
 writes_right = record {
   fitted = sabm_half_sent_right;
   fits = fits_none (record { view = writes_on.new; acts = left_zero }) lf_octet [] 6 refl refl refl (read_in lf_octet refl) (read_in [] refl) refl;
-  turn = turn_by writes_on.old writes_on.new (exchanged (offers (drop 2 sabm_zero) 4) None) (after [] writes_on.before) writes_on.acts writes_on.says refl refl refl refl (lit≤ tt)
-      (record { some = lit≤ tt; bound = lit≤ tt; first = record { rest = []; joins = refl } }) (nothing_back _ _) refl tt;
+  turn = turn_by writes_on.old writes_on.new (exchanged (offers (drop 2 sabm_zero) 4) None) (after [] writes_on.before) writes_on.acts writes_on.says refl refl refl (lit≤ tt)
+      (record { some = lit≤ tt; bound = lit≤ tt; first = record { rest = []; joins = refl } }) (nothing_back _ _) tt;
 }
 
 takes_right : IsRightTurn takes_request (exchanged None (Some first_request))
 takes_right = record {
   fitted = none_blank;
   fits = still_fits 41 _ (after [] asked_zero) sabm_queued_right;
-  turn = turn_by takes_request.old takes_request.new (exchanged None (Some first_request)) (after [] takes_request.before) takes_request.acts takes_request.says refl refl refl refl (lit≤ tt)
-      refl (nothing_back _ _) refl tt;
+  turn = turn_by takes_request.old takes_request.new (exchanged None (Some first_request)) (after [] takes_request.before) takes_request.acts takes_request.says refl refl refl (lit≤ tt)
+      refl (nothing_back _ _) tt;
 }
 
 gets_right : IsRightTurn gets_frame (exchanged None None)
 gets_right = record {
   fitted = ua_at_hand_right;
   fits = still_fits 41 _ (after [] opening_zero) outcome_waits_right;
-  turn = turn_by gets_frame.old gets_frame.new (exchanged None None) (after [] gets_frame.before) gets_frame.acts gets_frame.says refl refl refl refl (lit≤ tt)
-      refl (nothing_back _ _) refl tt;
+  turn = turn_by gets_frame.old gets_frame.new (exchanged None None) (after [] gets_frame.before) gets_frame.acts gets_frame.says refl refl refl (lit≤ tt)
+      refl (nothing_back _ _) tt;
 }
 
 places_right : IsRightTurn places_outcome (exchanged None None)
 places_right = record {
   fitted = outcome_waits_right;
   fits = still_fits 41 _ (after [] opening_zero) zero_opened_right;
-  turn = turn_by places_outcome.old places_outcome.new (exchanged None None) (after [] places_outcome.before) places_outcome.acts places_outcome.says refl refl refl refl (lit≤ tt)
-      refl (nothing_back _ _) refl tt;
+  turn = turn_by places_outcome.old places_outcome.new (exchanged None None) (after [] places_outcome.before) places_outcome.acts places_outcome.says refl refl refl (lit≤ tt)
+      refl (nothing_back _ _) tt;
 }
 
 full_right : IsRightTurn writes_nothing (exchanged (offers (drop 2 sabm_zero) 0) None)
 full_right = record {
   fitted = sabm_half_sent_right;
   fits = still_fits 42 _ (after [] left_zero) sabm_half_sent_right;
-  turn = turn_by writes_nothing.old writes_nothing.new (exchanged (offers (drop 2 sabm_zero) 0) None) (after [] writes_nothing.before) writes_nothing.acts writes_nothing.says refl refl refl refl (lit≤ tt)
-      (record { some = lit≤ tt; bound = lit≤ tt; first = record { rest = []; joins = refl } }) (nothing_back _ _) refl (record { waits = not_empty; offered = drop 2 sabm_zero; some = not_empty; took_none = refl; reads = λ e. record { room = 64; some = lit≤ tt; nothing = refl }; fed = λ _. refl; no_room = λ f e. absurd (none_at_hand e); held = inl (none_held writes_nothing.new (after [] writes_nothing.before) refl refl); no_request = inl refl });
+  turn = turn_by writes_nothing.old writes_nothing.new (exchanged (offers (drop 2 sabm_zero) 0) None) (after [] writes_nothing.before) writes_nothing.acts writes_nothing.says refl refl refl (lit≤ tt)
+      (record { some = lit≤ tt; bound = lit≤ tt; first = record { rest = []; joins = refl } }) (nothing_back _ _) (record { waits = not_empty; offered = drop 2 sabm_zero; some = not_empty; took_none = refl; reads = λ e. record { room = 64; some = lit≤ tt; nothing = refl }; fed = λ _. refl; no_room = λ f e. absurd (none_at_hand e); held = inl (none_held writes_nothing.new (after [] writes_nothing.before) refl refl); no_request = inl refl });
 }
 
 gives_right : IsRightTurn gives_on_in_vain (exchanged (offers sabm_zero 0) None)
@@ -92,8 +92,8 @@ unfolding check_octet_of body_of verdict_on by_header by_end
 gives_right = record {
   fitted = sabm_queued_right;
   fits = fits_none (record { view = gives_on_in_vain.new; acts = left_zero }) lf_octet [] 0 refl refl refl (read_in lf_octet refl) (read_in [] refl) refl;
-  turn = turn_by gives_on_in_vain.old gives_on_in_vain.new (exchanged (offers sabm_zero 0) None) (after [] gives_on_in_vain.before) gives_on_in_vain.acts gives_on_in_vain.says refl refl refl refl (lit≤ tt)
-      (record { some = lit≤ tt; bound = lit≤ tt; first = record { rest = []; joins = refl } }) (nothing_back _ _) refl (record { waits = not_empty; offered = sabm_zero; some = not_empty; took_none = refl; reads = λ e. record { room = 64; some = lit≤ tt; nothing = refl }; fed = λ _. refl; no_room = λ f e. absurd (none_at_hand e); held = inl (none_held gives_on_in_vain.new (after [] gives_on_in_vain.before) refl refl); no_request = inl refl });
+  turn = turn_by gives_on_in_vain.old gives_on_in_vain.new (exchanged (offers sabm_zero 0) None) (after [] gives_on_in_vain.before) gives_on_in_vain.acts gives_on_in_vain.says refl refl refl (lit≤ tt)
+      (record { some = lit≤ tt; bound = lit≤ tt; first = record { rest = []; joins = refl } }) (nothing_back _ _) (record { waits = not_empty; offered = sabm_zero; some = not_empty; took_none = refl; reads = λ e. record { room = 64; some = lit≤ tt; nothing = refl }; fed = λ _. refl; no_room = λ f e. absurd (none_at_hand e); held = inl (none_held gives_on_in_vain.new (after [] gives_on_in_vain.before) refl refl); no_request = inl refl });
 }
 
 -- what came of the full queue
@@ -108,8 +108,8 @@ full_held_right : IsRightTurn full_and_held (exchanged (offers (drop 2 msc_one) 
 full_held_right = record {
   fitted = queue_full_right;
   fits = still_fits 42 _ (after [] held_and_full) queue_full_right;
-  turn = turn_by full_and_held.old full_and_held.new (exchanged (offers (drop 2 msc_one) 0) None) (after [] full_and_held.before) full_and_held.acts full_and_held.says refl refl refl refl (lit≤ tt)
-      (record { some = lit≤ tt; bound = lit≤ tt; first = record { rest = []; joins = refl } }) (nothing_back _ _) refl (record { waits = not_empty; offered = drop 2 msc_one; some = not_empty; took_none = refl; reads = λ e. record { room = 64; some = lit≤ tt; nothing = refl }; fed = λ _. refl; no_room = λ f e. absurd (none_at_hand e); held = inr (λ d. lit< tt); no_request = inl refl });
+  turn = turn_by full_and_held.old full_and_held.new (exchanged (offers (drop 2 msc_one) 0) None) (after [] full_and_held.before) full_and_held.acts full_and_held.says refl refl refl (lit≤ tt)
+      (record { some = lit≤ tt; bound = lit≤ tt; first = record { rest = []; joins = refl } }) (nothing_back _ _) (record { waits = not_empty; offered = drop 2 msc_one; some = not_empty; took_none = refl; reads = λ e. record { room = 64; some = lit≤ tt; nothing = refl }; fed = λ _. refl; no_room = λ f e. absurd (none_at_hand e); held = inr (λ d. lit< tt); no_request = inl refl });
 }
 
 one_waits_right : IsRight (record { view = one_waits; acts = other_told })
@@ -125,8 +125,8 @@ unfolding check_octet_of body_of verdict_on by_header by_end
 waits_zero_right = record {
   fitted = outcome_waits_right;
   fits = still_fits 41 _ (after [] opening_zero) outcome_waits_right;
-  turn = turn_by waits_for_zero.old waits_for_zero.new (outcome_back (outcome_of 1 Opened)) (after [] waits_for_zero.before) waits_for_zero.acts waits_for_zero.says refl refl refl refl (lit≤ tt)
-      refl (record { outcomes = one_back (outcome_of 1 Opened); lines = λ k. refl }) refl (record {
+  turn = turn_by waits_for_zero.old waits_for_zero.new (outcome_back (outcome_of 1 Opened)) (after [] waits_for_zero.before) waits_for_zero.acts waits_for_zero.says refl refl refl (lit≤ tt)
+      refl (record { outcomes = one_back (outcome_of 1 Opened); lines = λ k. refl }) (record {
         written = refl;
         outcome = outcome_of 1 Opened;
         waits = refl;
@@ -149,8 +149,8 @@ unfolding check_octet_of body_of verdict_on by_header by_end
 waits_one_right = record {
   fitted = one_waits_right;
   fits = still_fits 41 _ (after [] other_told) one_waits_right;
-  turn = turn_by waits_for_one.old waits_for_one.new (outcome_back other_outcome) (after [] waits_for_one.before) waits_for_one.acts waits_for_one.says refl refl refl refl (lit≤ tt)
-      refl (record { outcomes = one_back other_outcome; lines = λ k. refl }) refl (record {
+  turn = turn_by waits_for_one.old waits_for_one.new (outcome_back other_outcome) (after [] waits_for_one.before) waits_for_one.acts waits_for_one.says refl refl refl (lit≤ tt)
+      refl (record { outcomes = one_back other_outcome; lines = λ k. refl }) (record {
         written = refl;
         outcome = other_outcome;
         waits = refl;
@@ -188,8 +188,8 @@ unfolding check_octet_of body_of verdict_on by_header by_end
 waits_both_right = record {
   fitted = both_waiting_right;
   fits = still_fits 41 _ (after [] other_told) both_waiting_right;
-  turn = turn_by waits_for_both.old waits_for_both.new (outcomes_back both_outcomes) (after [] waits_for_both.before) waits_for_both.acts waits_for_both.says refl refl refl refl (lit≤ tt)
-      refl (record { outcomes = two_back; lines = λ k. refl }) refl (record {
+  turn = turn_by waits_for_both.old waits_for_both.new (outcomes_back both_outcomes) (after [] waits_for_both.before) waits_for_both.acts waits_for_both.says refl refl refl (lit≤ tt)
+      refl (record { outcomes = two_back; lines = λ k. refl }) (record {
         written = refl;
         outcome = outcome_of 1 Opened;
         waits = refl;
@@ -212,8 +212,8 @@ unfolding check_octet_of body_of verdict_on by_header by_end
 ring_waits_turn = record {
   fitted = ring_waits_right;
   fits = still_fits 41 _ (after [] ring_came) ring_waits_right;
-  turn = turn_by blocked_by_ring.old blocked_by_ring.new (lines_back (ring ∷ [])) (after [] blocked_by_ring.before) blocked_by_ring.acts blocked_by_ring.says refl refl refl refl (lit≤ tt)
-      refl (record { outcomes = λ c. refl; lines = of_kinds (λ k. of_kind k (ring ∷ []) ≡ take 1 (of_kind k (ring ∷ []))) (record { ring = refl; cring = refl; creg = refl; cgreg = refl; cgev = refl; ciev = refl; other = refl; own = λ number. first_own number (ring ∷ []) (ring ∷ []) refl refl }) }) refl (record {
+  turn = turn_by blocked_by_ring.old blocked_by_ring.new (lines_back (ring ∷ [])) (after [] blocked_by_ring.before) blocked_by_ring.acts blocked_by_ring.says refl refl refl (lit≤ tt)
+      refl (record { outcomes = λ c. refl; lines = of_kinds (λ k. of_kind k (ring ∷ []) ≡ take 1 (of_kind k (ring ∷ []))) (record { ring = refl; cring = refl; creg = refl; cgreg = refl; cgev = refl; ciev = refl; other = refl; own = λ number. first_own number (ring ∷ []) (ring ∷ []) refl refl }) }) (record {
         written = refl;
         placed = refl;
         line = ring;
@@ -237,8 +237,8 @@ unfolding check_octet_of body_of verdict_on by_header by_end
 both_wait_right = record {
   fitted = two_lines_right;
   fits = still_fits 41 _ (after [] both_came) two_lines_right;
-  turn = turn_by blocked_by_the_first.old blocked_by_the_first.new (lines_back (creg ∷ ring ∷ [])) (after [] blocked_by_the_first.before) blocked_by_the_first.acts blocked_by_the_first.says refl refl refl refl (lit≤ tt)
-      refl (record { outcomes = λ c. refl; lines = of_kinds (λ k. of_kind k (creg ∷ ring ∷ []) ≡ take 1 (of_kind k (creg ∷ ring ∷ []))) (record { ring = refl; cring = refl; creg = refl; cgreg = refl; cgev = refl; ciev = refl; other = refl; own = λ number. first_own number (creg ∷ ring ∷ []) (creg ∷ ring ∷ []) refl refl }) }) refl (record {
+  turn = turn_by blocked_by_the_first.old blocked_by_the_first.new (lines_back (creg ∷ ring ∷ [])) (after [] blocked_by_the_first.before) blocked_by_the_first.acts blocked_by_the_first.says refl refl refl (lit≤ tt)
+      refl (record { outcomes = λ c. refl; lines = of_kinds (λ k. of_kind k (creg ∷ ring ∷ []) ≡ take 1 (of_kind k (creg ∷ ring ∷ []))) (record { ring = refl; cring = refl; creg = refl; cgreg = refl; cgev = refl; ciev = refl; other = refl; own = λ number. first_own number (creg ∷ ring ∷ []) (creg ∷ ring ∷ []) refl refl }) }) (record {
         written = refl;
         placed = refl;
         line = creg;
@@ -262,12 +262,11 @@ unfolding check_octet_of body_of verdict_on by_header by_end
 idles_right = record {
   fitted = none_blank;
   fits = still_fits 41 _ (after [] []) none_blank;
-  turn = turn_by idle_at_first.old idle_at_first.new (exchanged None None) (after [] idle_at_first.before) idle_at_first.acts idle_at_first.says refl refl refl refl (lit≤ tt)
-      refl (nothing_back _ _) refl (record {
+  turn = turn_by idle_at_first.old idle_at_first.new (exchanged None None) (after [] idle_at_first.before) idle_at_first.acts idle_at_first.says refl refl refl (lit≤ tt)
+      refl (nothing_back _ _) (record {
         written = refl;
         placed = refl;
         announced = refl;
-        none_aside = refl;
         rest = record {
           quiet = (good (driving beginning) idle_at_first.before refl refl refl).quiet;
           sent = refl;
@@ -285,12 +284,11 @@ unfolding check_octet_of body_of verdict_on by_header by_end
 idles_on_right = record {
   fitted = csq_sent_right;
   fits = still_fits 41 _ (after [] asked_csq) csq_sent_right;
-  turn = turn_by idle_under_way.old idle_under_way.new (exchanged None None) (after [] idle_under_way.before) idle_under_way.acts idle_under_way.says refl refl refl refl (lit≤ tt)
-      refl (nothing_back _ _) refl (record {
+  turn = turn_by idle_under_way.old idle_under_way.new (exchanged None None) (after [] idle_under_way.before) idle_under_way.acts idle_under_way.says refl refl refl (lit≤ tt)
+      refl (nothing_back _ _) (record {
         written = refl;
         placed = refl;
         announced = refl;
-        none_aside = refl;
         rest = record {
           quiet = (good (driving beginning) idle_under_way.before refl refl refl).quiet;
           sent = refl;

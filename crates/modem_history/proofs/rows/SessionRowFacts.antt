@@ -1,8 +1,8 @@
 -- The rows of sessions, computed.
 use Rattle.std.proofs.Common.{ap, sym, ◌∙◌, subst, arith, lit<, lit≤, length-drop}
-use Rattle.std.specs.Prelude.{◌≡◌, ℕ, ◌-◌, ◌<◌, ◌≤◌, ◌==◌, ◌&&◌, nat_lt, Bool, true, false, List, [], ◌∷◌, ◌++◌, length, map, take, drop, Option, Some, None, refl}
+use Rattle.std.specs.Prelude.{◌≡◌, ℕ, ◌-◌, ◌<◌, ◌≤◌, ◌==◌, ◌&&◌, nat_lt, Bool, true, false, List, [], ◌∷◌, ◌++◌, length, map, take, drop, Option, Some, None, refl, codes}
 use Rattle.std.proofs.lemmas.Bool.{ltb-true, eq-eqb}
-use Rattle.mux_frame.specs.declared.frame.Kind.TheVariants.{Ua}
+use Rattle.mux_frame.specs.declared.frame.Kind.TheVariants.{Ua, Uih}
 use Rattle.mux_frame.specs.CheckOctet.{check_octet_of}
 use Rattle.mux_frame.specs.Spelling.{body_of, short}
 use Rattle.mux_frame.specs.Judging.{verdict_on, by_header, by_end}
@@ -20,9 +20,10 @@ use Rattle.modem_desk.specs.declared.request.Urc.{Urc}
 use Rattle.modem_history.specs.Kinds.{of_kind}
 use Rattle.modem_history.specs.Wholes.{outcomes}
 use Rattle.modem_history.specs.Sessions.{Beginning, SessionView, FitsSent, ToldTo, AnnouncedTo, octets_of_frames, caller_outcomes, at_place, heards, heard_as, driving, gots, given_on, last_octets}
+use Rattle.modem_history.specs.Rows.{framed, opening_one}
 use Rattle.modem_history.specs.SessionRows.{SessionRow, IsRight, IsWrong, Each, beginning, entry_answer, lf_octet, zero_came, one_came, ua_zero, broken_ua_zero, ring_one, last_flag, ring}
-use Rattle.modem_history.specs.GoodSessions.{right_sessions, nothing_yet, sabm_queued, sabm_half_sent, ua_unfed, ua_at_hand, zero_opened, outcome_waits, request_aside, csq_sent, ring_announced, ring_waits, line_lost}
-use Rattle.modem_history.specs.BadSessions.{wrong_sessions, written_twice, octet_left_out, octet_waits_again, marked_too_early, marked_too_late, two_marked, data_overtakes_octets, data_overtakes_frame, half_a_frame, octets_of_none, broken_frame_got, got_too_soon, got_unfed, frame_dropped, flag_dropped, other_n1, request_dropped, aside_and_taken, request_invented, number_twice, caller_unknown, sound_line_lost, lost_twice, told_and_kept, outcome_dropped, told_to_another, told_by_number, told_in_other_order, not_told_at_all, announced_out_of_order, announced_elsewhere, announced_twice, line_dropped, unheard_line_waits, lines_change_places, announced_beyond}
+use Rattle.modem_history.specs.GoodSessions.{right_sessions, nothing_yet, sabm_queued, sabm_half_sent, ua_unfed, ua_at_hand, zero_opened, outcome_waits, csq_sent, ring_announced, ring_comes, ring_waits, line_lost}
+use Rattle.modem_history.specs.BadSessions.{wrong_sessions, written_twice, octet_left_out, octet_waits_again, marked_too_early, marked_too_late, two_marked, data_overtakes_octets, data_overtakes_frame, half_a_frame, octets_of_none, broken_frame_got, got_too_soon, got_unfed, frame_dropped, flag_dropped, other_n1, request_dropped, request_invented, number_twice, caller_unknown, sound_line_lost, lost_twice, told_and_kept, outcome_dropped, told_to_another, told_by_number, told_in_other_order, not_told_at_all, announced_out_of_order, announced_elsewhere, announced_twice, line_dropped, unheard_line_waits, lines_change_places, announced_beyond}
 use Rattle.modem_history.proofs.rows.HistoryTests.{refused, incomplete}
 use Rattle.modem_history.proofs.rows.SessionTests.{all_small, small_octets, frames_in, rest_of, read_in, is_read, fed_is, fits_by, fits_none, octets_differ, acts_differ, outcomes_differ, requests_differ}
 
@@ -49,10 +50,6 @@ zero_opened_right = fits_none zero_opened zero_came last_flag 6 refl refl refl (
 pub outcome_waits_right : IsRight outcome_waits
 unfolding check_octet_of body_of verdict_on by_header by_end
 outcome_waits_right = fits_none outcome_waits zero_came last_flag 6 refl refl refl (read_in zero_came refl) (read_in last_flag refl) refl
-
-pub request_aside_right : IsRight request_aside
-unfolding check_octet_of body_of verdict_on by_header by_end
-request_aside_right = fits_none request_aside zero_came last_flag 6 refl refl refl (read_in zero_came refl) (read_in last_flag refl) refl
 
 pub csq_sent_right : IsRight csq_sent
 unfolding check_octet_of body_of verdict_on by_header by_end
@@ -84,12 +81,30 @@ ua_at_hand_right = fits_by ua_at_hand zero_came 6 refl refl (record {
   octets = small_octets ua_zero refl;
 })
 
+-- RING is the frame at hand
+ring_next : AtHand 31 ring_one (Some (written Responder Uih 1 (framed (codes "RING"))))
+unfolding check_octet_of
+ring_next = record {
+  octets = take 12 (drop 1 ring_one);
+  later = [];
+  text = refl;
+  spells = record { indicator = 0x11 ∷ []; octets = refl; dlci = lit< tt; indicates = short 8 (lit< tt); room = lit≤ tt };
+}
+
+pub ring_comes_right : IsRight ring_comes
+unfolding check_octet_of body_of verdict_on by_header by_end
+ring_comes_right = fits_by ring_comes (one_came ++ drop 1 ring_one) 10 refl refl (record {
+  reads = λ x gs rest more. reads_on 31 one_came (drop 1 ring_one ++ x) (gots (after [] opening_one)) gs last_flag rest (read_in one_came refl) more;
+  at_hand = ring_next;
+  octets = small_octets ring_one refl;
+})
+
 pub line_lost_right : IsRight line_lost
 unfolding check_octet_of body_of verdict_on by_header by_end
 line_lost_right = fits_none line_lost zero_came last_flag 2 refl refl refl (read_in zero_came refl) (read_in last_flag refl) refl
 
 pub all_right : Each IsRight right_sessions
-all_right = (nothing_yet_right, (sabm_queued_right, (sabm_half_sent_right, (ua_unfed_right, (ua_at_hand_right, (zero_opened_right, (outcome_waits_right, (request_aside_right, (csq_sent_right, (ring_announced_right, (ring_waits_right, (line_lost_right, tt))))))))))))
+all_right = (nothing_yet_right, (sabm_queued_right, (sabm_half_sent_right, (ua_unfed_right, (ua_at_hand_right, (zero_opened_right, (outcome_waits_right, (csq_sent_right, (ring_announced_right, (ring_comes_right, (ring_waits_right, (line_lost_right, tt))))))))))))
 
 never : false ≡ true → ⊥
 never e = cc
@@ -211,9 +226,6 @@ other_n1_wrong f = octets_differ (32 ∷ []) (31 ∷ []) refl (ap (λ n. n ∷ [
 request_dropped_wrong : IsWrong request_dropped
 request_dropped_wrong f = requests_differ _ _ refl f.requests.taken_are
 
-aside_and_taken_wrong : IsWrong aside_and_taken
-aside_and_taken_wrong f = requests_differ _ _ refl f.requests.taken_are
-
 request_invented_wrong : IsWrong request_invented
 request_invented_wrong f = requests_differ _ _ refl f.requests.taken_are
 
@@ -275,4 +287,4 @@ lost_twice_wrong : IsWrong lost_twice
 lost_twice_wrong f = let few : 2 ≤ 1 = f.loss.one in omega arith
 
 pub all_wrong : Each IsWrong wrong_sessions
-all_wrong = (written_twice_wrong, (octet_left_out_wrong, (octet_waits_again_wrong, (marked_too_early_wrong, (marked_too_late_wrong, (two_marked_wrong, (data_overtakes_octets_wrong, (data_overtakes_frame_wrong, (half_a_frame_wrong, (octets_of_none_wrong, (broken_frame_got_wrong, (got_too_soon_wrong, (got_unfed_wrong, (frame_dropped_wrong, (flag_dropped_wrong, (other_n1_wrong, (request_dropped_wrong, (aside_and_taken_wrong, (request_invented_wrong, (number_twice_wrong, (caller_unknown_wrong, (sound_line_lost_wrong, (lost_twice_wrong, (told_and_kept_wrong, (outcome_dropped_wrong, (told_to_another_wrong, (told_by_number_wrong, (told_in_other_order_wrong, (not_told_at_all_wrong, (announced_out_of_order_wrong, (announced_elsewhere_wrong, (announced_twice_wrong, (line_dropped_wrong, (unheard_line_waits_wrong, (lines_change_places_wrong, (announced_beyond_wrong, tt))))))))))))))))))))))))))))))))))))
+all_wrong = (written_twice_wrong, (octet_left_out_wrong, (octet_waits_again_wrong, (marked_too_early_wrong, (marked_too_late_wrong, (two_marked_wrong, (data_overtakes_octets_wrong, (data_overtakes_frame_wrong, (half_a_frame_wrong, (octets_of_none_wrong, (broken_frame_got_wrong, (got_too_soon_wrong, (got_unfed_wrong, (frame_dropped_wrong, (flag_dropped_wrong, (other_n1_wrong, (request_dropped_wrong, (request_invented_wrong, (number_twice_wrong, (caller_unknown_wrong, (sound_line_lost_wrong, (lost_twice_wrong, (told_and_kept_wrong, (outcome_dropped_wrong, (told_to_another_wrong, (told_by_number_wrong, (told_in_other_order_wrong, (not_told_at_all_wrong, (announced_out_of_order_wrong, (announced_elsewhere_wrong, (announced_twice_wrong, (line_dropped_wrong, (unheard_line_waits_wrong, (lines_change_places_wrong, (announced_beyond_wrong, tt)))))))))))))))))))))))))))))))))))

@@ -1,6 +1,6 @@
 -- Whether a session fits a history, by tests that compute.
 use Rattle.std.proofs.Common.{ap, sym, ◌∙◌, subst, arith, lit<, eqb-true}
-use Rattle.std.specs.Prelude.{◌≡◌, ℕ, zero, suc, ◌+◌, ◌<◌, ◌≤◌, ◌==◌, ◌&&◌, ◌||◌, not, nat_lt, nat_le, Bool, true, false, List, [], ◌∷◌, ◌++◌, length, drop, filter, flat_map, map, refl, Option, None, Some, option_to_list}
+use Rattle.std.specs.Prelude.{◌≡◌, ℕ, zero, suc, ◌+◌, ◌<◌, ◌≤◌, ◌==◌, ◌&&◌, ◌||◌, not, nat_lt, nat_le, Bool, true, false, List, [], ◌∷◌, ◌++◌, length, drop, filter, flat_map, map, refl, Option, None, Some}
 use Rattle.std.specs.List.{list_all}
 use Rattle.std.specs.Str.{bytes_eq}
 use Rattle.std.proofs.lemmas.Bool.{and_parts, ltb-true, leb-true}
@@ -292,7 +292,7 @@ row_test row =
     && ((nat_le (length (filter is_loss past)) 1 && (not (is_lost past) || nat_lt 0 v.line.failures))
     && (are_distinct v.desk.taken
     && (list_all (λ (q : Request). nat_lt q.caller 2) v.desk.taken
-    && (nat_le (length (in_hand past) + length (option_to_list v.aside) + length v.unplaced) 128
+    && (nat_le (length (in_hand past) + length v.unplaced) 128
     && (list_all (λ (u : Urc). is_listened beginning.kinds u.kind) v.unannounced
     && (nat_le (length v.desk.announced) 2
     && (nat_le (length v.desk.told) 2
@@ -341,7 +341,7 @@ told_side row fed written =
     let past = after [] row.acts in
     record {
       acts = run (driving beginning) [] (steps_of row.acts);
-      requests = taken_requests past ++ option_to_list row.view.aside;
+      requests = taken_requests past;
       received = entry_answer ++ fed ++ row.view.unfed;
       bound = 31;
       sent = entry_text ++ drop (length entry_text) row.view.line.sent;

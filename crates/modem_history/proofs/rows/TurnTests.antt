@@ -1,6 +1,6 @@
 -- Whether a turn is right, by tests that compute.
 use Rattle.std.proofs.Common.{ap, sym, subst, ◌∙◌, arith, eqb-true}
-use Rattle.std.specs.Prelude.{◌≡◌, ◌≢◌, ℕ, zero, suc, ◌+◌, ◌<◌, ◌≤◌, ◌==◌, ◌&&◌, not, nat_lt, nat_le, Bool, true, false, List, [], ◌∷◌, ◌++◌, length, take, filter, map, refl, None, if◌then◌else◌}
+use Rattle.std.specs.Prelude.{◌≡◌, ◌≢◌, ℕ, zero, suc, ◌+◌, ◌<◌, ◌≤◌, ◌==◌, ◌&&◌, not, nat_lt, nat_le, Bool, true, false, List, [], ◌∷◌, ◌++◌, length, take, filter, map, refl, if◌then◌else◌}
 use Rattle.std.specs.List.{list_all}
 use Rattle.std.proofs.lemmas.Bool.{and_parts, eqb-false, ltb-true, leb-true}
 use Rattle.mux_station.specs.declared.role.Role.TheVariants.{Initiator}
@@ -144,8 +144,8 @@ exchanged_side old t acts says = record {
 
 pub turn_by : (old new : SessionView) (t : Exchange) (past acts : List Act) (says : TurnAnswer) → after_side old new acts ≡ exchanged_side old t acts says
     → (list_all (may_act t.still_heard) acts && (nat_le (length new.unfed) (length old.unfed + length (octets_read t.read)) && nat_le (length (gots acts)) 1)) ≡ true
-    → old.unfed ≡ [] → old.aside ≡ None → ReadHasRoom t.read → Offers t.write new.unwritten → HandsBack t → new.aside ≡ None → Means beginning new t past (after past acts) says → IsTurn beginning old new t past acts says
-turn_by old new t past acts says e h unfed bare room offers back aside means =
+    → old.unfed ≡ [] → ReadHasRoom t.read → Offers t.write new.unwritten → HandsBack t → Means beginning new t past (after past acts) says → IsTurn beginning old new t past acts says
+turn_by old new t past acts says e h unfed room offers back means =
     let parts = and_parts _ _ h in
     let few = and_parts _ _ parts.1 in
     record {
@@ -160,13 +160,11 @@ turn_by old new t past acts says e h unfed bare room offers back aside means =
         lines_wait = ap (λ (x : TurnSides). x.lines) e;
         unfed = leb-true _ _ few.0;
         reads_fed = λ _. unfed;
-        asks_bare = λ _. bare;
         one_got = leb-true _ 1 few.1;
       };
       offers = offers;
       sound = ap (λ (x : TurnSides). x.failures) e;
       acts_may = parts.0;
       moved = ap (λ (x : TurnSides). x.moved) e;
-      none_aside = aside;
       means = means;
     }

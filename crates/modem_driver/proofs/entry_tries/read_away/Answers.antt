@@ -1,5 +1,5 @@
 -- What comes is read.
-use Rattle.std.specs.Prelude.{Bool, ℕ, refl, if◌then◌else◌}
+use Rattle.std.specs.Prelude.{Bool, refl, if◌then◌else◌}
 use Rattle.std.proofs.Common.{ap, arith, ◌∙◌}
 use Rattle.serial_line.specs.Counts.{one_more}
 use Rattle.modem_driver.proofs.EntryTries.{asks_none, asks_read, sent_none, sent_none_more}

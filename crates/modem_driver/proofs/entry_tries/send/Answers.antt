@@ -1,5 +1,5 @@
 -- The octets go out step by step.
-use Rattle.modem_driver.proofs.EntryTries.{answered, asks_answered, asks_on_idle, asks_on_moved, on_idle, on_moved, partly_sent, sent_by}
+use Rattle.modem_driver.proofs.EntryTries.{asks_on_idle, asks_on_moved, on_idle, on_moved, partly_sent}
 use Rattle.modem_driver.proofs.entry_tries.send.Goals.{in-Moved, in-Idle}
 use Rattle.modem_driver.proofs.entry_tries.send.Goals as goal
 use Rattle.std.proofs.Common.{◌∙◌}

@@ -15,7 +15,7 @@ use Rattle.modem_history.proofs.calls.StatesAfterActs.{after_both}
 use Rattle.modem_driver.specs.TurnSteps.{TurnState, StandingFits, Leads, AddsAll, view_of}
 use Rattle.modem_driver.proofs.sessions.steps.OneFrame.{got_both, none_both}
 use Rattle.modem_driver.proofs.sessions.meanings.WholeTurns.{offers_what_waits}
-use Rattle.modem_driver.proofs.sessions.meanings.TurnAnswers.{Run, all_exchange, all_acts, went_out, went_all, not_lost, unfed_at_five, aside_at_six, line_at_three, line_at_seven, driver_at_six}
+use Rattle.modem_driver.proofs.sessions.meanings.TurnAnswers.{Run, all_exchange, all_acts, went_out, went_all, not_lost, unfed_at_five, line_at_three, line_at_seven, driver_at_six}
 
 -- what is held is said of the lines that wait alone
 pub holds_of : (b : Beginning) (v w : SessionView) (past : List Act) → w.unannounced ≡ v.unannounced → HoldsWhereRoom b v past → HoldsWhereRoom b w past
@@ -162,7 +162,7 @@ module _ {s0 s1 s2 s3 s4 s5 s6 s7 : TurnState} {m1 m2 m3 m4 m5 m6 m7 : Bool} whe
 
   asks_for : (r : Run s0 s1 s2 s3 s4 s5 s6 s7 m1 m2 m3 m4 m5 m6 m7) (b : Beginning) (past : List Act) → StandingFits b s0 past → Asks (view_of s0) (view_of s7) (all_exchange r) (after past (all_acts r))
   asks_for r b past f = record {
-    asks = λ none bare. r.takes.asks b (after past (all_acts r)) (fits_seven r b past f) none (aside_at_six r ∙ bare);
+    asks = r.takes.asks b (after past (all_acts r)) (fits_seven r b past f);
     found_none = r.takes.found ∙ (ap (λ (d : DriverView). counted d.found_none (asked_in_vain r.takes.next)) (driver_at_six r) ∙ ap (λ (n : ℕ). counted n (asked_in_vain r.takes.next)) r.places.found_stays);
   }
 

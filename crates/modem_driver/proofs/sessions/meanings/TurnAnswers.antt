@@ -133,7 +133,7 @@ module _ {s0 s1 s2 s3 s4 s5 s6 s7 : TurnState} {m1 m2 m3 m4 m5 m6 m7 : Bool} whe
       let w4 = went_wrote s0 s3 s4 (placed r.places) 0 (r.checks.acts ++ r.sends.acts) m4 refl refl refl (went_out r) r.writes in
       went_step s0 s4 s5 t 0 1 (r.checks.acts ++ r.sends.acts) r.gets.acts refl w4 r.gets.leads (r.gets.adds (placed r.places).still_heard) (ap (λ (s : TurnState). s.line) r.gets.stays) (ap (λ (s : TurnState). s.driver) r.gets.stays) (ap (λ (s : TurnState). s.machine.unfed) r.gets.stays) r.gets.ended
 
-  -- what was unfed and aside stays but in its own step
+  -- what was unfed stays but in its own step
   pub unfed_at_five : Run s0 s1 s2 s3 s4 s5 s6 s7 m1 m2 m3 m4 m5 m6 m7 → s5.machine.unfed ≡ s0.machine.unfed
   unfed_at_five r =
       ap (λ (s : TurnState). s.machine.unfed) r.gets.stays
@@ -141,19 +141,11 @@ module _ {s0 s1 s2 s3 s4 s5 s6 s7 : TurnState} {m1 m2 m3 m4 m5 m6 m7 : Bool} whe
       ∙ (ap (λ (s : TurnState). s.machine.unfed) r.sends.stays
       ∙ (ap (λ (s : TurnState). s.machine.unfed) r.checks.stays ∙ ap (λ (s : TurnState). s.machine.unfed) r.places.stays)))
 
-  pub aside_at_six : Run s0 s1 s2 s3 s4 s5 s6 s7 m1 m2 m3 m4 m5 m6 m7 → s6.machine.aside ≡ s0.machine.aside
-  aside_at_six r =
-      ap (λ (s : TurnState). s.machine.aside) r.reads.stays
-      ∙ (ap (λ (s : TurnState). s.machine.aside) r.gets.stays
-      ∙ (ap (λ (s : TurnState). s.machine.aside) r.writes.stays
-      ∙ (ap (λ (s : TurnState). s.machine.aside) r.sends.stays
-      ∙ (ap (λ (s : TurnState). s.machine.aside) r.checks.stays ∙ ap (λ (s : TurnState). s.machine.aside) r.places.stays))))
-
   pub went_all : (r : Run s0 s1 s2 s3 s4 s5 s6 s7 m1 m2 m3 m4 m5 m6 m7) → Went s0 s7 (all_exchange r) 1 (all_acts r)
   went_all r =
       let t = record (placed r.places) { write = r.writes.write } in
       let w6 = went_read s0 s5 s6 t 1 ((r.checks.acts ++ r.sends.acts) ++ r.gets.acts) m6 refl refl (unfed_at_five r) (went_got r) r.reads in
-      went_took s0 s6 s7 (record t { read = r.reads.read }) 1 ((r.checks.acts ++ r.sends.acts) ++ r.gets.acts) m7 refl (aside_at_six r) w6 r.takes
+      went_took s0 s6 s7 (record t { read = r.reads.read }) 1 ((r.checks.acts ++ r.sends.acts) ++ r.gets.acts) m7 refl w6 r.takes
 
   -- ## What moved
 

@@ -8,8 +8,8 @@ use Rattle.modem_history.specs.EveryTurn.{GoesFault}
 use Rattle.modem_driver.specs.declared.session.error.SessionFault.{SessionFault}
 use Rattle.modem_driver.specs.SessionStates.{Machine, MachineLoses}
 use Rattle.modem_driver.specs.SessionTurns.{HasTurned, LosesOr, fault_of}
-use Rattle.modem_driver.specs.TurnSteps.{TurnState, StandingFits, Leads, Places, Checks, SendsOn, Writes, Gets, ReadsOn, TakesOne, KeepsAside, view_of, inside}
-use Rattle.modem_driver.proofs.sessions.meanings.WholeTurns.{Went, one_at_most, has_turned, placed, went_placed, went_step, went_wrote, went_read, went_took, went_aside, offers_what_waits}
+use Rattle.modem_driver.specs.TurnSteps.{TurnState, StandingFits, Leads, Places, Checks, SendsOn, Writes, Gets, ReadsOn, TakesOne, view_of, inside}
+use Rattle.modem_driver.proofs.sessions.meanings.WholeTurns.{Went, one_at_most, has_turned, placed, went_placed, went_step, went_wrote, went_read, went_took, offers_what_waits}
 use Rattle.modem_driver.proofs.sessions.meanings.TurnFaults.{has_failed, places_alone, none_loses, wants_memory, loses_line}
 
 -- a fault of any kind by which a turn ended, and what is so whichever way it ends
@@ -18,7 +18,7 @@ pub record FaultBy (s0 s : TurnState) (why : TurnFault) : Type 0 where
   pub turned : HasTurned s0 s
 
 -- there was no memory for a step
-in_vain : (s0 s : TurnState) (t : Exchange) (acts : List Act) → Went s0 s t 1 acts → (s0.machine.faulty ≡ false) ⊎ PlacesAlone (view_of s0) (view_of s) acts → s0.machine.core.lost ≡ false → FaultBy s0 s TurnFault.NoMemory
+in_vain : (s0 s : TurnState) (t : Exchange) (acts : List Act) → Went s0 s t 1 acts → s.machine.faulty ≡ false → s0.machine.core.lost ≡ false → FaultBy s0 s TurnFault.NoMemory
 in_vain s0 s t acts w sound live = record { fault = wants_memory s0 s t acts w sound live; turned = has_turned s0 s t 1 acts w }
 
 true_false : true ≡ false → ⊥
@@ -53,7 +53,7 @@ lost_turned s0 s1 s2 t xs w same k =
 
 pub lost_after : (why : SessionFault) (s0 s1 s2 : TurnState) (t : Exchange) (xs : List Act) → t.next ≡ None → Went s0 s1 t 1 xs → LosesOr why s1 s2 → (s0.machine.faulty ≡ false) ⊎ PlacesAlone (view_of s0) (view_of s1) xs → s0.machine.core.lost ≡ false → FaultBy s0 s2 (fault_of why)
 lost_after SessionFault.Line s0 s1 s2 t xs none w k sound live = record { fault = loses_line s0 s1 s2 t xs none w k.0 k.1 live; turned = lost_turned s0 s1 s2 t xs w k.0 k.1 }
-lost_after SessionFault.NoMemory s0 s1 s2 t xs none w k sound live = subst (λ (s : TurnState). FaultBy s0 s TurnFault.NoMemory) (sym k) (in_vain s0 s1 t xs w sound live)
+lost_after SessionFault.NoMemory s0 s1 s2 t xs none w k sound live = absurd k
 lost_after SessionFault.Failed s0 s1 s2 t xs none w k sound live = subst (λ (s : TurnState). FaultBy s0 s TurnFault.Failed) (sym k.0) (record { fault = lost_before s0 s1 t xs w live k.1; turned = has_turned s0 s1 t 1 xs w })
 
 checked : {s0 s1 s2 : TurnState} {m1 m2 : Bool} → (p : Places s0 s1 m1) (k : Checks s1 s2 m2) → Went s0 s2 (placed p) 0 k.acts
@@ -69,21 +69,13 @@ got : {s0 s1 s2 s3 s4 s5 : TurnState} {m1 m2 m3 m4 m5 : Bool} → (p : Places s0
 got {s0} {s1} {s2} {s3} {s4} {s5} {m1} {m2} {m3} {m4} {m5} p k n w g =
     went_step s0 s4 s5 (record (placed p) { write = w.write }) 0 1 (k.acts ++ n.acts) g.acts refl (wrote p k n w) g.leads (g.adds s1.machine.unannounced) (ap (λ (s : TurnState). s.line) g.stays) (ap (λ (s : TurnState). s.driver) g.stays) (ap (λ (s : TurnState). s.machine.unfed) g.stays) g.ended
 
--- what was unfed and aside stays but in its own step
+-- what was unfed stays but in its own step
 unfed_before : {s0 s1 s2 s3 s4 s5 : TurnState} {m1 m2 m3 m4 m5 : Bool} → Places s0 s1 m1 → Checks s1 s2 m2 → SendsOn s2 s3 m3 → Writes s3 s4 m4 → Gets s4 s5 m5 → s5.machine.unfed ≡ s0.machine.unfed
 unfed_before p k n w g =
     ap (λ (s : TurnState). s.machine.unfed) g.stays
     ∙ (ap (λ (s : TurnState). s.machine.unfed) w.stays
     ∙ (ap (λ (s : TurnState). s.machine.unfed) n.stays
     ∙ (ap (λ (s : TurnState). s.machine.unfed) k.stays ∙ ap (λ (s : TurnState). s.machine.unfed) p.stays)))
-
-aside_before : {s0 s1 s2 s3 s4 s5 s6 : TurnState} {m1 m2 m3 m4 m5 m6 : Bool} → Places s0 s1 m1 → Checks s1 s2 m2 → SendsOn s2 s3 m3 → Writes s3 s4 m4 → Gets s4 s5 m5 → ReadsOn s5 s6 m6 → s6.machine.aside ≡ s0.machine.aside
-aside_before p k n w g r =
-    ap (λ (s : TurnState). s.machine.aside) r.stays
-    ∙ (ap (λ (s : TurnState). s.machine.aside) g.stays
-    ∙ (ap (λ (s : TurnState). s.machine.aside) w.stays
-    ∙ (ap (λ (s : TurnState). s.machine.aside) n.stays
-    ∙ (ap (λ (s : TurnState). s.machine.aside) k.stays ∙ ap (λ (s : TurnState). s.machine.aside) p.stays))))
 
 read : {s0 s1 s2 s3 s4 s5 s6 : TurnState} {m1 m2 m3 m4 m5 m6 : Bool} → (p : Places s0 s1 m1) (k : Checks s1 s2 m2) (n : SendsOn s2 s3 m3) (w : Writes s3 s4 m4) (g : Gets s4 s5 m5) (r : ReadsOn s5 s6 m6) → Went s0 s6 (record (placed p) { write = w.write; read = r.read }) 1 ((k.acts ++ n.acts) ++ g.acts)
 read {s0} {s1} {s2} {s3} {s4} {s5} {s6} {m1} {m2} {m3} {m4} {m5} {m6} p k n w g r = went_read s0 s5 s6 (record (placed p) { write = w.write }) 1 ((k.acts ++ n.acts) ++ g.acts) m6 refl refl (unfed_before p k n w g) (got p k n w g) r
@@ -107,16 +99,10 @@ lost_reading {s0} {s1} {s2} {s3} {s4} {s5} {s6} {m1} {m2} {m3} {m4} {m5} {m6} wh
 
 -- ## There is no memory
 
-pub gets_in_vain : {s0 s1 s2 s3 s4 : TurnState} {m1 m2 m3 m4 : Bool} → (s : TurnState) (p : Places s0 s1 m1) (k : Checks s1 s2 m2) (n : SendsOn s2 s3 m3) (w : Writes s3 s4 m4) → s ≡ s4 → s0.machine.faulty ≡ false → s0.machine.core.lost ≡ false → FaultBy s0 s TurnFault.NoMemory
+pub gets_in_vain : {s0 s1 s2 s3 s4 : TurnState} {m1 m2 m3 m4 : Bool} → (s : TurnState) (p : Places s0 s1 m1) (k : Checks s1 s2 m2) (n : SendsOn s2 s3 m3) (w : Writes s3 s4 m4) → s ≡ s4 → s4.machine.faulty ≡ false → s0.machine.core.lost ≡ false → FaultBy s0 s TurnFault.NoMemory
 gets_in_vain {s0} {s1} {s2} {s3} {s4} {m1} {m2} {m3} {m4} s p k n w same sound live =
     let t = record (placed p) { write = w.write } in
-    subst (λ (s : TurnState). FaultBy s0 s TurnFault.NoMemory) (sym same) (in_vain s0 s4 t (k.acts ++ n.acts) (one_at_most s0 s4 t (k.acts ++ n.acts) (wrote p k n w)) (inl sound) live)
-
-pub takes_in_vain : {s0 s1 s2 s3 s4 s5 s6 : TurnState} {m1 m2 m3 m4 m5 m6 : Bool} → (s : TurnState) (p : Places s0 s1 m1) (k : Checks s1 s2 m2) (n : SendsOn s2 s3 m3) (w : Writes s3 s4 m4) (g : Gets s4 s5 m5) (r : ReadsOn s5 s6 m6) → KeepsAside s6 s → s0.machine.faulty ≡ false → s0.machine.core.lost ≡ false → FaultBy s0 s TurnFault.NoMemory
-takes_in_vain {s0} {s1} {s2} {s3} {s4} {s5} {s6} {m1} {m2} {m3} {m4} {m5} {m6} s p k n w g r a sound live =
-    let acts = (k.acts ++ n.acts) ++ g.acts in
-    let t = record (placed p) { write = w.write; read = r.read } in
-    in_vain s0 s (record t { next = a.next }) acts (went_aside s0 s6 s t 1 acts refl (aside_before p k n w g r) (read p k n w g r) a) (inl sound) live
+    subst (λ (s : TurnState). FaultBy s0 s TurnFault.NoMemory) (sym same) (in_vain s0 s4 t (k.acts ++ n.acts) (one_at_most s0 s4 t (k.acts ++ n.acts) (wrote p k n w)) sound live)
 
 -- ## It ends in an answer
 
@@ -124,7 +110,7 @@ pub all_turned : {s0 s1 s2 s3 s4 s5 s6 s7 : TurnState} {m1 m2 m3 m4 m5 m6 m7 : B
 all_turned {s0} {s1} {s2} {s3} {s4} {s5} {s6} {s7} {m1} {m2} {m3} {m4} {m5} {m6} {m7} p k n w g r q =
     let acts = (k.acts ++ n.acts) ++ g.acts in
     let t = record (placed p) { write = w.write; read = r.read } in
-    has_turned s0 s7 (record t { next = q.next }) 1 (acts ++ q.acts) (went_took s0 s6 s7 t 1 acts m7 refl (aside_before p k n w g r) (read p k n w g r) q)
+    has_turned s0 s7 (record t { next = q.next }) 1 (acts ++ q.acts) (went_took s0 s6 s7 t 1 acts m7 refl (read p k n w g r) q)
 
 -- ## What a turn began with
 

@@ -1,9 +1,9 @@
 -- Turns that end in a fault.
-use Rattle.std.proofs.Common.{ap, sym, ◌∙◌, inl, inr, subst, arith, ⊎_elim}
+use Rattle.std.proofs.Common.{ap, sym, ◌∙◌, subst, arith}
 use Rattle.std.proofs.lemmas.Bool.{and_from, and_parts}
 use Rattle.std.proofs.lemmas.List.{append_assoc}
 use Rattle.std.proofs.lemmas.List.Folds.{list_all-append}
-use Rattle.std.specs.Prelude.{◌≡◌, ◌⊎◌, ℕ, length, Bool, true, false, List, [], ◌∷◌, ◌++◌, map, refl, None}
+use Rattle.std.specs.Prelude.{◌≡◌, ℕ, length, Bool, true, false, List, [], ◌∷◌, ◌++◌, map, refl, None}
 use Rattle.std.specs.List.{list_all}
 use Rattle.modem_desk.specs.declared.request.Outcome.{Outcome}
 use Rattle.modem_desk.specs.declared.request.Request.{Request}
@@ -42,7 +42,7 @@ none_loses us (a ∷ acts) past h live =
     one_loses Given e = live
 
 -- there was no memory for a step of a turn
-pub wants_memory : (s0 s : TurnState) (t : Exchange) (acts : List Act) → Went s0 s t 1 acts → (s0.machine.faulty ≡ false) ⊎ PlacesAlone (view_of s0) (view_of s) acts → s0.machine.core.lost ≡ false
+pub wants_memory : (s0 s : TurnState) (t : Exchange) (acts : List Act) → Went s0 s t 1 acts → s.machine.faulty ≡ false → s0.machine.core.lost ≡ false
     → GoesFault (view_of s0) (view_of s) (λ b. inside b s0) (λ b. inside b s) TurnFault.NoMemory
 unfolding Leads
 wants_memory s0 s t acts w sound live = record {
@@ -64,13 +64,12 @@ wants_memory s0 s t acts w sound live = record {
           lines_wait = adds.lines;
           unfed = w.unfed;
           reads_fed = w.reads_fed;
-          asks_bare = w.asks_bare;
           one_got = adds.few_got;
         };
         acts_may = fail_all t.still_heard acts adds.may;
         means = record {
           live = none_loses t.still_heard acts past adds.may (f.inside.fits.lost_is ∙ live);
-          behind = ⊎_elim (λ (e : s0.machine.faulty ≡ false). inl (f.inside.sound e)) (λ (p : PlacesAlone (view_of s0) (view_of s) acts). inr p) sound;
+          sound = (w.leads b past f).inside.sound sound;
         };
       };
 }
@@ -114,7 +113,6 @@ lost_there s0 s1 new t xs none w k live =
                   ∙ ap (λ (hs : List Act). map heard_as t.still_heard ++ hs) (sym (heard_both xs k.acts))));
               unfed = let before = w.unfed in omega (arith, before, unfed);
               reads_fed = w.reads_fed;
-              asks_bare = w.asks_bare;
               one_got = few_both xs k.acts 1 0 first.few_got (let none = ap length more.none_got in omega arith);
             };
             acts_may =
@@ -173,7 +171,6 @@ has_failed s0 s1 moved p lost =
               lines_wait = adds.lines;
               unfed = w.unfed;
               reads_fed = w.reads_fed;
-              asks_bare = w.asks_bare;
               one_got = omega arith;
             };
             acts_may = refl;

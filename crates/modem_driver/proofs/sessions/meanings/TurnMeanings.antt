@@ -322,7 +322,6 @@ module _ {s0 s1 s2 s3 s4 s5 s6 s7 : TurnState} {m1 m2 m3 m4 m5 m6 m7 : Bool} whe
     written = a.1.written;
     placed = a.1.placed;
     announced = a.1.announced;
-    none_aside = r.takes.none_aside;
     rest = at_rest b past r (is_still r a.0) f a.1.written;
   }
 
@@ -351,14 +350,12 @@ module _ {s0 s1 s2 s3 s4 s5 s6 s7 : TurnState} {m1 m2 m3 m4 m5 m6 m7 : Bool} whe
                 lines_wait = adds.lines;
                 unfed = w.unfed;
                 reads_fed = w.reads_fed;
-                asks_bare = w.asks_bare;
                 one_got = adds.few_got;
               };
               offers = subst (Offers r.writes.write) (sym (unwritten_four r)) r.writes.offers;
               sound = last.inside.sound (sound_seven r);
               acts_may = adds.may;
               moved = sym (has_moved_all r) ∙ says_moved_is s7.machine (m1 || (m2 || (m3 || (m4 || (m5 || (m6 || m7)))))) says a;
-              none_aside = r.takes.none_aside;
               means = means b past r says a f;
             };
       }

@@ -21,7 +21,7 @@ use Rattle.modem_history.proofs.calls.StatesAfterActs.{after_both}
 use Rattle.modem_driver.specs.Endings.{Begins, KeepsEnd}
 use Rattle.modem_driver.specs.SessionStates.{Machine}
 use Rattle.modem_driver.specs.SessionTurns.{HasTurned}
-use Rattle.modem_driver.specs.TurnSteps.{TurnState, StandingFits, Leads, Adds, AddsAll, Places, Writes, ReadsOn, TakesOne, KeepsAside, view_of}
+use Rattle.modem_driver.specs.TurnSteps.{TurnState, StandingFits, Leads, Adds, AddsAll, Places, Writes, ReadsOn, TakesOne, view_of}
 use Rattle.modem_driver.proofs.sessions.steps.CollectedActs.{told_both}
 use Rattle.modem_driver.proofs.sessions.steps.ListenedLines.{heard_both}
 use Rattle.modem_driver.proofs.sessions.steps.OneFrame.{few_both}
@@ -117,7 +117,6 @@ pub record Went (start now : TurnState) (t : Exchange) (most : ℕ) (acts : List
   pub hands_back : HandsBack t
   pub unfed : length now.machine.unfed ≤ length start.machine.unfed + length (octets_read t.read)
   pub reads_fed : t.read ≢ None → start.machine.unfed ≡ []
-  pub asks_bare : t.next ≢ None → start.machine.aside ≡ None
   pub ended : KeepsEnd start.machine.course now.machine.course
   pub offers : OffersBy start now t
   pub adds : (b : Beginning) (past : List Act) → StandingFits b start past → AddsTo t now.machine most acts
@@ -145,7 +144,6 @@ went_placed s0 s1 moved p =
       hands_back = record { outcomes = p.outcomes_back; lines = p.lines_back };
       unfed = let e = ap length unfed in omega (arith, e);
       reads_fed = λ read. absurd (read refl);
-      asks_bare = λ asked. absurd (asked refl);
       ended = λ end e. ap (λ (s : TurnState). s.machine.course) p.stays ∙ e;
       offers = record { outcomes = p.each_told; lines = p.each_announced; elsewhere = p.elsewhere; outcomes_back = p.told_counts; lines_back = p.announced_counts };
       adds = λ b past f. record {
@@ -193,7 +191,6 @@ went_step s0 s1 s2 t n m xs ys none w leads adds line driver unfed ended =
       hands_back = w.hands_back;
       unfed = let e = ap length unfed in let before = w.unfed in omega (arith, e, before);
       reads_fed = w.reads_fed;
-      asks_bare = w.asks_bare;
       ended = λ end e. ended end (w.ended end e);
       adds = λ b past f.
           adds_on t s1.machine s2.machine n m xs ys (w.adds b past f) (adds b (after past xs) (w.leads b past f));
@@ -222,7 +219,6 @@ went_wrote s0 s1 s2 t n xs moved none unwritten unread w k =
       ended = λ end e. ap (λ (s : TurnState). s.machine.course) k.stays ∙ w.ended end e;
       unfed = let e = ap (λ (s : TurnState). length s.machine.unfed) k.stays in let before = w.unfed in omega (arith, e, before);
       reads_fed = w.reads_fed;
-      asks_bare = w.asks_bare;
       adds = λ b past f.
           let a = adds_still t s1.machine s2.machine n xs (w.adds b past f) (ap (λ (s : TurnState). s.machine.unplaced) k.stays) (ap (λ (s : TurnState). s.machine.unannounced) k.stays) in
           record { outcomes = a.outcomes; lines = a.lines; may = a.may; few_got = a.few_got };
@@ -259,7 +255,6 @@ went_read s0 s1 s2 t n xs moved none unread same_unfed w k =
       ended = λ end e. ap (λ (s : TurnState). s.machine.course) k.stays ∙ w.ended end e;
       unfed = omega (arith, before, more);
       reads_fed = λ read. sym same_unfed ∙ k.reads_fed read;
-      asks_bare = w.asks_bare;
       adds = λ b past f.
           let a = adds_still t s1.machine s2.machine n xs (w.adds b past f) (ap (λ (s : TurnState). s.machine.unplaced) k.stays) (ap (λ (s : TurnState). s.machine.unannounced) k.stays) in
           record { outcomes = a.outcomes; lines = a.lines; may = a.may; few_got = a.few_got };
@@ -268,10 +263,10 @@ went_read s0 s1 s2 t n xs moved none unread same_unfed w k =
     one_alone : (n : ℕ) → n + 0 ≡ n
     one_alone n = omega arith
 
-pub went_took : (s0 s1 s2 : TurnState) (t : Exchange) (n : ℕ) (xs : List Act) (moved : Bool) → t.next ≡ None → s1.machine.aside ≡ s0.machine.aside → Went s0 s1 t n xs → (k : TakesOne s1 s2 moved)
+pub went_took : (s0 s1 s2 : TurnState) (t : Exchange) (n : ℕ) (xs : List Act) (moved : Bool) → t.next ≡ None → Went s0 s1 t n xs → (k : TakesOne s1 s2 moved)
     → Went s0 s2 (record t { next = k.next }) (n + 0) (xs ++ k.acts)
 unfolding Leads AddsAll
-went_took s0 s1 s2 t n xs moved none same_aside w k =
+went_took s0 s1 s2 t n xs moved none w k =
     let still = taken_still s0 s1 t n xs none w in
     let line : s2.line ≡ s1.line = ap (λ (s : TurnState). s.line) k.stays in
     record {
@@ -286,32 +281,8 @@ went_took s0 s1 s2 t n xs moved none same_aside w k =
       ended = λ end e. ap (λ (s : TurnState). s.machine.course) k.stays ∙ w.ended end e;
       unfed = let e = ap (λ (s : TurnState). length s.machine.unfed) k.stays in let before = w.unfed in omega (arith, e, before);
       reads_fed = w.reads_fed;
-      asks_bare = λ asked. sym same_aside ∙ k.asks_bare asked;
       adds = λ b past f.
           let a = adds_on t s1.machine s2.machine n 0 xs k.acts (w.adds b past f) (k.adds t.still_heard b (after past xs) (w.leads b past f)) in
-          record { outcomes = a.outcomes; lines = a.lines; may = a.may; few_got = a.few_got };
-    }
-
-pub went_aside : (s0 s1 s2 : TurnState) (t : Exchange) (n : ℕ) (xs : List Act) → t.next ≡ None → s1.machine.aside ≡ s0.machine.aside → Went s0 s1 t n xs → (k : KeepsAside s1 s2)
-    → Went s0 s2 (record t { next = k.next }) n xs
-went_aside s0 s1 s2 t n xs none same_aside w k =
-    let still = taken_still s0 s1 t n xs none w in
-    let line : s2.line ≡ s1.line = ap (λ (s : TurnState). s.line) k.stays in
-    record {
-      leads = leads_still s0 s1 s2 xs w.leads k.leads;
-      came = ap (λ (l : LineView). l.received) line ∙ w.came;
-      room = w.room;
-      went = ap (λ (l : LineView). l.sent) line ∙ w.went;
-      calls = ap (λ (l : LineView). l.calls) line ∙ w.calls;
-      taken = k.taken ∙ ap (λ (qs : List Request). qs ++ request_given k.next) still;
-      offers = offers_on s0 s1 s2 t w.offers (record { told = k.desk_stays.1.0; announced = k.desk_stays.1.1; told_back = k.backs_stay.0; announced_back = k.backs_stay.1 });
-      hands_back = record { outcomes = w.hands_back.outcomes; lines = w.hands_back.lines };
-      ended = λ end e. ap (λ (s : TurnState). s.machine.course) k.stays ∙ w.ended end e;
-      unfed = let e = ap (λ (s : TurnState). length s.machine.unfed) k.stays in let before = w.unfed in omega (arith, e, before);
-      reads_fed = w.reads_fed;
-      asks_bare = λ asked. sym same_aside ∙ k.asks_bare asked;
-      adds = λ b past f.
-          let a = adds_still t s1.machine s2.machine n xs (w.adds b past f) (ap (λ (s : TurnState). s.machine.unplaced) k.stays) (ap (λ (s : TurnState). s.machine.unannounced) k.stays) in
           record { outcomes = a.outcomes; lines = a.lines; may = a.may; few_got = a.few_got };
     }
 
@@ -327,7 +298,6 @@ one_at_most s0 s t acts w = record {
   hands_back = w.hands_back;
   unfed = w.unfed;
   reads_fed = w.reads_fed;
-  asks_bare = w.asks_bare;
   ended = w.ended;
   offers = w.offers;
   adds = λ b past f.

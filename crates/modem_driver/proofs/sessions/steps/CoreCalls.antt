@@ -1,9 +1,7 @@
 -- A call of the core, and what it tells and announces waits: the session fits its history with it.
 use Rattle.std.proofs.Common.{ap, sym, ◌∙◌, subst, arith}
-use Rattle.std.proofs.lemmas.Bool.{and_parts}
 use Rattle.std.proofs.lemmas.List.{length-append}
-use Rattle.std.proofs.lemmas.List.Folds.{list_all-append}
-use Rattle.std.specs.Prelude.{◌≡◌, ◌+◌, ◌≤◌, nat_lt, true, List, ◌∷◌, ◌++◌, length, filter, map, refl, option_to_list, Option}
+use Rattle.std.specs.Prelude.{◌≡◌, ◌+◌, ◌≤◌, nat_lt, true, List, ◌∷◌, ◌++◌, length, filter, map, refl}
 use Rattle.std.specs.List.{list_all}
 use Rattle.modem_desk.specs.declared.request.Request.{Request}
 use Rattle.modem_desk.specs.declared.request.Outcome.{Outcome}
@@ -17,8 +15,7 @@ use Rattle.modem_history.specs.Sessions.{Beginning, LineView, FitsWith, FitsLoss
 use Rattle.modem_history.specs.Turns.{outcomes_told, lines_heard}
 use Rattle.modem_history.proofs.calls.CalledActs.{Saids}
 use Rattle.modem_history.proofs.outcomes.SingleOutcomes.{uses_once}
-use Rattle.modem_history.proofs.requests.RequestsAfterCalls.{distinct_front}
-use Rattle.modem_history.proofs.law_proofs.SessionLaws.{since_are}
+use Rattle.modem_history.proofs.law_proofs.SessionLaws.{distinct_taken, since_are}
 use Rattle.modem_driver.specs.WaitingTicks.{AreDelays}
 use Rattle.modem_driver.proofs.sessions.steps.WaitedTicks.{delays_after}
 use Rattle.modem_driver.specs.Cores.{MayCome, GoesOn, IsRun}
@@ -37,24 +34,16 @@ FitsMachine b l d k past = FitsWith b (seen_by l (end_of d) k) (MachineFits b l 
 
 -- ## Before it
 
--- no caller used a number twice
-pub distinct_taken : (b : Beginning) (l : LineView) (d : DriverView) (k : Machine) (past : List Act) → FitsMachine b l d k past → are_distinct (taken_requests past) ≡ true
-distinct_taken b l d k past f =
-    (distinct_front (taken_requests past) (option_to_list k.aside) (sym (ap are_distinct (since_are b (seen_by l (end_of d) k) past f.session)) ∙ f.session.requests.once)).0
-
--- each of them is a caller of the desk
+-- each request that was taken is of a caller of the desk
 pub callers_taken : (b : Beginning) (l : LineView) (d : DriverView) (k : Machine) (past : List Act) → FitsMachine b l d k past → list_all (is_caller b.callers) (taken_requests past) ≡ true
-callers_taken b l d k past f =
-    (and_parts (list_all (is_caller b.callers) (taken_requests past)) (list_all (is_caller b.callers) (option_to_list k.aside))
-    (sym (list_all-append (is_caller b.callers) (taken_requests past) (option_to_list k.aside))
-    ∙ (sym (ap (list_all (is_caller b.callers)) (since_are b (seen_by l (end_of d) k) past f.session)) ∙ f.session.requests.callers))).0
+callers_taken b l d k past f = sym (ap (list_all (is_caller b.callers)) (since_are b (seen_by l (end_of d) k) past f.session)) ∙ f.session.requests.callers
 
 pub is_run : (b : Beginning) (l : LineView) (d : DriverView) (k : Machine) (past : List Act) → FitsMachine b l d k past → IsRun (driving b) past
 is_run b l d k past f = record {
   lawful = f.session.history.lawful;
   complete = f.session.history.complete;
   whole = f.session.history.calls;
-  numbers = uses_once (taken_requests past) (distinct_taken b l d k past f);
+  numbers = uses_once (taken_requests past) (distinct_taken b (seen_by l (end_of d) k) past f.session);
 }
 
 pub may_come : (b : Beginning) (l : LineView) (d : DriverView) (k : Machine) (past : List Act) (a : Act) → FitsMachine b l d k past → taken_requests (a ∷ past) ≡ taken_requests past → MayCome (driving b) k.core past a
@@ -62,7 +51,7 @@ may_come b l d k past a f same = record {
   setting = f.inside.setting;
   fits = f.inside.fits;
   run = is_run b l d k past f;
-  numbers = subst UsesOnce (sym same) (uses_once (taken_requests past) (distinct_taken b l d k past f));
+  numbers = subst UsesOnce (sym same) (uses_once (taken_requests past) (distinct_taken b (seen_by l (end_of d) k) past f.session));
 }
 
 -- ## After it
@@ -86,7 +75,7 @@ pub record KeepsMore (old new : Machine) (acts : List Act) : Type 0 where
 pub few_told : (b : Beginning) (l : LineView) (d : DriverView) (old new : Machine) (past more : List Act) (a : Act) → FitsMachine b l d old past → IsBare a past → GoesOn (driving b) new.core past a (a ∷ more) → Saids more
     → length (in_hand (after past (a ∷ more))) + length (outcomes_told (a ∷ more)) ≤ length (in_hand past)
 few_told b l d old new past more a f bare goes said =
-    let distinct : are_distinct (taken_requests (a ∷ past)) ≡ true = ap are_distinct bare.taken_is ∙ distinct_taken b l d old past f in
+    let distinct : are_distinct (taken_requests (a ∷ past)) ≡ true = ap are_distinct bare.taken_is ∙ distinct_taken b (seen_by l (end_of d) old) past f.session in
     let count = hand_counts (driving b) more (a ∷ past) goes.run.lawful distinct said in
     let same = ap (length {A = Request}) bare.hand_is in
     let told = ap (length {A = Outcome}) (bare.told_is more) in
@@ -94,16 +83,15 @@ few_told b l d old new past more a f bare goes said =
 
 pub call_fits : (b : Beginning) (l : LineView) (d : DriverView) (old new : Machine) (past more : List Act) (a : Act)
     → FitsMachine b l d old past → IsBare a past → GoesOn (driving b) new.core past a (a ∷ more) → HoldsFit new.core (after past (a ∷ more)) → AreDelays new.delays (a ∷ past) → Saids more → Hear (driving b) more → KeepsMore old new (a ∷ more)
-    → new.aside ≡ old.aside → new.unwritten ≡ old.unwritten → new.faulty ≡ old.faulty → HasCome b (seen_by l (end_of d) new) (after past (a ∷ more)) new.course
+    → new.unwritten ≡ old.unwritten → new.faulty ≡ old.faulty → HasCome b (seen_by l (end_of d) new) (after past (a ∷ more)) new.course
     → FitsLoss b (seen_by l (end_of d) new) (after past (a ∷ more)) → FitsReceived b (seen_by l (end_of d) new) (after past (a ∷ more))
     → FitsMachine b l d new (after past (a ∷ more))
-call_fits b l d old new past more a f bare goes holds delays said hear keeps aside unwritten faulty come loss received =
+call_fits b l d old new past more a f bare goes holds delays said hear keeps unwritten faulty come loss received =
     let s = f.session in
     let few = few_told b l d old new past more a f bare goes said in
     let fewer = s.requests.few in
     let unplaced : new.unplaced ≡ old.unplaced ++ outcomes_told (a ∷ more) = keeps.outcomes (omega arith) in
     let long : length new.unplaced ≡ length old.unplaced + length (outcomes_told (a ∷ more)) = ap length unplaced ∙ length-append old.unplaced (outcomes_told (a ∷ more)) in
-    let kept_aside : length (option_to_list new.aside) ≡ length (option_to_list old.aside) = ap (λ (o : Option Request). length (option_to_list o)) aside in
     let callers : list_all (is_caller b.callers) (taken_requests (a ∷ past)) ≡ true = ap (list_all (is_caller b.callers)) bare.taken_is ∙ callers_taken b l d old past f in
     record {
       session = record {
@@ -116,10 +104,7 @@ call_fits b l d old new past more a f bare goes holds delays said hear keeps asi
         };
         loss = loss;
         requests = record {
-          taken_are =
-              s.requests.taken_are
-              ∙ (ap (λ (qs : List Request). b.desk.taken ++ qs ++ option_to_list old.aside) (sym bare.taken_is ∙ sym (taken_after more (a ∷ past) said))
-              ∙ ap (λ (o : Option Request). b.desk.taken ++ taken_requests (after past (a ∷ more)) ++ option_to_list o) (sym aside));
+          taken_are = s.requests.taken_are ∙ ap (λ (qs : List Request). b.desk.taken ++ qs) (sym bare.taken_is ∙ sym (taken_after more (a ∷ past) said));
           once = s.requests.once;
           callers = s.requests.callers;
           few = omega arith;

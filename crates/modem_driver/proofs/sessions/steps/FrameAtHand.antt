@@ -19,11 +19,11 @@ use Rattle.modem_history.proofs.calls.CalledActs.{calls_said}
 use Rattle.modem_driver.specs.Cores.{Core, Handles, GoesOn}
 use Rattle.modem_driver.specs.Holding.{HoldsFit, KeepsHeld}
 use Rattle.modem_driver.specs.Endings.{HasCome, asker_of, course_after, is_answered, is_stop}
-use Rattle.modem_driver.specs.Receiving.{HasRoom}
+use Rattle.modem_driver.specs.Receiving.{HasRoom, brings_data}
 use Rattle.modem_driver.specs.Running.{CoreIsIdle}
 use Rattle.modem_driver.specs.SessionStates.{Machine, seen_by, end_of}
 use Rattle.modem_driver.specs.TurnSteps.{Leads, Adds, AddsAll}
-use Rattle.modem_driver.specs.GettingSteps.{MachineGets}
+use Rattle.modem_driver.specs.GettingSteps.{HasData, MachineGets}
 use Rattle.modem_driver.specs.WaitingLists.{WaitingLists, Keeps}
 use Rattle.modem_driver.proofs.sessions.steps.LongerHistories.{gots_after, losses_after, lost_after}
 use Rattle.modem_driver.proofs.sessions.steps.CoreCalls.{FitsMachine, IsBare, KeepsMore, call_fits, few_told, may_come}
@@ -89,7 +89,7 @@ gotten old core fed room w acts f handles held keeps enough at_hand bound over b
     let fewer = fit.session.requests.few in
     record {
       fits = subst (λ (xs : List Act). FitsMachine b l d new (after past xs)) (sym same)
-          (call_fits b l d old new past more a fit (got_bare f past) here hold fit.inside.delays_are said (calls_hear s (seen s past) a) keep refl refl refl come lost received);
+          (call_fits b l d old new past more a fit (got_bare f past) here hold fit.inside.delays_are said (calls_hear s (seen s past) a) keep refl refl come lost received);
       adds = λ waiting. subst (Adds old new waiting 1) (sym same) (record {
         outcomes = keep.outcomes (omega (arith, told, fewer));
         lines = keep.lines;
@@ -172,3 +172,7 @@ gets_none old core fed outcomes lines stays same_core same_fed same_outcomes sam
     (subst (λ (v : Deframing). MachineGets old (record old { deframer = v; unplaced = outcomes; unannounced = lines }) false) (sym same_fed)
     (subst (λ (v : List Outcome). MachineGets old (record old { unplaced = v; unannounced = lines }) false) (sym same_outcomes)
     (subst (λ (v : List Urc). MachineGets old (record old { unannounced = v }) false) (sym same_lines) (still_gets old stays))))
+
+-- it is data
+pub has_data : (k : Machine) (f : Frame) (brings : Bool) → Some f ≡ k.deframer.next → brings ≡ brings_data k.core f → brings ≡ true → HasData k
+has_data k f brings next is h = record { frame = f; at_hand = sym next; brings = sym is ∙ h }

@@ -143,7 +143,7 @@ loses old core room w acts handles held keeps faulty live =
           } in
           let come = come_on b (seen_by l (end_of d) old) (seen_by l (end_of d) new) past (Lost ∷ more) old.course (none_ends (Lost ∷ more) past (taken_after more (Lost ∷ past) said) (lost_ends s (seen s past))) (grows_none (seen_by l (end_of d) old) (seen_by l (end_of d) new) refl refl) f.inside.come in
           subst (λ (xs : List Act). FitsMachine b l d new (after past xs)) (sym on.called)
-          (call_fits b l d old new past more Lost f (lost_bare past) here hold f.inside.delays_are said (calls_hear s (seen s past) Lost) keep refl refl refl come lost
+          (call_fits b l d old new past more Lost f (lost_bare past) here hold f.inside.delays_are said (calls_hear s (seen s past) Lost) keep refl refl come lost
           (received_part b (seen_by l (end_of d) old) (seen_by l (end_of d) new) past (after past (Lost ∷ more)) f.session.received refl refl refl (gots_after more (Lost ∷ past) said)));
       loses = λ b l d past f.
           let s = driving b in

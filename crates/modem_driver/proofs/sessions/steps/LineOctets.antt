@@ -1,7 +1,7 @@
 -- Octets that are read, fed and written: the session fits its history as before.
 use Rattle.std.proofs.Common.{ap, sym, ◌∙◌, subst, arith, take-append-drop}
 use Rattle.std.proofs.lemmas.List.{append_assoc, append-nil, drop-drop}
-use Rattle.std.specs.Prelude.{◌≡◌, ℕ, ◌+◌, ◌<◌, ◌≤◌, nat_lt, Bool, true, false, List, [], ◌++◌, length, take, drop, map, refl, option_to_list, Option}
+use Rattle.std.specs.Prelude.{◌≡◌, ℕ, ◌+◌, ◌<◌, ◌≤◌, nat_lt, Bool, true, false, List, [], ◌++◌, length, take, drop, map, refl, Option}
 use Rattle.std.specs.List.{list_all}
 use Rattle.mux_frame.specs.Deframing.{Deframing, TakesIn}
 use Rattle.modem_desk.specs.declared.request.Request.{Request}
@@ -9,7 +9,6 @@ use Rattle.modem_desk.specs.declared.request.Outcome.{Outcome}
 use Rattle.modem_desk.specs.Ends.{DriverView}
 use Rattle.modem_history.specs.Acts.{Act, in_hand}
 use Rattle.modem_history.specs.Requests.{are_distinct}
-use Rattle.modem_history.specs.Wholes.{taken_requests}
 use Rattle.modem_history.specs.Sessions.{Beginning, LineView, EndView, SessionView, SessionFits, FitsLoss, FitsReceived, FitsSent, gots, given_on, last_octets, heard_as, driving}
 use Rattle.modem_driver.specs.Cores.{Core, Fits, IsSettingOf}
 use Rattle.modem_driver.specs.Holding.{HoldsFit}
@@ -20,19 +19,17 @@ use Rattle.modem_driver.specs.SessionStates.{Machine, MachineFits, MachineGoes, 
 use Rattle.modem_driver.proofs.sessions.polls.StopProgress.{come_on, grows_none, grows_sent}
 use Rattle.modem_driver.proofs.sessions.steps.WaitingDeliveries.{told_part, heard_part, sent_part, received_part}
 
--- where the desk, what waits for it and the request kept aside stay
-pub session_with : (b : Beginning) (old new : SessionView) (past : List Act) → SessionFits b old past → new.desk ≡ old.desk → new.aside ≡ old.aside → new.unplaced ≡ old.unplaced → map heard_as new.unannounced ≡ map heard_as old.unannounced
+-- where the desk and what waits for it stay
+pub session_with : (b : Beginning) (old new : SessionView) (past : List Act) → SessionFits b old past → new.desk ≡ old.desk → new.unplaced ≡ old.unplaced → map heard_as new.unannounced ≡ map heard_as old.unannounced
     → FitsLoss b new past → FitsReceived b new past → FitsSent b new past → SessionFits b new past
-session_with b old new past f desk aside unplaced unannounced loss received sent = record {
+session_with b old new past f desk unplaced unannounced loss received sent = record {
   history = f.history;
   loss = loss;
   requests = record {
-    taken_are = ap (λ (e : EndView). e.taken) desk ∙ (f.requests.taken_are ∙ ap (λ (o : Option Request). b.desk.taken ++ taken_requests past ++ option_to_list o) (sym aside));
+    taken_are = ap (λ (e : EndView). e.taken) desk ∙ f.requests.taken_are;
     once = ap (λ (e : EndView). are_distinct (drop (length b.desk.taken) e.taken)) desk ∙ f.requests.once;
     callers = ap (λ (e : EndView). list_all (λ (q : Request). nat_lt q.caller b.callers) (drop (length b.desk.taken) e.taken)) desk ∙ f.requests.callers;
-    few =
-        subst (λ (os : List Outcome). length (in_hand past) + length (option_to_list new.aside) + length os ≤ 128) (sym unplaced)
-        (subst (λ (o : Option Request). length (in_hand past) + length (option_to_list o) + length old.unplaced ≤ 128) (sym aside) f.requests.few);
+    few = subst (λ (os : List Outcome). length (in_hand past) + length os ≤ 128) (sym unplaced) f.requests.few;
   };
   received = received;
   sent = sent;
@@ -58,7 +55,7 @@ feed_goes old fed count takes bound b l d past f =
     let head = take count old.unfed in
     let rest = drop count old.unfed in
     record {
-      session = session_with b v w past f.session refl refl refl refl (loss_with b v w past f.session (omega arith))
+      session = session_with b v w past f.session refl refl refl (loss_with b v w past f.session (omega arith))
           (record {
             fed = r.fed ++ head;
             received_are =
@@ -133,7 +130,7 @@ read_goes l m old came none received sent failures b d past f =
     let r = f.session.received in
     let before : l.received ≡ b.line.received ++ r.fed = r.received_are ∙ (ap (λ (xs : List ℕ). (b.line.received ++ r.fed) ++ xs) none ∙ append-nil (b.line.received ++ r.fed)) in
     record {
-      session = session_with b v w past f.session refl refl refl refl (loss_with b v w past f.session (omega arith))
+      session = session_with b v w past f.session refl refl refl (loss_with b v w past f.session (omega arith))
           (record {
             fed = r.fed;
             received_are = received ∙ ap (λ (xs : List ℕ). xs ++ came) before;
@@ -153,7 +150,7 @@ fault_goes l m old received sent failures b d past f =
     let v = seen_by l (end_of d) old in
     let w = seen_by m (end_of d) new in
     record {
-      session = session_with b v w past f.session refl refl refl refl (loss_with b v w past f.session (omega arith))
+      session = session_with b v w past f.session refl refl refl (loss_with b v w past f.session (omega arith))
           (received_part b v w past past f.session.received received refl refl refl)
           (sent_part b v w past past f.session.sent sent refl refl);
       inside = inside_faulty b l m d old new past f.inside refl refl refl failures (come_on b v w past [] old.course (λ h. h) (grows_none v w sent refl) f.inside.come);
@@ -170,7 +167,7 @@ write_goes l m old count received sent failures b d past f =
     let head = take count old.unwritten in
     let rest = drop count old.unwritten in
     record {
-      session = session_with b v w past f.session refl refl refl refl (loss_with b v w past f.session (omega arith))
+      session = session_with b v w past f.session refl refl refl (loss_with b v w past f.session (omega arith))
           (received_part b v w past past f.session.received received refl refl refl)
           (record {
             since = s.since ++ head;

@@ -11,7 +11,6 @@ at_end k l = record k { unfed = l.unfed; deframer = l.deframer; unwritten = l.un
 abbrev pub machine_of : Inside → Machine
 machine_of k = record {
   core = k.core;
-  aside = k.aside;
   unfed = k.line_end.unfed;
   deframer = k.line_end.deframer;
   unwritten = k.line_end.unwritten;

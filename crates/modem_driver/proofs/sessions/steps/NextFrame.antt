@@ -3,7 +3,7 @@ use Rattle.std.proofs.Common.{ap, sym, ◌∙◌, subst, arith, eqb-true}
 use Rattle.std.proofs.lemmas.Bool.{and_parts}
 use Rattle.std.proofs.lemmas.List.{append-nil, nil_from_length}
 use Rattle.std.proofs.lemmas.Grind.{flat_map-append}
-use Rattle.std.specs.Prelude.{◌≡◌, ◌≢◌, ℕ, ◌+◌, ◌≤◌, ◌==◌, ◌||◌, not, nat_lt, Bool, true, false, List, [], ◌∷◌, ◌++◌, length, take, filter, map, refl, Option, None, Some, option_map, option_to_list, if◌then◌else◌}
+use Rattle.std.specs.Prelude.{◌≡◌, ◌≢◌, ℕ, ◌+◌, ◌≤◌, ◌==◌, ◌||◌, not, nat_lt, Bool, true, false, List, [], ◌∷◌, ◌++◌, length, take, filter, map, refl, Option, None, Some, option_map, if◌then◌else◌}
 use Rattle.std.specs.List.{list_all, list_any}
 use Rattle.mux_frame.specs.Frames.{Frame}
 use Rattle.mux_frame.specs.declared.frame.Kind.{Kind}
@@ -203,10 +203,10 @@ out_fits old c f out none short goes on holds writes b l d past fit =
           by_fault = λ gone. h.loss.by_fault (sym more.lost_is ∙ gone);
         };
         requests = record {
-          taken_are = h.requests.taken_are ∙ ap (λ (qs : List Request). b.desk.taken ++ qs ++ option_to_list old.aside) (sym more.taken_is);
+          taken_are = h.requests.taken_are ∙ ap (λ (qs : List Request). b.desk.taken ++ qs) (sym more.taken_is);
           once = h.requests.once;
           callers = h.requests.callers;
-          few = subst (λ (qs : List Request). length qs + length (option_to_list old.aside) + length old.unplaced ≤ 128) (sym more.hand_is) h.requests.few;
+          few = subst (λ (qs : List Request). length qs + length old.unplaced ≤ 128) (sym more.hand_is) h.requests.few;
         };
         received = received_part b v w past (a ∷ past) h.received refl refl refl more.gots_are;
         sent = record {

@@ -108,13 +108,13 @@ due_may us n false opened held go e = flow_may us n opened held go e
 -- ## The step
 
 -- where nothing is called for
-none_fits : (b : Beginning) (l : LineView) (d : DriverView) (old new : Machine) (past : List Act) → FitsMachine b l d old past → new.core ≡ old.core → new.delays ≡ old.delays → new.aside ≡ old.aside → new.unplaced ≡ old.unplaced → map heard_as new.unannounced ≡ map heard_as old.unannounced
+none_fits : (b : Beginning) (l : LineView) (d : DriverView) (old new : Machine) (past : List Act) → FitsMachine b l d old past → new.core ≡ old.core → new.delays ≡ old.delays → new.unplaced ≡ old.unplaced → map heard_as new.unannounced ≡ map heard_as old.unannounced
     → new.unfed ≡ old.unfed → new.deframer ≡ old.deframer → new.unwritten ≡ old.unwritten → new.faulty ≡ old.faulty → new.course ≡ old.course → FitsMachine b l d new past
-none_fits b l d old new past f core delays aside unplaced lines unfed deframer unwritten faulty course =
+none_fits b l d old new past f core delays unplaced lines unfed deframer unwritten faulty course =
     let v = seen_by l (end_of d) old in
     let w = seen_by l (end_of d) new in
     record {
-      session = session_with b v w past f.session refl aside unplaced lines (loss_with b v w past f.session (omega arith)) (received_part b v w past past f.session.received refl unfed deframer refl) (sent_part b v w past past f.session.sent refl unwritten refl);
+      session = session_with b v w past f.session refl unplaced lines (loss_with b v w past f.session (omega arith)) (received_part b v w past past f.session.received refl unfed deframer refl) (sent_part b v w past past f.session.sent refl unwritten refl);
       inside = record {
         setting = subst (λ (c : Core). IsSettingOf (driving b) c) (sym core) f.inside.setting;
         fits = subst (λ (c : Core). Fits c past) (sym core) f.inside.fits;
@@ -289,7 +289,7 @@ flown : (old : Machine) (core : Core) (n : ℕ) (acts : List Act) (x : Option Bo
     → Flown b l d old (record old { core = core }) n past acts
 flown old core n acts x are b l d past f None e on =
     let new : Machine = record old { core = core } in
-    let here = none_fits b l d old new past f on.1 refl refl refl refl refl refl refl refl refl in
+    let here = none_fits b l d old new past f on.1 refl refl refl refl refl refl refl refl in
     record {
       fits = subst (λ (xs : List Act). FitsMachine b l d new (after past xs)) (sym on.0) here;
       may = ap (list_all (may_act old.unannounced)) on.0;
@@ -321,7 +321,7 @@ flown old core n acts x are b l d past f (Some go) e on =
     let come = come_on b (seen_by l (end_of d) old) (seen_by l (end_of d) new) past (a ∷ more) old.course (none_ends (a ∷ more) past (taken_after more (a ∷ past) said ∙ (flow_bare n go past).taken_is) (ap (list_any ends) (sym (ap outcomes_told called) ∙ none_told))) (grows_none (seen_by l (end_of d) old) (seen_by l (end_of d) new) refl refl) f.inside.come in
     record {
       fits = subst (λ (xs : List Act). FitsMachine b l d new (after past xs)) (sym called)
-          (call_fits b l d old new past more a f (flow_bare n go past) here hold (delays_flow old.delays n go past f.inside.delays_are) said (calls_hear s (seen s past) a) keep refl refl refl come lost
+          (call_fits b l d old new past more a f (flow_bare n go past) here hold (delays_flow old.delays n go past f.inside.delays_are) said (calls_hear s (seen s past) a) keep refl refl come lost
           (received_part b (seen_by l (end_of d) old) (seen_by l (end_of d) new) past (after past (a ∷ more)) f.session.received refl refl refl (gots_after more (a ∷ past) said ∙ no_frame n go past)));
       may = ap (list_all (may_act old.unannounced)) called ∙ and_from (may_act old.unannounced a) (list_all (may_act old.unannounced) more) (due_may old.unannounced n _ _ _ go e) (said_may old.unannounced more said);
       settles = λ empty. absurd (queued x are (sym are ∙ called) (waits ∙ empty));

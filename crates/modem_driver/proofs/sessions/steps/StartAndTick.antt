@@ -100,7 +100,7 @@ tick_goes old core delays room w acts handles held keeps counts live =
           subst (λ (xs : List Act). HasCome b (seen_by l (end_of d) new) (after past xs) new.course) on.called
           (come_noted b (seen_by l (end_of d) old) (seen_by l (end_of d) new) past acts old.core.hand old.course f.inside.fits.hand_is (none_noted b l d old past acts more Tick f on.called refl (subst (λ (xs : List Act). Lawful s (after past xs)) (sym on.called) here.run.lawful) said refl) (grows_none (seen_by l (end_of d) old) (seen_by l (end_of d) new) refl refl) f.inside.come) in
           subst (λ (xs : List Act). FitsMachine b l d new (after past xs)) (sym on.called)
-          (call_fits b l d old new past more Tick f (tick_bare past) here hold (delays_tick old.delays delays old.core.hand past f.inside.fits.hand_is counts f.inside.delays_are) said (calls_hear s (seen s past) Tick) keep refl refl refl come lost
+          (call_fits b l d old new past more Tick f (tick_bare past) here hold (delays_tick old.delays delays old.core.hand past f.inside.fits.hand_is counts f.inside.delays_are) said (calls_hear s (seen s past) Tick) keep refl refl come lost
           (received_part b (seen_by l (end_of d) old) (seen_by l (end_of d) new) past (after past (Tick ∷ more)) f.session.received refl refl refl (gots_after more (Tick ∷ past) said)));
       tick = λ b l d past f.
           let s = driving b in
@@ -112,7 +112,6 @@ tick_goes old core delays room w acts handles held keeps counts live =
             follow = calls_said s (seen s past) Tick;
             line_stays = refl;
             desk_stays = refl;
-            aside_stays = refl;
             unfed_stay = refl;
           };
     }

@@ -11,7 +11,7 @@ use Rattle.modem_history.specs.Turns.{request_given}
 use Rattle.modem_driver.specs.declared.session.error.SessionFault.{SessionFault}
 use Rattle.modem_driver.specs.SessionStates.{AreFormed, TakesMore}
 use Rattle.modem_driver.specs.SessionTurns.{LosesOr}
-use Rattle.modem_driver.specs.TurnSteps.{TurnState, Places, Checks, SendsOn, Writes, Gets, ReadsOn, TakesOne, KeepsAside}
+use Rattle.modem_driver.specs.TurnSteps.{TurnState, Places, Checks, SendsOn, Writes, Gets, ReadsOn, TakesOne}
 use Rattle.modem_driver.proofs.sessions.steps.OutcomeCounts.{is_caller}
 
 -- ## None, and one after the other
@@ -47,7 +47,7 @@ took_none {s0} {s1} {m1} s p same = takes_same s0.driver s.driver (ap (λ (d : D
 -- nor does the loss of the line
 pub lost_driver : (why : SessionFault) (old new : TurnState) → LosesOr why old new → new.driver ≡ old.driver
 lost_driver SessionFault.Line old new h = ap (λ (s : TurnState). s.driver) h.0
-lost_driver SessionFault.NoMemory old new h = ap (λ (s : TurnState). s.driver) h
+lost_driver SessionFault.NoMemory old new h = absurd h
 lost_driver SessionFault.Failed old new h = ap (λ (s : TurnState). s.driver) h.0
 
 pub checked_driver : {s1 s2 : TurnState} {m2 : Bool} → Checks s1 s2 m2 → s2.driver ≡ s1.driver
@@ -59,11 +59,7 @@ wrote_driver {s1} {s2} {s3} {s4} {m2} {m3} {m4} k n w = ap (λ (s : TurnState). 
 pub read_driver : {s1 s2 s3 s4 s5 s6 : TurnState} {m2 m3 m4 m5 m6 : Bool} → Checks s1 s2 m2 → SendsOn s2 s3 m3 → Writes s3 s4 m4 → Gets s4 s5 m5 → ReadsOn s5 s6 m6 → s6.driver ≡ s1.driver
 read_driver {s1} {s2} {s3} {s4} {s5} {s6} {m2} {m3} {m4} {m5} {m6} k n w g r = ap (λ (s : TurnState). s.driver) r.stays ∙ (ap (λ (s : TurnState). s.driver) g.stays ∙ wrote_driver k n w)
 
--- a request that is taken, and one that is kept aside
+-- a request that is taken
 pub took_one : (s0 s s7 : TurnState) {m7 : Bool} → TakesMore s0.driver s.driver → TakesOne s s7 m7 → TakesMore s0.driver s7.driver
 took_one s0 s s7 {m7} before q =
-    takes_then s0.driver s.driver s7.driver before (record { desk = q.desk_stays.0; more = request_given q.next; taken = q.taken; callers = q.callers; formed = q.formed })
-
-pub kept_one : (s0 s s7 : TurnState) → TakesMore s0.driver s.driver → KeepsAside s s7 → TakesMore s0.driver s7.driver
-kept_one s0 s s7 before q =
     takes_then s0.driver s.driver s7.driver before (record { desk = q.desk_stays.0; more = request_given q.next; taken = q.taken; callers = q.callers; formed = q.formed })

@@ -10,6 +10,7 @@ use Rattle.modem_driver.specs.Cores.{Core, state_shown}
 use Rattle.modem_driver.specs.Doing.{Asks, outcomes_to}
 use Rattle.modem_driver.proofs.requests.AskedRequests.{asked_on, told_stop_once}
 use Rattle.modem_driver.proofs.requests.OneFrameRequests.{few_left}
+use Rattle.modem_driver.proofs.requests.ToldOutcomes.{few_outcomes}
 use Rattle.modem_driver.proofs.requests.StopRequests.{Stops, stop_accepts}
 use Rattle.modem_driver.proofs.driver.Core.ask_stop.Goals as goal
 
@@ -43,6 +44,7 @@ returns-clause-asks c =
     (record {
       told = outcomes_to says v.hand;
       past = asked_on v new w q true c.self.invariant.role_is (ap (λ (x : Core). x.lost) c.self.view_is ∙ c.requires.live) (stop_accepts v w q few goes) same;
+      few = few_outcomes says v.hand;
       adds = c.tell_on.ensures.adds;
     })
 

@@ -7,7 +7,7 @@ use Rattle.modem_driver.specs.Cores.{Core, state_shown}
 use Rattle.modem_driver.specs.Doing.{Does}
 use Rattle.modem_driver.specs.Telling.{told_by, left_by}
 use Rattle.modem_driver.specs.declared.telling.Happened.TheVariants as happened
-use Rattle.modem_driver.proofs.cores.DoneCalls.{loss_does}
+use Rattle.modem_driver.proofs.cores.DoneCalls.{loss_does, none_queued}
 use Rattle.modem_driver.proofs.driver.Core.do_loss.Goals as goal
 
 pub returns-clause-does : goal.returns-clause-does
@@ -18,3 +18,6 @@ returns-clause-does c =
     let same : new ≡ record old { hand = left_by says old.hand; lost = true } = ap (λ (w : List Request). record old { hand = w; lost = true }) c.tell_on.ensures.hand in
     subst (λ (v : Core). Does v new c.args.told.now.items c.tell_on.new.told.items Lost c.tell_on.result) c.self.view_is
     (loss_does old new c.args.told.now.items c.tell_on.new.told.items c.tell_on.result same c.tell_on.ensures.adds c.tell_on.ensures.answered)
+
+pub returns-clause-queues : goal.returns-clause-queues
+returns-clause-queues c = none_queued 0 0 c.args.self.now _ Lost (ap (λ (v : Core). v.station) c.self.view_is)

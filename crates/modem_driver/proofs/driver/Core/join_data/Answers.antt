@@ -10,7 +10,7 @@ use Rattle.modem_driver.specs.Cores.{Core, lane_at}
 use Rattle.at_text.specs.Forks.{lines_so_far}
 use Rattle.modem_driver.specs.Forks.{joined, joined_acts}
 use Rattle.modem_driver.proofs.outgoing.CoreAfterFrame.{sound}
-use Rattle.modem_driver.proofs.frames.OtherFrames.{taken_room}
+use Rattle.modem_driver.proofs.frames.OtherFrames.{live_in, read_in, taken_room}
 use Rattle.modem_driver.proofs.commands.OfferedOctets.{ended_n1}
 use Rattle.modem_driver.proofs.holds.HoldsAndFrames.{data_holds}
 use Rattle.modem_driver.proofs.frames.DataFrames.{DataCame, data_handles}
@@ -26,7 +26,7 @@ returns-clause-past c = λ said reads.
     let acts = joined_acts (lines_so_far (lane_at old f.dlci).window) fork.window said in
     let m : IsJoined old mid f.dlci fork = c.self.view_is ∙ c.in_ok-done.ensures.after in
     data_handles old c.go_on.new.self f c.take-noted.result (joined (lane_at old f.dlci) fork) c.take-noted.new.station acts (sound_before old mid f.dlci fork m (sound mid c.self.inside.n1 c.self.invariant))
-    (data_came old mid c.go_on.new.self f fork said acts c.in_ok-done.done c.take-noted.result c.take-noted.new.station c.requires.live c.requires.is_data c.args.frame.dlci.in_range
+    (data_came old mid c.go_on.new.self f fork said acts c.in_ok-done.done c.take-noted.result c.take-noted.new.station (live_in old f c.requires.is_data) (read_in old f c.requires.is_data) c.args.frame.dlci.in_range
     reads m refl c.in_ok-done.ensures.done c.take-noted.ensures.past c.take-noted.ensures.noted c.go_on.ensures)
 
 pub returns-clause-room : goal.returns-clause-room
@@ -38,7 +38,7 @@ returns-clause-room c =
     let m : IsJoined old mid f.dlci fork = c.self.view_is ∙ c.in_ok-done.ensures.after in
     let taken : None ≡ got_refused (setting_of old.station) (seen_in old.station) f
     = c.take-noted.ensures.taken ∙ ap (λ (v : Core). got_refused (setting_of v.station) (seen_in v.station) f) m in
-    taken_room old f (sound_before old mid f.dlci fork m (sound mid c.self.inside.n1 c.self.invariant)) c.requires.live c.args.frame.dlci.in_range taken
+    taken_room old f (sound_before old mid f.dlci fork m (sound mid c.self.inside.n1 c.self.invariant)) (live_in old f c.requires.is_data) c.args.frame.dlci.in_range taken
 
 pub returns-clause-n1 : goal.returns-clause-n1
 returns-clause-n1 c =
@@ -54,9 +54,9 @@ returns-clause-holds c = λ said reads.
     let new = c.go_on.new.self in
     let lane = joined (lane_at old f.dlci) fork in
     let acts = joined_acts (lines_so_far (lane_at old f.dlci).window) fork.window said in
-    let quiet = (and_parts _ _ c.requires.is_data).1 in
+    let quiet = (and_parts _ _ (read_in old f c.requires.is_data)).1 in
     let m : IsJoined old mid f.dlci fork = c.self.view_is ∙ c.in_ok-done.ensures.after in
     let came : DataCame old new f c.take-noted.result lane c.take-noted.new.station acts
-    = data_came old mid new f fork said acts c.in_ok-done.done c.take-noted.result c.take-noted.new.station c.requires.live c.requires.is_data c.args.frame.dlci.in_range
+    = data_came old mid new f fork said acts c.in_ok-done.done c.take-noted.result c.take-noted.new.station (live_in old f c.requires.is_data) (read_in old f c.requires.is_data) c.args.frame.dlci.in_range
     reads m refl c.in_ok-done.ensures.done c.take-noted.ensures.past c.take-noted.ensures.noted c.go_on.ensures in
     data_holds old new f lane c.take-noted.new.station _ acts quiet c.requires.held came.ends (returns-clause-past c said reads)

@@ -1,30 +1,50 @@
--- Everyone in hand is told that the line is lost.
-use Rattle.std.specs.Prelude.{◌≡◌, List, [], ◌∷◌, ◌++◌, map, false, true}
-use Rattle.std.proofs.Common.{ap, ◌∙◌, subst}
-use Rattle.modem_desk.specs.declared.request.Request.{Request}
-use Rattle.modem_history.specs.Acts.{Lost, act_of}
-use Rattle.modem_driver.specs.ActLists.{ActList}
-use Rattle.modem_driver.specs.Cores.{Core, Handles, state_shown}
-use Rattle.modem_driver.specs.Telling.{told_by, told_to, left_by}
+-- The call, and its acts.
+use Rattle.std.specs.Prelude.{◌≡◌, ◌≤◌, List, [], ◌∷◌, ◌++◌, length, map}
+use Rattle.std.proofs.Common.{ap, sym, ◌∙◌, subst, arith}
+use Rattle.mux_frame.specs.Frames.{Frame}
+use Rattle.modem_desk.specs.declared.request.Outcome.{Outcome}
+use Rattle.modem_history.specs.Acts.{Act, Lost, Sent, Told, act_of}
 use Rattle.modem_history.specs.declared.act.Act.TheVariants as code
-use Rattle.modem_driver.specs.declared.telling.Happened.TheVariants as happened
-use Rattle.modem_driver.proofs.cores.LineLoss.{lost_handles}
+use Rattle.modem_driver.specs.ActLists.{ActList}
+use Rattle.modem_driver.specs.Cores.{Core}
+use Rattle.modem_driver.specs.Doing.{Does, first_frames, new_frames}
+use Rattle.modem_driver.specs.Receiving.{cut_to}
+use Rattle.modem_driver.proofs.cores.DoneCalls.{few_since, take_none, written}
 use Rattle.modem_driver.proofs.holds.OtherCalls.{keeps_lost}
 use Rattle.modem_driver.proofs.driver.Core.lost.Goals as goal
 
--- src/driver.rt:99:5
+pub push_told-requires : goal.push_told-requires
+push_told-requires c =
+    let old = c.args.self.now in
+    let new = c.do_loss.new.self in
+    let now = c.do_loss.new.told.items in
+    let hand = ap (λ (v : Core). length v.hand) c.self.view_is in
+    let len = c.len.ensures.value in
+    let most = c.len.ensures.few in
+    let few : length old.hand ≤ 128 = omega (arith, hand, len, most) in
+    let does = subst (λ (os : List Outcome). Does old new os now Lost c.do_loss.result) c.in_ok-told.ensures.none c.do_loss.ensures.does in
+    let told = few_since old new Lost now c.do_loss.result few does in
+    let left = ap (λ (a : ActList). a.left) c.in_ok-acts.ensures in
+    let pushed = ap (λ (a : ActList). a.left) c.push.ensures in
+    omega (arith, told, left, pushed, hand, len)
+
 pub returns-clause-past : goal.returns-clause-past
 returns-clause-past c =
-    let station = c.self.inside.station in
-    let hand = c.self.inside.hand in
-    let says = told_by happened.Lost false (λ d. state_shown station true d) in
-    let old : Core = record { station = station; lanes = c.self.inside.lanes; hand = hand; rules = c.self.inside.dialect; kinds = c.self.inside.kinds.items; lost = c.self.inside.lost } in
-    let new : Core = record old { hand = c.tell.new.hand; lost = true } in
-    let same : new ≡ record old { hand = left_by says hand; lost = true } = ap (λ (w : List Request). record old { hand = w; lost = true }) c.tell.ensures.hand in
-    let pushed : c.push.new.self.acts ≡ code.Lost ∷ [] = ap (λ (v : ActList). v.acts) c.push.ensures ∙ ap (λ (v : ActList). v.acts ++ code.Lost ∷ []) c.in_ok-acts.ensures in
-    let acts : c.into_vec.result.items ≡ code.Lost ∷ told_to says hand
-    = c.into_vec.ensures ∙ (c.tell.ensures.acts ∙ ap (λ (v : List code.the_data). v ++ told_to says hand) pushed) in
-    subst (λ (v : Core). Handles v new Lost (map act_of c.into_vec.result.items)) c.self.view_is (lost_handles old new false c.into_vec.result.items same acts)
+    let old = c.args.self.now in
+    let new = c.do_loss.new.self in
+    let now = c.do_loss.new.told.items in
+    let hand = ap (λ (v : Core). length v.hand) c.self.view_is in
+    let len = c.len.ensures.value in
+    let most = c.len.ensures.few in
+    let few : length old.hand ≤ 128 = omega (arith, hand, len, most) in
+    let does = subst (λ (os : List Outcome). Does old new os now Lost c.do_loss.result) c.in_ok-told.ensures.none c.do_loss.ensures.does in
+    let pushed : map act_of c.push.new.self.acts ≡ Lost ∷ [] = ap (λ (a : ActList). map act_of a.acts) c.push.ensures ∙ ap (λ (a : ActList). map act_of (a.acts ++ code.Lost ∷ [])) c.in_ok-acts.ensures in
+    let acts : map act_of c.into_vec.result.items ≡ Lost ∷ (map Sent (first_frames 0 0 old new) ++ map Told now)
+    = ap (map act_of) c.into_vec.ensures
+    ∙ (c.push_told.ensures
+    ∙ (ap (λ (x : List Act). x ++ map Told now) pushed
+    ∙ ap (λ (fs : List Frame). Lost ∷ (map Sent (map (cut_to 0) fs) ++ map Told now)) (sym (take_none (new_frames old new))))) in
+    written old new Lost now c.do_loss.result 0 0 _ few does c.do_loss.ensures.queues acts
 
 pub returns-clause-holds : goal.returns-clause-holds
-returns-clause-holds c = keeps_lost c.args.self.now _ (map act_of c.into_vec.result.items) (returns-clause-past c)
+returns-clause-holds c = keeps_lost c.args.self.now c.do_loss.new.self _ (returns-clause-past c)

@@ -1,24 +1,20 @@
--- The station's tick, its frames, and what those in hand are told.
-use Rattle.std.specs.Prelude.{◌≡◌, ◌&&◌, not, ℕ, Bool, List, [], ◌∷◌, ◌++◌, length, map, refl, false}
-use Rattle.std.specs.List.{list_any}
-use Rattle.std.proofs.Common.{ap, sym, ◌∙◌, subst}
-use Rattle.std.proofs.lemmas.List.{map-append}
-use Rattle.mux_station.specs.Acts as station
-use Rattle.mux_station.specs.States.{is_opened}
-use Rattle.mux_station.specs.Stations.{Station, channel_at}
-use Rattle.mux_station.specs.Fitting as station_fits
-use Rattle.modem_desk.specs.declared.request.Request.{Request}
-use Rattle.modem_history.specs.Acts.{Act, Sent, Tick, act_of}
-use Rattle.modem_driver.specs.ActLists.{ActList}
-use Rattle.modem_driver.specs.Telling.{told_by, told_to, left_by}
-use Rattle.modem_driver.specs.Ticked.{queued_from, asking_from, is_probe_given}
-use Rattle.modem_driver.specs.Cores.{Core, Handles, state_shown}
+-- The call, and its acts.
+use Rattle.std.specs.Prelude.{◌≡◌, ◌≤◌, ℕ, List, [], ◌∷◌, ◌++◌, length, map, take, refl}
+use Rattle.std.proofs.Common.{ap, sym, ◌∙◌, subst, arith}
+use Rattle.mux_frame.specs.Frames.{Frame}
+use Rattle.mux_station.specs.Stations.{Station}
+use Rattle.modem_desk.specs.declared.request.Outcome.{Outcome}
+use Rattle.modem_history.specs.Acts.{Act, Sent, Tick, Told, act_of}
 use Rattle.modem_history.specs.declared.act.Act.TheVariants as code
-use Rattle.modem_driver.specs.declared.telling.Happened.TheVariants as happened
-use Rattle.modem_driver.proofs.ticks.CoreTicks.{Ticks, tick_handles, tick_lost}
+use Rattle.modem_driver.specs.ActLists.{ActList}
+use Rattle.modem_driver.specs.Cores.{Core, Handles}
+use Rattle.modem_driver.specs.Doing.{Does, first_frames, new_frames}
+use Rattle.modem_driver.specs.Holding.{KeepsHeld}
+use Rattle.modem_driver.specs.Ticked.{asking_from, queued_from}
+use Rattle.modem_driver.proofs.cores.DoneCalls.{bare_cut, few_since, written, written_held}
 use Rattle.modem_driver.proofs.holds.OtherCalls.{keeps_tick}
+use Rattle.modem_driver.proofs.ticks.CoreTicks.{tick_lost}
 use Rattle.modem_driver.proofs.driver.Core.tick.Goals as goal
-use Rattle.modem_driver.proofs.driver.Core.tick.Goals.{then-ran, else-ran}
 
 -- after a loss
 pub returns-then-self-clause-past : goal.returns-then-self-clause-past
@@ -28,40 +24,79 @@ returns-then-self-clause-past c =
     = c.into_vec.ensures ∙ (ap (λ (a : ActList). a.acts) c.push.ensures ∙ ap (λ (a : ActList). a.acts ++ code.Tick ∷ []) c.in_ok-acts.ensures) in
     subst (λ (x : Core). Handles x x Tick (map act_of c.into_vec.result.items)) c.self.view_is (tick_lost v v c.into_vec.result.items c.if-self.true refl acts)
 
-pub returns-clause-past : goal.returns-clause-past
-returns-clause-past c =
-    let st = c.self.inside.station in
-    let w = c.push_queued.new.station in
-    let g = c.has_probe.result in
-    let e = c.if-ran.ended in
-    let says = told_by (happened.Tick g) e (state_shown w false) in
-    let v : Core = record { station = st; lanes = c.self.inside.lanes; hand = c.self.inside.hand; rules = c.self.inside.dialect; kinds = c.self.inside.kinds.items; lost = c.self.inside.lost } in
-    let new : Core = record v { station = w; hand = c.tell.new.hand } in
-    let same : new ≡ record v { station = w; hand = left_by says v.hand } = ap (λ (rs : List Request). record v { station = w; hand = rs }) c.tell.ensures.hand in
-    let first : c.push.new.self.acts ≡ code.Tick ∷ [] = ap (λ (a : ActList). a.acts) c.push.ensures ∙ ap (λ (a : ActList). a.acts ++ code.Tick ∷ []) c.in_ok-acts.ensures in
-    let sent : map act_of c.push_queued.new.acts.acts ≡ Tick ∷ map Sent (queued_from w.queue (length st.queue) (asking_from st 0 62))
-    = c.push_queued.ensures.acts
-    ∙ (ap (λ (x : List code.the_data). map act_of x ++ map Sent (queued_from c.tick-noticed.new.self.queue c.queue_len-place.result c.count_asking-most.result)) first
-    ∙ (ap (λ (x : Station). Tick ∷ map Sent (queued_from x.queue c.queue_len-place.result c.count_asking-most.result)) (sym c.push_queued.ensures.same)
-    ∙ (ap (λ (n : ℕ). Tick ∷ map Sent (queued_from w.queue n c.count_asking-most.result)) c.queue_len-place.ensures.value
-    ∙ ap (λ (n : ℕ). Tick ∷ map Sent (queued_from w.queue (length st.queue) n)) c.count_asking-most.ensures.value))) in
-    let acts : map act_of c.into_vec-2.result.items ≡ Tick ∷ (map Sent (queued_from w.queue (length st.queue) (asking_from st 0 62)) ++ map act_of (told_to says v.hand))
-    = ap (map act_of) (c.into_vec-2.ensures ∙ c.tell.ensures.acts)
-    ∙ (map-append act_of c.push_queued.new.acts.acts (told_to says v.hand) ∙ ap (λ (x : List Act). x ++ map act_of (told_to says v.hand)) sent) in
-    let ticks : Ticks v w c.tick-noticed.result.items g e = record {
-      goes_on = subst (λ (x : Station). station_fits.StationHandles st x station.Tick) (sym c.push_queued.ensures.same) c.tick-noticed.ensures.past;
-      given = c.tick-noticed.ensures.noticed;
-      given_is = c.has_probe.ensures ∙ ap (list_any is_probe_given) c.as_slice.ensures.value;
-      ended_is = elim c.if-ran.branch [
-        | then-ran b ↦ b.ended-is ∙ (ap not b.is_running.ensures ∙ sym (ap (λ (x : Bool). x && not (is_opened (channel_at w 0).state)) (sym c.is_running-ran.ensures ∙ b.if-ran.true)))
-        | else-ran b ↦ b.ended-is ∙ (b.if-ran.false ∙ sym (ap (λ (x : Bool). x && not (is_opened (channel_at w 0).state)) (sym c.is_running-ran.ensures ∙ b.if-ran.false)))
-      ];
-    } in
-    subst (λ (x : Core). Handles x new Tick (map act_of c.into_vec-2.result.items)) c.self.view_is
-    (tick_handles v new w c.tick-noticed.result.items g e c.into_vec-2.result.items c.self.invariant.role_is c.if-self.false ticks same acts)
-
 pub returns-then-self-clause-holds : goal.returns-then-self-clause-holds
 returns-then-self-clause-holds c = keeps_tick c.args.self.now c.args.self.now (map act_of c.into_vec.result.items) refl (returns-then-self-clause-past c)
 
+pub push_told-requires : goal.push_told-requires
+push_told-requires c =
+    let old = c.args.self.now in
+    let mid = c.do_tick.new.self in
+    let now = c.do_tick.new.told.items in
+    let hand = ap (λ (v : Core). length v.hand) c.self.view_is in
+    let len = c.len.ensures.value in
+    let small = c.len.ensures.few in
+    let few : length old.hand ≤ 128 = omega (arith, hand, len, small) in
+    let does = subst (λ (os : List Outcome). Does old mid os now Tick c.do_tick.result) c.in_ok-told.ensures.none c.do_tick.ensures.does in
+    let told = few_since old mid Tick now c.do_tick.result few does in
+    let left = ap (λ (a : ActList). a.left) c.in_ok-acts.ensures in
+    let pushed = ap (λ (a : ActList). a.left) c.push.ensures in
+    let queued = c.push_queued.ensures.left in
+    omega (arith, told, left, pushed, queued, hand, len)
+
+pub returns-clause-past : goal.returns-clause-past
+returns-clause-past c =
+    let old = c.args.self.now in
+    let mid = c.do_tick.new.self in
+    let now = c.do_tick.new.told.items in
+    let hand = ap (λ (v : Core). length v.hand) c.self.view_is in
+    let len = c.len.ensures.value in
+    let small = c.len.ensures.few in
+    let few : length old.hand ≤ 128 = omega (arith, hand, len, small) in
+    let most = asking_from old.station 0 62 in
+    let does = subst (λ (os : List Outcome). Does old mid os now Tick c.do_tick.result) c.in_ok-told.ensures.none c.do_tick.ensures.does in
+    let new : Station → Core = λ st. let v : Core = record { station = st; lanes = c.self-2.inside.lanes; hand = c.self-2.inside.hand; rules = c.self-2.inside.dialect; kinds = c.self-2.inside.kinds.items; lost = c.self-2.inside.lost } in v in
+    let same : new c.push_queued.new.station ≡ mid = ap new c.push_queued.ensures.same ∙ c.self-2.view_is in
+    let began : map act_of c.push.new.self.acts ≡ Tick ∷ [] = ap (λ (a : ActList). map act_of a.acts) c.push.ensures ∙ ap (λ (a : ActList). map act_of (a.acts ++ code.Tick ∷ [])) c.in_ok-acts.ensures in
+    let place : c.queue_len-place.result ≡ length old.station.queue = c.queue_len-place.ensures.value ∙ ap (λ (v : Core). length v.station.queue) c.self.view_is in
+    let asking : c.count_asking-most.result ≡ most = c.count_asking-most.ensures.value ∙ ap (λ (v : Core). asking_from v.station 0 62) c.self.view_is in
+    let queue = c.self-2.inside.station.queue in
+    let sent : map act_of c.push_queued.new.acts.acts ≡ Tick ∷ map Sent (first_frames most 0 old mid)
+    = c.push_queued.ensures.acts
+    ∙ (ap (λ (x : List Act). x ++ map Sent (queued_from queue c.queue_len-place.result c.count_asking-most.result)) began
+    ∙ (ap (λ (n : ℕ). Tick ∷ map Sent (queued_from queue n c.count_asking-most.result)) place
+    ∙ (ap (λ (n : ℕ). Tick ∷ map Sent (queued_from queue (length old.station.queue) n)) asking
+    ∙ (ap (λ (v : Core). Tick ∷ map Sent (queued_from v.station.queue (length old.station.queue) most)) c.self-2.view_is
+    ∙ ap (λ (fs : List Frame). Tick ∷ map Sent fs) (bare_cut (take most (new_frames old mid))))))) in
+    let acts : map act_of c.into_vec-2.result.items ≡ Tick ∷ (map Sent (first_frames most 0 old mid) ++ map Told now)
+    = ap (map act_of) c.into_vec-2.ensures ∙ (c.push_told.ensures ∙ ap (λ (x : List Act). x ++ map Told now) sent) in
+    subst (λ (v : Core). Handles old v Tick (map act_of c.into_vec-2.result.items)) (sym same)
+    (written old mid Tick now c.do_tick.result most 0 _ few does c.do_tick.ensures.queues acts)
+
 pub returns-clause-holds : goal.returns-clause-holds
-returns-clause-holds c = keeps_tick c.args.self.now _ (map act_of c.into_vec-2.result.items) (ap (λ (x : Core). x.lanes) c.self.view_is) (returns-clause-past c)
+returns-clause-holds c =
+    let old = c.args.self.now in
+    let mid = c.do_tick.new.self in
+    let now = c.do_tick.new.told.items in
+    let hand = ap (λ (v : Core). length v.hand) c.self.view_is in
+    let len = c.len.ensures.value in
+    let small = c.len.ensures.few in
+    let few : length old.hand ≤ 128 = omega (arith, hand, len, small) in
+    let most = asking_from old.station 0 62 in
+    let does = subst (λ (os : List Outcome). Does old mid os now Tick c.do_tick.result) c.in_ok-told.ensures.none c.do_tick.ensures.does in
+    let new : Station → Core = λ st. let v : Core = record { station = st; lanes = c.self-2.inside.lanes; hand = c.self-2.inside.hand; rules = c.self-2.inside.dialect; kinds = c.self-2.inside.kinds.items; lost = c.self-2.inside.lost } in v in
+    let same : new c.push_queued.new.station ≡ mid = ap new c.push_queued.ensures.same ∙ c.self-2.view_is in
+    let began : map act_of c.push.new.self.acts ≡ Tick ∷ [] = ap (λ (a : ActList). map act_of a.acts) c.push.ensures ∙ ap (λ (a : ActList). map act_of (a.acts ++ code.Tick ∷ [])) c.in_ok-acts.ensures in
+    let place : c.queue_len-place.result ≡ length old.station.queue = c.queue_len-place.ensures.value ∙ ap (λ (v : Core). length v.station.queue) c.self.view_is in
+    let asking : c.count_asking-most.result ≡ most = c.count_asking-most.ensures.value ∙ ap (λ (v : Core). asking_from v.station 0 62) c.self.view_is in
+    let queue = c.self-2.inside.station.queue in
+    let sent : map act_of c.push_queued.new.acts.acts ≡ Tick ∷ map Sent (first_frames most 0 old mid)
+    = c.push_queued.ensures.acts
+    ∙ (ap (λ (x : List Act). x ++ map Sent (queued_from queue c.queue_len-place.result c.count_asking-most.result)) began
+    ∙ (ap (λ (n : ℕ). Tick ∷ map Sent (queued_from queue n c.count_asking-most.result)) place
+    ∙ (ap (λ (n : ℕ). Tick ∷ map Sent (queued_from queue (length old.station.queue) n)) asking
+    ∙ (ap (λ (v : Core). Tick ∷ map Sent (queued_from v.station.queue (length old.station.queue) most)) c.self-2.view_is
+    ∙ ap (λ (fs : List Frame). Tick ∷ map Sent fs) (bare_cut (take most (new_frames old mid))))))) in
+    let acts : map act_of c.into_vec-2.result.items ≡ Tick ∷ (map Sent (first_frames most 0 old mid) ++ map Told now)
+    = ap (map act_of) c.into_vec-2.ensures ∙ (c.push_told.ensures ∙ ap (λ (x : List Act). x ++ map Told now) sent) in
+    subst (λ (v : Core). KeepsHeld old v Tick (map act_of c.into_vec-2.result.items)) (sym same)
+    (written_held old mid Tick now c.do_tick.result most 0 _ few does c.do_tick.ensures.queues acts)

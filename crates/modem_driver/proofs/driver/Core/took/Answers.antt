@@ -1,36 +1,45 @@
--- What is told at once, whatever is asked.
-use Rattle.std.specs.Prelude.{◌≡◌, [], ◌∷◌, map, refl, IfOk}
-use Rattle.std.proofs.Common.{sym, ◌∙◌, subst}
-use Rattle.std.specs.Global.{Vec}
-use Rattle.modem_desk.specs.declared.request.Answer.TheVariants.{LineLost, Busy}
-use Rattle.modem_history.specs.Acts.{Took, act_of}
-use Rattle.modem_driver.specs.Refusals.{told_act}
-use Rattle.modem_driver.specs.Cores.{Core, Handles}
-use Rattle.modem_history.specs.declared.act.Act.{Act}
-use Rattle.modem_history.specs.declared.act.Act.TheVariants as code
-use Rattle.modem_driver.proofs.requests.AcceptedRequests.{lost_told, full_handles, ok_too}
-use Rattle.modem_driver.proofs.holds.OtherCalls.{keeps_took}
+-- The call, and its acts.
+use Rattle.std.specs.Prelude.{◌≡◌, List, [], ◌∷◌, ◌++◌, map, option_to_list}
+use Rattle.std.proofs.Common.{ap, sym, ◌∙◌, subst, arith}
+use Rattle.mux_frame.specs.Frames.{Frame, kept_frame}
+use Rattle.modem_desk.specs.declared.request.Outcome.{Outcome}
+use Rattle.modem_history.specs.Acts.{Act, Took, Told, act_of}
+use Rattle.modem_driver.specs.ActLists.{ActList}
+use Rattle.modem_driver.specs.Doing.{Asks}
+use Rattle.modem_driver.specs.TakenActs.{came_to, outcome_of, taken_acts}
+use Rattle.modem_driver.specs.Cores.{Handles}
+use Rattle.modem_driver.proofs.holds.OtherCalls.{keeps_sent}
+use Rattle.modem_driver.proofs.requests.AskedRequests.{asked_all, few_asked}
 use Rattle.modem_driver.proofs.driver.Core.took.Goals as goal
 
-pub returns-then-self-clause-past : goal.returns-then-self-clause-past
-returns-then-self-clause-past c =
+pub push_told-requires : goal.push_told-requires
+push_told-requires c =
+    let old = c.args.self.now in
+    let new = c.ask_any-told.new.self in
+    let now = c.ask_any-told.new.outcomes.items in
+    let answer = c.ask_any-told.result in
+    let asks = subst (λ (os : List Outcome). Asks old new os now c.args.request answer) c.in-Ok.ensures.none c.ask_any-told.ensures.asks in
+    let told = few_asked old new now c.args.request answer c.in-Ok.ensures.few asks in
+    let left = ap (λ (a : ActList). a.left) c.in-Ok.ensures.acts in
+    let room = c.push_came.ensures.left in
+    omega (arith, told, left, room)
+
+pub returns-clause-past : goal.returns-clause-past
+returns-clause-past c =
     let q = c.args.request in
-    let v : Core = record { station = c.self.inside.station; lanes = c.self.inside.lanes; hand = c.self.inside.hand; rules = c.self.inside.dialect; kinds = c.self.inside.kinds.items; lost = c.self.inside.lost } in
-    subst (λ (x : Core). IfOk c.tell_once.result (λ acts. Handles x x (Took q) (map act_of acts.items))) c.self.view_is
-    (ok_too (λ (acts : Vec Act). acts.items ≡ code.Took q ∷ told_act q LineLost ∷ []) (λ (acts : Vec Act). Handles v v (Took q) (map act_of acts.items)) c.tell_once.result
-    (λ acts h. lost_told v v q acts.items c.if-self.true refl h) c.tell_once.ensures.acts)
+    let old = c.args.self.now in
+    let new = c.ask_any-told.new.self in
+    let now = c.ask_any-told.new.outcomes.items in
+    let answer = c.ask_any-told.result in
+    let asks = subst (λ (os : List Outcome). Asks old new os now q answer) c.in-Ok.ensures.none c.ask_any-told.ensures.asks in
+    let begun : map act_of c.in-Ok.acts.acts ≡ Took q ∷ [] = ap (λ (a : ActList). map act_of a.acts) c.in-Ok.ensures.acts in
+    let came : map act_of c.push_came.new.acts.acts ≡ taken_acts q answer
+    = c.push_came.ensures.acts
+    ∙ (ap (λ (x : List Act). x ++ came_to (outcome_of q.caller q.number answer) (map kept_frame (option_to_list c.in-Ok.sent))) begun
+    ∙ ap (λ (fs : List Frame). Took q ∷ came_to (outcome_of q.caller q.number answer) fs) c.in-Ok.ensures.sent) in
+    let acts : map act_of c.into_vec.result.items ≡ taken_acts q answer ++ map Told now
+    = ap (map act_of) c.into_vec.ensures ∙ (c.push_told.ensures ∙ ap (λ (x : List Act). x ++ map Told now) came) in
+    subst (Handles old new (Took q)) (sym acts) (asked_all old new now q answer c.in-Ok.ensures.few asks)
 
-pub returns-then-is_full-clause-past : goal.returns-then-is_full-clause-past
-returns-then-is_full-clause-past c =
-    let q = c.args.request in
-    let v : Core = record { station = c.self.inside.station; lanes = c.self.inside.lanes; hand = c.self.inside.hand; rules = c.self.inside.dialect; kinds = c.self.inside.kinds.items; lost = c.self.inside.lost } in
-    let full = sym c.is_full.ensures ∙ c.if-is_full.true in
-    subst (λ (x : Core). IfOk c.tell_once-then-is_full.result (λ acts. Handles x x (Took q) (map act_of acts.items))) c.self.view_is
-    (ok_too (λ (acts : Vec Act). acts.items ≡ code.Took q ∷ told_act q Busy ∷ []) (λ (acts : Vec Act). Handles v v (Took q) (map act_of acts.items)) c.tell_once-then-is_full.result
-    (λ acts h. full_handles v v q acts.items c.self.invariant.role_is c.if-self.false full refl h) c.tell_once-then-is_full.ensures.acts)
-
-pub returns-then-self-clause-holds : goal.returns-then-self-clause-holds
-returns-then-self-clause-holds c = keeps_took c.tell_once.result c.args.self.now c.args.self.now c.args.request refl (returns-then-self-clause-past c)
-
-pub returns-then-is_full-clause-holds : goal.returns-then-is_full-clause-holds
-returns-then-is_full-clause-holds c = keeps_took c.tell_once-then-is_full.result c.args.self.now c.args.self.now c.args.request refl (returns-then-is_full-clause-past c)
+pub returns-clause-holds : goal.returns-clause-holds
+returns-clause-holds c = keeps_sent c.args.self.now c.ask_any-told.new.self c.args.request _ c.ask_any-told.ensures.lanes (returns-clause-past c)

@@ -1,9 +1,8 @@
 -- Frames at hand were handled alone.
-use Rattle.std.proofs.Common.{◌≡◌, ◌<◌, ◌+◌, ℕ, false, length, refl, sym, ◌∙◌, subst, arith}
-use Rattle.std.specs.Prelude.{nat_le}
-use Rattle.std.proofs.lemmas.Bool.Decides.{nat_tests}
+use Rattle.std.proofs.Common.{◌<◌, ◌+◌, length, refl, sym, ◌∙◌, subst}
 use Rattle.modem_driver.specs.Endpoints.{EndpointState, Numbers, Refuses}
 use Rattle.modem_driver.proofs.endpoints.Requests.{numbers, refuses}
+use Rattle.modem_driver.proofs.sessions.steps.NextRequest.{not_full}
 use Rattle.modem_driver.proofs.endpoint.Endpoint.request.Goals as goal
 
 pub returns-in_default-clause-refused : goal.returns-in_default-clause-refused
@@ -25,7 +24,4 @@ returns-clause-takes c =
     let n = length k.core.hand + length k.unplaced in
     let room : n < 128 = not_full n (sym c.is_full.ensures ∙ c.if-is_full.false) in
     subst (λ (v : EndpointState). Numbers v (record { machine = c.take_request.new.self; next = e.next + 1 }) c.args.ask e.next) c.self.view_is
-    (numbers e.machine k c.take_request.new.self e.next (e.next + 1) c.args.ask c.handle_frames-handled.ensures.handles c.in-Ok.ensures.lacks (c.handle_frames-handled.ensures.aside ∙ c.self.invariant.bare) room c.take_request.ensures.takes refl)
-  where
-    not_full : (n : ℕ) → nat_le 128 n ≡ false → n < 128
-    not_full n h = grind (arith, nat_tests)
+    (numbers e.machine k c.take_request.new.self e.next (e.next + 1) c.args.ask c.handle_frames-handled.ensures.handles c.in-Ok.ensures.lacks room c.take_request.ensures.takes refl)

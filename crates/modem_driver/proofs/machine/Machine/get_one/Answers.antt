@@ -1,6 +1,6 @@
 -- What the frame called for waits, or the frame stays at hand.
 use Rattle.std.proofs.Common.{◌≡◌, List, ◌∷◌, length, ap, sym, ◌∙◌, subst, refl, false, true, arith}
-use Rattle.std.specs.Prelude.{map, find, option_map, Err}
+use Rattle.std.specs.Prelude.{map, find, option_map}
 use Rattle.mux_frame.specs.Deframing.{HandsOver}
 use Rattle.mux_frame.specs.Frames.{frame_of}
 use Rattle.line_end.specs.LineEnds.{LineEnd}
@@ -11,9 +11,9 @@ use Rattle.modem_driver.specs.SessionStates.{Machine}
 use Rattle.modem_desk.specs.declared.request.Urc.{Urc}
 use Rattle.modem_driver.specs.Doing.{acts_since, stop_in}
 use Rattle.modem_driver.proofs.cores.DoneCalls.{keeps_since}
-use Rattle.modem_driver.specs.GettingSteps.{MachineGets}
+use Rattle.modem_driver.specs.GettingSteps.{HasData, MachineGets}
 use Rattle.modem_driver.proofs.sessions.polls.StopProgress.{noted}
-use Rattle.modem_driver.proofs.sessions.steps.FrameAtHand.{gets_moved, gets_none, keeps_from, none_at_hand, stays_at_hand}
+use Rattle.modem_driver.proofs.sessions.steps.FrameAtHand.{gets_moved, gets_none, has_data, keeps_from, none_at_hand, stays_at_hand}
 use Rattle.modem_driver.proofs.sessions.steps.MachineParts.{at_end, machine_of}
 use Rattle.modem_driver.proofs.frames.FollowingActs.{came_answers, keeps_came}
 use Rattle.modem_driver.proofs.machine.Machine.get_one.Goals as goal
@@ -26,31 +26,31 @@ returns-in_default-clause-gets c =
     (subst (λ (l : LineEnd). MachineGets old (at_end old l) false) (sym c.peek.follows.holds-at-none)
     (gets_none old old.core old.deframer old.unplaced old.unannounced (none_at_hand old (sym c.in_default.ensures.frame)) refl refl refl refl))
 
-pub returns-in-Ok-follow-clause-gets : goal.returns-in-Ok-follow-clause-gets
-returns-in-Ok-follow-clause-gets c =
+pub returns-clause-gets : goal.returns-clause-gets
+returns-clause-gets c =
     let k = c.self.inside in
     let old : Machine = machine_of k in
     let core = c.follow.new.self in
     let room = c.make_room.new.self in
-    let fed = c.advance-in-Ok-follow.new.self.deframer in
+    let fed = c.advance-2.new.self.deframer in
     let w = c.keep.new.self in
     let f = frame_of c.in-Some.frame in
     let e = c.in-Ok-follow.ensures in
     let same = c.peek.follows.holds-at-none in
-    let passed = c.advance-in-Ok-follow.ensures.rest ∙ ap (λ (l : LineEnd). record l { deframer = fed }) same in
+    let passed = c.advance-2.ensures.rest ∙ ap (λ (l : LineEnd). record l { deframer = fed }) same in
     let stop = option_map asker_of (find is_stop k.core.hand) in
     let more = map act_of c.in-Ok-follow.acts.items in
     let acts = Got f ∷ more in
     let course : c.note.new.self ≡ course_after k.course (is_answered stop acts) = noted k.course c.note.new.self c.stop-stop.result stop c.as_slice.result.now c.in-Ok-follow.acts.items c.note.ensures c.stop-stop.ensures c.as_slice.ensures.value ∙ ap (course_after k.course) (sym (came_answers stop f more)) in
     let new : Course → LineEnd → Machine = λ x l. at_end (record old { core = core; unplaced = w.outcomes; unannounced = w.lines; course = x }) l in
-    subst (λ (v : Machine). MachineGets v (new c.note.new.self c.advance-in-Ok-follow.new.self) true) c.self.view_is
+    subst (λ (v : Machine). MachineGets v (new c.note.new.self c.advance-2.new.self) true) c.self.view_is
     (subst (λ (l : LineEnd). MachineGets old (new c.note.new.self l) true) (sym passed)
     (subst (λ (x : Course). MachineGets old (new x (record k.line_end { deframer = fed })) true) (sym course)
     (gets_moved old core fed room.room w acts f e.past e.holds (keeps_from room w old.unplaced old.unannounced acts c.make_room.ensures.outcomes c.make_room.ensures.lines (keeps_came room w f more c.keep.ensures)) c.in-Ok.ensures.room
-    (sym c.in-Some.ensures.frame) (c.advance-in-Ok-follow.ensures.n1 ∙ ap (λ (l : LineEnd). l.deframer.n1) same) (subst (λ (l : LineEnd). HandsOver l.deframer fed) same c.advance-in-Ok-follow.ensures.past))))
+    (sym c.in-Some.ensures.frame) (c.advance-2.ensures.n1 ∙ ap (λ (l : LineEnd). l.deframer.n1) same) (subst (λ (l : LineEnd). HandsOver l.deframer fed) same c.advance-2.ensures.past))))
 
-pub returns-then-is_other-clause-gets : goal.returns-then-is_other-clause-gets
-returns-then-is_other-clause-gets c =
+pub returns-then-not-is_data-clause-gets : goal.returns-then-not-is_data-clause-gets
+returns-then-not-is_data-clause-gets c =
     let k = c.self.inside in
     let old : Machine = machine_of k in
     let core = c.get.new.core in
@@ -85,14 +85,10 @@ returns-in_default-get-clause-gets c =
     (subst (λ (l : LineEnd). MachineGets old (new l) false) (sym c.peek.follows.holds-at-none)
     (gets_none old core old.deframer w.outcomes w.lines (stays_at_hand old (frame_of c.in-Some.frame) c.in-Some.ensures.frame e.never_full e.no_room) e.stays refl e.untold c.get.ensures.lines))
 
-pub returns-in-Err-NoRoom-clause-gets : goal.returns-in-Err-NoRoom-clause-gets
-returns-in-Err-NoRoom-clause-gets c =
-    let k = c.self.inside in
-    let old : Machine = machine_of k in
-    let core = c.follow.new.self in
-    let room = c.make_room.new.self in
-    let e = c.in-Err-NoRoom.ensures in
-    let new : LineEnd → Machine = λ l. at_end (record old { core = core; unplaced = room.outcomes; unannounced = room.lines }) l in
-    subst (λ (v : Machine). MachineGets v (new c.peek.follows.lender-at-none) false) c.self.view_is
-    (subst (λ (l : LineEnd). MachineGets old (new l) false) (sym c.peek.follows.holds-at-none)
-    (gets_none old core old.deframer room.outcomes room.lines (stays_at_hand old (frame_of c.in-Some.frame) c.in-Some.ensures.frame (e.never_full (ap Err c.in-Err-NoRoom.field-0-is)) (e.no_room (ap Err c.in-Err-NoRoom.field-0-is))) e.err refl c.make_room.ensures.outcomes c.make_room.ensures.lines))
+pub returns-in_default-make_room-clause-at_hand : goal.returns-in_default-make_room-clause-at_hand
+returns-in_default-make_room-clause-at_hand c =
+    subst HasData c.self.view_is (has_data (machine_of c.self.inside) (frame_of c.in-Some.frame) c.is_data.result c.in-Some.ensures.frame c.is_data.ensures.value c.if-not-is_data.false)
+
+pub returns-in_default-follow-clause-at_hand : goal.returns-in_default-follow-clause-at_hand
+returns-in_default-follow-clause-at_hand c =
+    subst HasData c.self.view_is (has_data (machine_of c.self.inside) (frame_of c.in-Some.frame) c.is_data.result c.in-Some.ensures.frame c.is_data.ensures.value c.if-not-is_data.false)

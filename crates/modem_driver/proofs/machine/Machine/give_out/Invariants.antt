@@ -9,7 +9,6 @@ invariant-loop-count l = record {
   behind : drop l.count l.room ≡ drop l.count l.initial.room;
   few : l.count ≤ length l.initial.room;
   unfed : l.self.unfed ≡ l.initial.self.unfed;
-  aside : l.self.aside ≡ l.initial.self.aside;
   same : length l.room ≡ length l.initial.room;
 }
 

@@ -7,7 +7,6 @@ abbrev pub invariant-loop : goal.invariant-loop
 invariant-loop l = record {
   handles : HandlesFrames l.initial.self l.self;
   unfed : l.self.unfed ≡ l.initial.self.unfed;
-  aside : l.self.aside ≡ l.initial.self.aside;
   lost : l.self.core.lost ≡ l.initial.self.core.lost;
 }
 

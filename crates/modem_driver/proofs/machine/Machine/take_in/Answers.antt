@@ -1,5 +1,5 @@
 -- The octets behind those taken came.
-use Rattle.std.proofs.Common.{◌≡◌, ◌≤◌, ◌-◌, ℕ, List, length, take, drop, ap, sym, ◌∙◌, subst, arith}
+use Rattle.std.proofs.Common.{◌≡◌, ◌≤◌, ◌-◌, ℕ, List, length, take, drop, sym, subst, arith}
 use Rattle.std.proofs.lemmas.List.{length-drop, take_all}
 use Rattle.modem_driver.specs.EndpointSteps.{FeedsFrom, TakesFrom}
 use Rattle.modem_driver.specs.SessionStates.{Machine}
@@ -26,5 +26,4 @@ loop-taken-preserved c =
       takes = takes_more c.args.self.now here fed octets taken count takes feeds;
       few = omega (arith, few, rest, before);
       unfed = c.feed_from-taken.ensures.unfed;
-      aside = c.feed_from-taken.ensures.aside ∙ (ap (λ (k : Machine). k.aside) c.has_frame.ensures.same ∙ (c.handle_frames.ensures.aside ∙ c.loop-taken.invariant.aside));
     }

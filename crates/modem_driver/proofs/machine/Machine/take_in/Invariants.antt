@@ -8,7 +8,6 @@ invariant-loop-taken l = record {
   takes : TakesFrom l.initial.self l.self (take l.taken l.octets);
   few : l.taken ≤ length l.octets;
   unfed : l.self.unfed ≡ [];
-  aside : l.self.aside ≡ l.initial.self.aside;
 }
 
 abbrev pub decreases-loop-taken : goal.decreases-loop-taken

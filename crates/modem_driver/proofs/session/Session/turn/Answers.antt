@@ -57,13 +57,13 @@ unfolding Faults
 returns-in_default-clause-faults g c =
     let look = line_by g.L.SerialLine.received g.L.SerialLine.sent g.L.SerialLine.calls g.L.SerialLine.failures g.L.SerialLine.empty_reads g.L.SerialLine.stalled_writes in
     let p = c.place-placed.ensures.places in
-    (gets_in_vain (standing_of look c.get_one.new.self) p c.check_backlogs-checked.ensures.checks c.send_on-sent.ensures.sends c.write_on-wrote.ensures.writes (ap (standing_of look) c.in_default.ensures.err) (faulty_at_first false p (sym c.is_faulty.ensures ∙ c.if-is_faulty.false)) (lost_at_first false p (sym c.is_lost.ensures ∙ c.if-is_lost.false))).fault
+    (gets_in_vain (standing_of look c.get_one.new.self) p c.check_backlogs-checked.ensures.checks c.send_on-sent.ensures.sends c.write_on-wrote.ensures.writes (ap (standing_of look) c.in_default.ensures.err) (sym c.is_faulty-2.ensures ∙ c.if-is_faulty-2.false) (lost_at_first false p (sym c.is_lost.ensures ∙ c.if-is_lost.false))).fault
 
 pub returns-in_default-clause-turned : goal.returns-in_default-clause-turned
 returns-in_default-clause-turned g c =
     let look = line_by g.L.SerialLine.received g.L.SerialLine.sent g.L.SerialLine.calls g.L.SerialLine.failures g.L.SerialLine.empty_reads g.L.SerialLine.stalled_writes in
     let p = c.place-placed.ensures.places in
-    (gets_in_vain (standing_of look c.get_one.new.self) p c.check_backlogs-checked.ensures.checks c.send_on-sent.ensures.sends c.write_on-wrote.ensures.writes (ap (standing_of look) c.in_default.ensures.err) (faulty_at_first false p (sym c.is_faulty.ensures ∙ c.if-is_faulty.false)) (lost_at_first false p (sym c.is_lost.ensures ∙ c.if-is_lost.false))).turned
+    (gets_in_vain (standing_of look c.get_one.new.self) p c.check_backlogs-checked.ensures.checks c.send_on-sent.ensures.sends c.write_on-wrote.ensures.writes (ap (standing_of look) c.in_default.ensures.err) (sym c.is_faulty-2.ensures ∙ c.if-is_faulty-2.false) (lost_at_first false p (sym c.is_lost.ensures ∙ c.if-is_lost.false))).turned
 
 pub returns-then-is_faulty-3-clause-faults : goal.returns-then-is_faulty-3-clause-faults
 unfolding Faults
