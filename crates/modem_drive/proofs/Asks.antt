@@ -1,5 +1,5 @@
 -- What the lines of the input ask is submitted, on each connection in order.
-use Rattle.std.specs.Prelude.{◌≡◌, ℕ, zero, suc, ◌+◌, Bool, true, false, List, [], ◌∷◌, ◌++◌, flat_map, length, Option, None, Some, Result, Ok, Err, IfSome, OnErr, OnOk, refl, replicate}
+use Rattle.std.specs.Prelude.{◌≡◌, ℕ, zero, suc, ◌+◌, Bool, true, false, List, [], ◌∷◌, ◌++◌, length, Option, None, Some, Result, Ok, Err, IfSome, OnErr, OnOk, refl, replicate}
 use Rattle.std.proofs.Common.{ap, append_assoc, arith, inl, inr, sym, subst, append-nil, ◌∙◌}
 use Rattle.std.proofs.lemmas.Grind.{flat_map-append}
 use Rattle.std.proofs.lemmas.List.{length-append}

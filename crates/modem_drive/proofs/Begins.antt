@@ -1,5 +1,5 @@
 -- How a drive begins.
-use Rattle.std.specs.Prelude.{◌≡◌, ◌+◌, ◌<◌, ℕ, All, Bool, true, false, zero, suc, List, [], ◌∷◌, ◌++◌, Option, None, Some, get_or, length, map, refl, replicate, slice_index_or, Result, Ok, Err, IfOk, OnErr}
+use Rattle.std.specs.Prelude.{◌≡◌, ◌<◌, ℕ, All, Bool, false, zero, suc, List, [], ◌∷◌, Option, None, Some, get_or, length, map, refl, replicate, slice_index_or, Result, Ok, Err, IfOk, OnErr}
 use mathlib.Core.Option.{some, some-ne-none}
 use Rattle.std.proofs.lemmas.Bool.{false≢true}
 use lib.ListN.{get_elem?}

@@ -1,5 +1,5 @@
 -- What is asked beside the lines, and told.
-use Rattle.std.specs.Prelude.{◌≡◌, ◌⊎◌, ◌≢◌, ℕ, ◌+◌, ◌<◌, Bool, true, false, List, [], ◌∷◌, ◌++◌, All, Option, None, Some, filter, get_or, length, map, refl, set, slice_index_or}
+use Rattle.std.specs.Prelude.{◌≡◌, ◌⊎◌, ℕ, ◌+◌, ◌<◌, true, false, List, [], ◌∷◌, ◌++◌, All, Option, None, Some, get_or, length, map, refl, slice_index_or}
 use Rattle.std.proofs.Common.{ap, sym, subst, ◌∙◌, arith, append-nil, inl, inr, ⊎_elim}
 use Rattle.std.proofs.lemmas.Bool.{false≢true}
 use Rattle.std.proofs.lemmas.List.{length-append, length-set}
@@ -11,13 +11,12 @@ use mathlib.Core.Option.{some}
 use lib.ListN.{get_elem?}
 use Rattle.modem_desk.specs.Ends.{CallerView, ListenerView, Place, subscription_of}
 use Rattle.modem_desk.specs.declared.request.Answer.{Answer}
-use Rattle.modem_desk.specs.declared.request.Ask.{Ask}
 use Rattle.modem_desk.specs.declared.request.Ask.TheVariants as ask
 use Rattle.modem_desk.specs.declared.request.Outcome.{Outcome}
 use Rattle.modem_desk.specs.declared.request.Request.{Request}
 use Rattle.modem_drive.specs.Asking.{IsAskedAs, is_on}
-use Rattle.modem_drive.specs.Channels.{HasToldOpening, KeepsOrder, opened_by, shut_of, state_at, told_at}
-use Rattle.modem_drive.specs.Showing.{AreApart, GoOn, HasShown, IsAsked, IsLine, IsRightPiece, KeepPlaces, Shown, Unprinted, after_control, control_ask, count_asked, count_on, lines_at, outcomes_in, shut_for}
+use Rattle.modem_drive.specs.Channels.{HasToldOpening, opened_by, shut_of, state_at, told_at}
+use Rattle.modem_drive.specs.Showing.{AreApart, GoOn, HasShown, IsAsked, IsLine, IsRightPiece, Shown, Unprinted, after_control, control_ask, count_asked, count_on, lines_at, shut_for}
 use Rattle.modem_drive.specs.declared.channels.ChannelState.{ChannelState}
 use Rattle.modem_drive.specs.declared.users.Asked.{Asked}
 use Rattle.modem_drive.specs.declared.users.Control.{Control}

@@ -1,5 +1,5 @@
 -- What a poll gives, and how a drive ends by it.
-use Rattle.std.specs.Prelude.{◌≡◌, ◌≢◌, Option, None, Some, Result, Ok, Err, IfOk, refl}
+use Rattle.std.specs.Prelude.{◌≡◌, Option, None, Some, Result, Ok, Err, IfOk, refl}
 use Rattle.std.proofs.Common.{ap, sym, subst, ◌∙◌}
 use Rattle.modem_history.specs.Sessions.{LineView}
 use Rattle.modem_driver.specs.Polls.{Polls, PollsFrom, end_in, with_given}

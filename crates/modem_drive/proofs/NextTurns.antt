@@ -1,5 +1,5 @@
 -- Whose turn it is.
-use Rattle.std.specs.Prelude.{◌≡◌, ◌⊎◌, ℕ, ◌+◌, ◌<◌, ◌≤◌, ◌==◌, ◌&&◌, not, Bool, true, false, List, is_some, length, refl}
+use Rattle.std.specs.Prelude.{◌≡◌, ◌⊎◌, ℕ, ◌+◌, ◌<◌, ◌≤◌, ◌==◌, not, Bool, true, false, List, is_some, length, refl}
 use Rattle.std.proofs.Common.{ap, arith, sym, subst, inl, inr, true≢false, ◌∙◌}
 use Rattle.std.proofs.lemmas.Bool.{and_parts}
 use Rattle.modem_drive.specs.Asking.{PlanView, waits_at}

@@ -13,7 +13,7 @@ use Rattle.modem_desk.specs.declared.request.Request.{Request}
 use Rattle.modem_desk.proofs.desk_places.ReturnedEnds.{each_more}
 use Rattle.modem_desk.proofs.queue_rule.CallerPasses.{at_number, below_length}
 use Rattle.modem_drive.specs.Asking.{IsAskedAs, is_on}
-use Rattle.modem_drive.specs.Channels.{HasToldOpening, KeepsOrder, OpensFirst, StopsLast, closed_by, closes, is_told, shut_of, state_at, submitted_by, told_at}
+use Rattle.modem_drive.specs.Channels.{HasToldOpening, KeepsOrder, closed_by, closes, is_told, shut_of, state_at, submitted_by, told_at}
 use Rattle.modem_drive.specs.declared.channels.ChannelState.{ChannelState}
 use Rattle.modem_drive.specs.declared.channels.ChannelState.TheVariants as state
 

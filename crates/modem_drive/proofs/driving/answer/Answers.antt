@@ -1,6 +1,5 @@
 -- What is printed, and then what is asked.
 use Rattle.modem_drive.proofs.Asks.{asks_none, stops_here, stops_if}
-use Rattle.modem_drive.proofs.Judges.{said_otherwise}
 use Rattle.modem_drive.proofs.Lines.{goes_then}
 use Rattle.modem_drive.proofs.driving.answer.Goals as goal
 

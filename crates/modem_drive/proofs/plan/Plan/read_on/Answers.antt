@@ -1,5 +1,5 @@
 -- A line was read, or none.
-use Rattle.std.proofs.Common.{rules, ◌≡◌, ℕ, subst, refl, [], Option, false}
+use Rattle.std.proofs.Common.{rules, ◌≡◌, ℕ, subst, refl, Option, false}
 use Rattle.std.specs.declared.vec.Vec.{Vec}
 use Rattle.std.specs.declared.alloc.Global.{Global}
 use Rattle.modem_drive.specs.Input.{Reads, line_in}
