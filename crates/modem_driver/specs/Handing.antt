@@ -12,7 +12,8 @@ use Rattle.modem_history.specs.Calls.{first_on}
 use Rattle.modem_history.specs.Requests.{commands_on, without_first}
 use Rattle.modem_driver.specs.Lanes.{Lane}
 use Rattle.modem_driver.specs.Cores.{dialect_in, Core, lane_at}
-use Rattle.modem_driver.specs.Reports.{Listens, read_each, owner_of}
+use Rattle.modem_driver.specs.Endings.{asker_of}
+use Rattle.modem_driver.specs.Reports.{Listens, read_each}
 
 -- octets are offered on d: the station takes them where it doesn't refuse them
 pub record Offers (old new : Station) (d : ℕ) (octets : List ℕ) : Type 0 where
@@ -48,7 +49,7 @@ unfoldable pub ReadsFrame : Core → Frame → Lane → List Act → Type 0
 ReadsFrame v f lane acts =
     (listens : UrcKind → Bool) → Listens listens v.kinds
     → record { kept = lane.kept; window = lane.window; acts = acts }
-    ≡ read_each (dialect_in v) listens f.dlci (option_map owner_of (first_on f.dlci v.hand))
+    ≡ read_each (dialect_in v) listens f.dlci (option_map asker_of (first_on f.dlci v.hand))
     (record { kept = (lane_at v f.dlci).kept; window = (lane_at v f.dlci).window; acts = Got f ∷ [] }) f.info
 
 -- the frame's information is read on a fork of its lane's window, whatever is listened to
@@ -56,6 +57,6 @@ unfoldable pub ReadsApart : Core → Frame → Lane → List Act → Type 0
 ReadsApart v f lane acts =
     (listens : UrcKind → Bool) → Listens listens v.kinds
     → record { kept = lane.kept; window = lane.window; acts = acts }
-    ≡ read_each (dialect_in v) listens f.dlci (option_map owner_of (first_on f.dlci v.hand))
+    ≡ read_each (dialect_in v) listens f.dlci (option_map asker_of (first_on f.dlci v.hand))
     (record { kept = (lane_at v f.dlci).kept; window = forked (lane_at v f.dlci).window; acts = Got f ∷ [] })
     f.info

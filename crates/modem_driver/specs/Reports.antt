@@ -9,9 +9,8 @@ use Rattle.at_text.specs.declared.window.Seen.TheVariants.{Echo, Kept, Unsolicit
 use Rattle.at_text.specs.Dialects.{Dialect}
 use Rattle.at_text.specs.Lines.{lines, kept_run}
 use Rattle.at_text.specs.OpenWindow.{OpenWindow, seen_by, after_line}
-use Rattle.modem_desk.specs.declared.request.Request.{Request}
 use Rattle.modem_desk.specs.declared.request.Answer.TheVariants.{Done}
-use Rattle.modem_driver.specs.declared.reports.Owner.{Owner}
+use Rattle.modem_driver.specs.declared.machine.course.Asker.{Asker}
 use Rattle.modem_driver.specs.declared.reports.Reading as code
 use Rattle.modem_history.specs.Acts.{Act, Told, Heard}
 
@@ -19,12 +18,8 @@ use Rattle.modem_history.specs.Acts.{Act, Told, Heard}
 unfoldable pub Listens : (UrcKind → Bool) → List UrcKind → Type 0
 Listens listens kinds = (kind : UrcKind) → (listens kind ≡ true) ↔ Contains kinds kind
 
--- the owner of a request: its caller, and its number there
-abbrev pub owner_of : Request → Owner
-owner_of r = record { caller = r.caller; number = r.number }
-
 -- the answer of the command under way, told to its request, if there is one
-abbrev pub done_by : Option Owner → List AnswerLine → List Act
+abbrev pub done_by : Option Asker → List AnswerLine → List Act
 done_by None ls = []
 done_by (Some o) ls = Told (record { caller = o.caller; number = o.number; answer = Done ls }) ∷ []
 
@@ -33,7 +28,7 @@ abbrev pub heard_by : (UrcKind → Bool) → ℕ → UrcKind → List ℕ → Li
 heard_by listens d kind line = if listens kind then Heard kind d line ∷ [] else []
 
 -- what is said of a line, by what it was seen as
-abbrev pub said_as : (UrcKind → Bool) → ℕ → Option Owner → List ℕ → line_is.Seen → List Act
+abbrev pub said_as : (UrcKind → Bool) → ℕ → Option Asker → List ℕ → line_is.Seen → List Act
 said_as listens d owner line Echo = []
 said_as listens d owner line Kept = []
 said_as listens d owner line (line_is.TheVariants.Done ls) = done_by owner ls
@@ -41,7 +36,7 @@ said_as listens d owner line (Unsolicited kind) = heard_by listens d kind line
 said_as listens d owner line line_is.TheVariants.Other = heard_by listens d Other line
 
 -- what is said of lines, one after the other
-abbrev pub said_lines : Dialect → (UrcKind → Bool) → ℕ → Option Owner → Option OpenWindow → List (List ℕ) → List Act
+abbrev pub said_lines : Dialect → (UrcKind → Bool) → ℕ → Option Asker → Option OpenWindow → List (List ℕ) → List Act
 said_lines dialect listens d owner w [] = []
 said_lines dialect listens d owner w (l ∷ ls) =
     said_as listens d owner l (seen_by dialect w l) ++ said_lines dialect listens d owner (after_line dialect w l) ls
@@ -58,7 +53,7 @@ after_all dialect w [] = w
 after_all dialect w (l ∷ ls) = after_all dialect (after_line dialect w l) ls
 
 -- after some octets more, read at once
-abbrev pub read_on : Dialect → (UrcKind → Bool) → ℕ → Option Owner → Read → List ℕ → Read
+abbrev pub read_on : Dialect → (UrcKind → Bool) → ℕ → Option Asker → Read → List ℕ → Read
 read_on dialect listens d owner v octets = record {
   kept = kept_run (v.kept ++ octets);
   window = after_all dialect v.window (lines (v.kept ++ octets));
@@ -66,7 +61,7 @@ read_on dialect listens d owner v octets = record {
 }
 
 -- after some octets more, read one by one
-abbrev pub read_each : Dialect → (UrcKind → Bool) → ℕ → Option Owner → Read → List ℕ → Read
+abbrev pub read_each : Dialect → (UrcKind → Bool) → ℕ → Option Asker → Read → List ℕ → Read
 read_each dialect listens d owner v [] = v
 read_each dialect listens d owner v (c ∷ octets) =
     read_each dialect listens d owner (read_on dialect listens d owner v (c ∷ [])) octets

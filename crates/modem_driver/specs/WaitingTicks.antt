@@ -1,23 +1,17 @@
 -- How long a connection's command has waited for its answer.
-use Rattle.std.specs.Prelude.{◌≡◌, ℕ, ◌+◌, ◌-◌, ◌^◌, ◌<◌, ◌==◌, ◌&&◌, Bool, false, List, [], ◌∷◌, find, min, Option, None, Some, option_map, if◌then◌else◌, slice_index_or}
-use Rattle.modem_desk.specs.declared.request.Ask.{Ask}
-use Rattle.modem_desk.specs.declared.request.Ask.TheVariants.{Command}
+use Rattle.std.specs.Prelude.{◌≡◌, ℕ, ◌+◌, ◌-◌, ◌^◌, ◌<◌, ◌==◌, ◌&&◌, Bool, false, List, [], ◌∷◌, min, Option, None, Some, option_map, if◌then◌else◌, slice_index_or}
 use Rattle.modem_desk.specs.declared.request.Request.{Request}
 use Rattle.modem_history.specs.Acts.{Act, Tick, in_hand}
+use Rattle.modem_history.specs.Calls.{first_on}
 use Rattle.modem_driver.specs.Endings.{asker_of}
 use Rattle.modem_driver.specs.declared.machine.course.Asker.{Asker}
 use Rattle.modem_driver.specs.declared.machine.delays.Delay.{Delay}
 
 -- ## What a history says
 
--- a command on this connection
-abbrev pub asks_on : ℕ → Ask → Bool
-asks_on d (Command on line) = on.number == d
-asks_on d _ = false
-
 -- the asker of the first command in hand on a connection; the others of that connection wait behind it
 abbrev pub first_command : ℕ → List Request → Option Asker
-first_command d hand = option_map asker_of (find (λ (q : Request). asks_on d q.ask) hand)
+first_command d hand = option_map asker_of (first_on d hand)
 
 abbrev pub is_same : Asker → Asker → Bool
 is_same who other = (who.caller == other.caller) && (who.number == other.number)

@@ -1,7 +1,6 @@
 //! Frames that go out.
 ghost use Rattle.std.specs.Prelude.{◌≡◌, ◌≤◌, length, nat_le, option_map, IfNone, IfSome};
 ghost use Rattle.modem_driver.specs.Running.{CoreIsIdle};
-ghost use Rattle.std.specs.Option.{option_copied};
 ghost use Rattle.std.specs.Borrow.{sem};
 ghost use Rattle.std.specs.Io.BufRead.{Rests};
 ghost use Rattle.mux_station.specs.GivenFrames.{outgoing_of};
@@ -12,25 +11,10 @@ ghost use Rattle.modem_driver.specs.CoreGoing.{begun_by, begun_next, gone_on, Go
 ghost use Rattle.modem_driver.specs.Holding.{KeepsHeldOut};
 
 use crate::driver::Core;
-use at_text::CommandLine;
-use modem_desk::{Ask, Request};
+use crate::hand::first_line;
 use mux_frame::Dlci;
 use mux_station::Outgoing;
 use mux_station::laws::givings;
-
-/// The text of the first command on this connection.
-pub(crate) fn first_line(hand: &[Request], dlci: Dlci) -> Option<&CommandLine>
-    ensures { option_copied result ≡ option_map line_of (first_on dlci.number hand.now) }
-{
-    for request in hand {
-        if let Ask::Command(on, line) = &request.ask {
-            if on.number() == dlci.number() {
-                return Some(line);
-            }
-        }
-    }
-    None
-}
 
 impl Core {
     ghost use Rattle.modem_driver.specs.contracts.driver.Core.{the_row};

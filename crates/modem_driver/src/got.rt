@@ -1,5 +1,5 @@
 //! Handles received frames (27.010, 5.4).
-ghost use Rattle.std.specs.Prelude.{List, None, ◌≡◌, ◌≢◌, ◌≤◌, ◌<◌, ◌+◌, ◌-◌, ◌++◌, ◌∷◌, ◌&&◌, ◌||◌, not, [], true, false, length, drop, map, slice_get, slice_set, position, option_map, is_some, is_none, IfOk, IfSome, IfNone, OnOk, OnErr, vec_capacity};
+ghost use Rattle.std.specs.Prelude.{List, None, ◌≡◌, ◌≢◌, ◌≤◌, ◌<◌, ◌+◌, ◌-◌, ◌++◌, ◌∷◌, ◌&&◌, ◌||◌, not, [], true, false, length, drop, map, slice_get, slice_set, is_some, is_none, IfOk, IfSome, IfNone, OnOk, OnErr, vec_capacity};
 ghost use Rattle.std.specs.VecDeque.{deque_capacity};
 ghost use Rattle.modem_driver.specs.Doing.{Does, QueuesAtMost};
 ghost use Rattle.mux_frame.specs.Frames.{frame_of, kept_frame};
@@ -14,9 +14,6 @@ ghost use Rattle.modem_history.specs.Acts.{Act as Happening, act_of, Got};
 ghost use Rattle.modem_driver.specs.Running.{CoreIsIdle};
 ghost use Rattle.modem_driver.specs.Cores.{Handles, shows_opened, lane_at};
 ghost use Rattle.modem_driver.specs.Lanes.{new_lane};
-ghost use Rattle.modem_history.specs.Calls.{first_on};
-ghost use Rattle.modem_history.specs.Requests.{commands_on, without_first};
-ghost use Rattle.modem_driver.specs.Reports.{owner_of};
 ghost use Rattle.modem_driver.specs.Handing.{Offers, OffersLine, EndsCommand, EndedBy, ReadsApart};
 ghost use Rattle.modem_driver.specs.Forks.{joined, joined_acts};
 ghost use Rattle.at_text.specs.Forks.{lines_so_far};
@@ -27,13 +24,12 @@ ghost use Rattle.modem_driver.specs.declared.error.CoreError.TheVariants as Core
 use crate::act_list::{ActList, none_told, push_told};
 use crate::driver::Core;
 use crate::error::CoreError;
-use crate::going_out::first_line;
-use crate::hand::Hand;
+use crate::hand::{first_asker, first_line, remove_command};
 use crate::lane::Lane;
-use crate::reports::{Owner, Reading, read_octets};
+use crate::reports::{Reading, read_octets};
 use crate::telling::{Happened, tell_on};
 use at_text::CommandLine;
-use modem_desk::{Ask, Outcome, Request};
+use modem_desk::Outcome;
 use modem_history::Act;
 use mux_frame::{Dlci, FrameBuf, FrameView, Info, Kind};
 use mux_station::{ChannelState, Noted, Station};
@@ -226,7 +222,7 @@ impl Core {
         let reading = Reading {
             alloc: self.alloc,
             dlci: frame.dlci,
-            owner: first_owner(self.hand.as_slice(), frame.dlci),
+            owner: first_asker(self.hand.as_slice(), frame.dlci),
         };
         read_octets(
             reading,
@@ -411,48 +407,6 @@ fn is_opened(state: ChannelState) -> bool
     ensures { result ≡ shows_opened state }
 {
     matches!(state, ChannelState::Opened)
-}
-
-/// The request whose command is the first on this connection.
-fn first_owner(hand: &[Request], dlci: Dlci) -> Option<Owner>
-    ensures { result ≡ option_map owner_of (first_on dlci.number hand.now) }
-{
-    for request in hand {
-        if is_command(request, dlci) {
-            return Some(Owner {
-                caller: request.caller,
-                number: request.number,
-            });
-        }
-    }
-    None
-}
-
-/// It is a command on this connection.
-fn is_command(request: &Request, dlci: Dlci) -> bool
-    ensures { result ≡ commands_on dlci.number request.now }
-{
-    match &request.ask {
-        Ask::Command(on, _) => on.number() == dlci.number(),
-        _ => false,
-    }
-}
-
-/// The place of the first command on this connection.
-fn command_at(hand: &[Request], dlci: Dlci) -> Option<usize>
-    ensures { result ≡ position (commands_on dlci.number) hand.now }
-{
-    hand.iter().position(|request| is_command(request, dlci))
-}
-
-/// Takes the first command on this connection out.
-#[tactic(auto, using(crate::proofs::lists::FirstLeftOut::left_at, crate::proofs::lists::FirstLeftOut::none_left))]
-fn remove_command(hand: &mut Hand, dlci: Dlci)
-    ensures { hand.new ≡ without_first (commands_on dlci.number) hand.old }
-{
-    if let Some(place) = command_at(hand.as_slice(), dlci) {
-        hand.remove(place);
-    }
 }
 
 /// Octets are put into the send ring.

@@ -1,9 +1,16 @@
 //! The requests in hand.
-ghost use Rattle.std.specs.Prelude.{◌≡◌, ◌≤◌, ◌<◌, ◌+◌, ◌++◌, ◌∷◌, [], length, find, option_map, remove, slice_index_or, IfOk, nat_le, vec_capacity};
+ghost use Rattle.std.specs.Prelude.{◌≡◌, ◌≤◌, ◌<◌, ◌+◌, ◌++◌, ◌∷◌, [], length, find, option_map, position, remove, slice_index_or, IfOk, nat_le, vec_capacity};
+ghost use Rattle.std.specs.List.{list_any};
+ghost use Rattle.std.specs.Option.{option_copied};
+ghost use Rattle.modem_history.specs.Calls.{first_on};
+ghost use Rattle.modem_history.specs.Information.{line_of};
+ghost use Rattle.modem_history.specs.Requests.{commands_on, without_first};
 ghost use Rattle.modem_driver.specs.Endings.{asker_of, is_stop};
 
 use crate::machine::course::Asker;
+use at_text::CommandLine;
 use modem_desk::{Ask, Request};
+use mux_frame::Dlci;
 use std::alloc::{AllocError, Global};
 use std::marker::Model;
 
@@ -110,5 +117,70 @@ impl Hand {
     {
         let Hand { requests } = self;
         requests
+    }
+}
+
+/// It is a command on this connection.
+fn is_command(request: &Request, dlci: Dlci) -> bool
+    ensures { result ≡ commands_on dlci.number request.now }
+{
+    match &request.ask {
+        Ask::Command(on, _) => on.number() == dlci.number(),
+        _ => false,
+    }
+}
+
+/// Who asked for the first command on this connection.
+pub(crate) fn first_asker(hand: &[Request], dlci: Dlci) -> Option<Asker>
+    ensures { result ≡ option_map asker_of (first_on dlci.number hand.now) }
+{
+    for request in hand {
+        if is_command(request, dlci) {
+            return Some(Asker {
+                caller: request.caller,
+                number: request.number,
+            });
+        }
+    }
+    None
+}
+
+/// The text of the first command on this connection.
+pub(crate) fn first_line(hand: &[Request], dlci: Dlci) -> Option<&CommandLine>
+    ensures { option_copied result ≡ option_map line_of (first_on dlci.number hand.now) }
+{
+    for request in hand {
+        if let Ask::Command(on, line) = &request.ask {
+            if on.number() == dlci.number() {
+                return Some(line);
+            }
+        }
+    }
+    None
+}
+
+/// Whether a command on this connection is in hand.
+pub(crate) fn has_command(hand: &Hand, dlci: Dlci) -> bool
+    ensures { result ≡ list_any (commands_on dlci.number) hand.now }
+{
+    hand.as_slice()
+        .iter()
+        .any(|request| is_command(request, dlci))
+}
+
+/// The place of the first command on this connection.
+fn command_at(hand: &[Request], dlci: Dlci) -> Option<usize>
+    ensures { result ≡ position (commands_on dlci.number) hand.now }
+{
+    hand.iter().position(|request| is_command(request, dlci))
+}
+
+/// Takes the first command on this connection out.
+#[tactic(auto, using(crate::proofs::lists::FirstLeftOut::left_at, crate::proofs::lists::FirstLeftOut::none_left))]
+pub(crate) fn remove_command(hand: &mut Hand, dlci: Dlci)
+    ensures { hand.new ≡ without_first (commands_on dlci.number) hand.old }
+{
+    if let Some(place) = command_at(hand.as_slice(), dlci) {
+        hand.remove(place);
     }
 }

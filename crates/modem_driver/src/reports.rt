@@ -5,25 +5,19 @@ ghost use Rattle.modem_history.specs.Acts.{act_of};
 ghost use Rattle.at_text.specs.Rules.{dialect_of};
 ghost use Rattle.modem_driver.specs.Reports.{done_by, heard_by, said_as, ReportSays, ReadsOctet, ReadsAll};
 
+use crate::machine::course::Asker;
 use at_text::{AnswerLines, Dialect, LineReader, Seen, Text, UrcKind, Window};
 use modem_desk::{Answer, Outcome, Urc};
 use modem_history::Act;
 use mux_frame::Dlci;
 use std::alloc::{AllocError, Global};
 
-/// The request whose command is under way.
+/// The connection whose lines are read, and who asked for the command under way on it.
 #[derive(Clone, Copy)]
-pub struct Owner {
-    pub caller: u8,
-    pub number: u64,
-}
-
-/// The connection whose lines are read.
-#[derive(Clone, Copy)]
-pub struct Reading {
+pub(crate) struct Reading {
     pub alloc: Global,
     pub dlci: Dlci,
-    pub owner: Option<Owner>,
+    pub owner: Option<Asker>,
 }
 
 /// Whether this kind is listened to.

@@ -3,11 +3,9 @@ ghost use Rattle.std.specs.Prelude.{◌≡◌, ◌∷◌, [], ◌+◌, ◌<◌, 
 ghost use Rattle.mux_frame.specs.Frames.{kept_frame};
 ghost use Rattle.modem_history.specs.Acts.{act_of, Took};
 ghost use Rattle.modem_history.specs.Calls.{asking};
-ghost use Rattle.std.specs.List.{list_any};
 ghost use Rattle.mux_station.specs.Stations.{setting_of};
 ghost use Rattle.mux_station.specs.declared.role.Role.TheVariants.{Initiator};
-ghost use Rattle.modem_history.specs.Information.{command_on, line_in, line_of};
-ghost use Rattle.modem_history.specs.Requests.{commands_on};
+ghost use Rattle.modem_history.specs.Information.{line_in, line_of};
 ghost use Rattle.modem_driver.specs.Offers.{refused_command, sends_on, TakesLine, OffersFirstCommand};
 ghost use Rattle.modem_driver.specs.Refusals.{refusal_answer};
 ghost use Rattle.modem_driver.specs.TakenActs.{came_to, outcome_of, taken_acts};
@@ -22,7 +20,7 @@ ghost use Rattle.modem_desk.specs.declared.request.Ask.TheVariants as Ask;
 use crate::act_list::{ActList, none_told, push_told};
 use crate::driver::Core;
 use crate::error::CoreError;
-use crate::hand::Hand;
+use crate::hand::{Hand, has_command};
 use crate::machine::course::Asker;
 use crate::telling::{Happened, put_told, tell_on};
 use crate::written::{bare, message};
@@ -357,24 +355,6 @@ fn refuses_command(station: &Station, dlci: Dlci) -> Option<Answer>
     match station.state(dlci) {
         ChannelState::Opened => None,
         _ => Some(Answer::NotOpen),
-    }
-}
-
-/// Whether a command of the connection is in hand.
-fn has_command(hand: &Hand, dlci: Dlci) -> bool
-    ensures { result ≡ list_any (commands_on dlci.number) hand.now }
-{
-    hand.as_slice()
-        .iter()
-        .any(|request| is_command_on(dlci, &request.ask))
-}
-
-fn is_command_on(dlci: Dlci, ask: &Ask) -> bool
-    ensures { result ≡ command_on dlci.number ask.now }
-{
-    match ask {
-        Ask::Command(other, _) => other.number() == dlci.number(),
-        _ => false,
     }
 }
 

@@ -43,7 +43,8 @@ use Rattle.modem_driver.specs.Telling.{told_by, probe_noted}
 use Rattle.modem_driver.specs.Cores as cores
 use Rattle.modem_driver.specs.Cores.{dialect_in, Core, LaneFits, Runs, RunsUnless, Fits, IsRun, IsSettingOf, MayCome, GoesOn, Handles, state_shown, may_wait, probe_or, probe_in, lane_at}
 use Rattle.modem_driver.specs.Receiving.{reads_data}
-use Rattle.modem_driver.specs.Reports.{read_each, Listens, Read, after_all, owner_of}
+use Rattle.modem_driver.specs.Endings.{asker_of}
+use Rattle.modem_driver.specs.Reports.{read_each, Listens, Read, after_all}
 use Rattle.modem_driver.specs.Handing.{HandsOn, EndedBy, ReadsFrame}
 use Rattle.modem_history.proofs.calls.CalledActs.{calls_said}
 use Rattle.modem_history.proofs.requests.RequestsAfterCalls.{stays}
@@ -107,8 +108,8 @@ lane_read v s past seen f lane acts role h reads k =
     let old = lane_at v f.dlci in
     let owner = first_on f.dlci v.hand in
     let first : Read = record { kept = old.kept; window = old.window; acts = Got f ∷ [] } in
-    let each = reads s.listens h.listens_are ∙ ap (λ (c : Dialect). read_each c s.listens f.dlci (option_map owner_of owner) first f.info) (sym h.dialect_is) in
-    let all = each ∙ each_is s.dialect s.listens f.dlci (option_map owner_of owner) first (information_in Initiator f.dlci past) f.info reads_on (sym k.kept_is) in
+    let each = reads s.listens h.listens_are ∙ ap (λ (c : Dialect). read_each c s.listens f.dlci (option_map asker_of owner) first f.info) (sym h.dialect_is) in
+    let all = each ∙ each_is s.dialect s.listens f.dlci (option_map asker_of owner) first (information_in Initiator f.dlci past) f.info reads_on (sym k.kept_is) in
     let shows = subst (λ (x : Role). old.window ≡ option_map (shown s.dialect) (open_window s.dialect (marks x f.dlci past))) (sym role) k.window_fits.shows in
     record {
       kept_is = ap (λ (x : Read). x.kept) all;

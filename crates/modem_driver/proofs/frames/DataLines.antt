@@ -38,7 +38,8 @@ use Rattle.modem_history.specs.Requests.{is_apart, are_distinct, commands_on, wi
 use Rattle.modem_driver.specs.Telling.{told_by, told_to, left_by, said_to, probe_noted, open_told, close_told, command_told, probe_told, stop_told}
 use Rattle.modem_driver.specs.Cores as cores
 use Rattle.modem_driver.specs.Cores.{may_wait}
-use Rattle.modem_driver.specs.Reports.{owner_of, done_by, said_as, said_lines, after_all}
+use Rattle.modem_driver.specs.Endings.{asker_of}
+use Rattle.modem_driver.specs.Reports.{done_by, said_as, said_lines, after_all}
 use Rattle.modem_history.proofs.outcomes.OutcomeCounts.{is_data}
 use Rattle.modem_history.proofs.requests.RequestsInHand.{all_swap}
 use Rattle.modem_history.proofs.requests.RequestsAfterCalls.{off_between, first_passes}
@@ -48,11 +49,11 @@ use Rattle.modem_driver.proofs.probes.ProbeAnswers.{table_says}
 
 -- ## Lines
 
-same_done : (owner : Option Request) (ls : List AnswerLine) → done_by (option_map owner_of owner) ls ≡ done owner ls
+same_done : (owner : Option Request) (ls : List AnswerLine) → done_by (option_map asker_of owner) ls ≡ done owner ls
 same_done None ls = refl
 same_done (Some r) ls = refl
 
-same_said : (s : Setting) (d : ℕ) (owner : Option Request) (line : List ℕ) (v : line_is.Seen) → said_as s.listens d (option_map owner_of owner) line v ≡ by_seen s d owner line v
+same_said : (s : Setting) (d : ℕ) (owner : Option Request) (line : List ℕ) (v : line_is.Seen) → said_as s.listens d (option_map asker_of owner) line v ≡ by_seen s d owner line v
 same_said s d owner line Echo = refl
 same_said s d owner line Kept = refl
 same_said s d owner line (line_is.TheVariants.Done ls) = same_done owner ls
@@ -64,13 +65,13 @@ Shows dialect w ms = w ≡ option_map (shown dialect) (open_window dialect ms)
 
 -- what is said by the window is what is said by what was placed
 pub said_is : (s : Setting) (d : ℕ) (owner : Option Request) (ls : List (List ℕ)) (w : Option OpenWindow) (ms : List Mark) → w ≡ option_map (shown s.dialect) (open_window s.dialect ms)
-    → said_lines s.dialect s.listens d (option_map owner_of owner) w ls ≡ by_lines s d owner ms ls
+    → said_lines s.dialect s.listens d (option_map asker_of owner) w ls ≡ by_lines s d owner ms ls
 said_is s d owner [] w ms f = refl
 said_is s d owner (l ∷ ls) w ms f =
     let sees : seen_by s.dialect w l ≡ seen_after s.dialect ms l = ap (λ (v : Option OpenWindow). seen_by s.dialect v l) f ∙ seen_line s.dialect ms l in
     let fits : Shows s.dialect (after_line s.dialect w l) (ms ++ Line l ∷ []) = ap (λ (v : Option OpenWindow). after_line s.dialect v l) f ∙ shows_line s.dialect ms l in
-    ap (λ (v : line_is.Seen). said_as s.listens d (option_map owner_of owner) l v ++ said_lines s.dialect s.listens d (option_map owner_of owner) (after_line s.dialect w l) ls) sees
-    ∙ (ap (λ (v : List Act). v ++ said_lines s.dialect s.listens d (option_map owner_of owner) (after_line s.dialect w l) ls) (same_said s d owner l (seen_after s.dialect ms l))
+    ap (λ (v : line_is.Seen). said_as s.listens d (option_map asker_of owner) l v ++ said_lines s.dialect s.listens d (option_map asker_of owner) (after_line s.dialect w l) ls) sees
+    ∙ (ap (λ (v : List Act). v ++ said_lines s.dialect s.listens d (option_map asker_of owner) (after_line s.dialect w l) ls) (same_said s d owner l (seen_after s.dialect ms l))
     ∙ ap (λ (v : List Act). by_seen s d owner l (seen_after s.dialect ms l) ++ v) (said_is s d owner ls (after_line s.dialect w l) (ms ++ Line l ∷ []) fits))
 
 pub shows_after : (dialect : Dialect) (ls : List (List ℕ)) (w : Option OpenWindow) (ms : List Mark) → w ≡ option_map (shown dialect) (open_window dialect ms) → after_all dialect w ls ≡ option_map (shown dialect) (open_window dialect (ms ++ map Line ls))

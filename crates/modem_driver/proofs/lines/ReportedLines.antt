@@ -9,14 +9,15 @@ use Rattle.at_text.specs.Dialects.{Dialect}
 use Rattle.at_text.specs.Lines.{lines, kept_run, ReadsOn}
 use Rattle.at_text.specs.OpenWindow.{OpenWindow, seen_by, after_line}
 use Rattle.at_text.specs.Forks.{forked}
-use Rattle.modem_driver.specs.declared.reports.Owner.{Owner}
+use Rattle.modem_driver.specs.declared.machine.course.Asker.{Asker}
 use Rattle.modem_driver.specs.declared.reports.Reading.{Reading}
 use Rattle.mux_frame.specs.Frames.{Frame}
 use Rattle.modem_history.specs.Acts.{Act, Got, Heard}
 use Rattle.modem_history.specs.Calls.{first_on}
 use Rattle.modem_driver.specs.Cores.{dialect_in, Core, lane_at}
 use Rattle.modem_driver.specs.Handing.{ReadsApart}
-use Rattle.modem_driver.specs.Reports.{owner_of, Listens, heard_by, done_by, said_as, said_lines, Read, after_all, read_on, read_each, ReadsOctet, ReadsAll, ReportSays}
+use Rattle.modem_driver.specs.Endings.{asker_of}
+use Rattle.modem_driver.specs.Reports.{Listens, heard_by, done_by, said_as, said_lines, Read, after_all, read_on, read_each, ReadsOctet, ReadsAll, ReportSays}
 
 pub nothing_said : (kinds : List UrcKind) (r : Reading) (xs : List Act) → ReportSays kinds r (λ listens. []) xs xs
 unfolding ReportSays
@@ -43,7 +44,7 @@ heard kinds r kind line old new b t e g listens h =
 
 -- ## Octets
 
-one_line : (dialect : Dialect) (listens : UrcKind → Bool) (d : ℕ) (owner : Option Owner) (old : Read) (c : ℕ) (l : List ℕ) (new : Read) → lines (old.kept ++ c ∷ []) ≡ l ∷ [] → new.kept ≡ kept_run (old.kept ++ c ∷ []) → new.window ≡ after_line dialect old.window l
+one_line : (dialect : Dialect) (listens : UrcKind → Bool) (d : ℕ) (owner : Option Asker) (old : Read) (c : ℕ) (l : List ℕ) (new : Read) → lines (old.kept ++ c ∷ []) ≡ l ∷ [] → new.kept ≡ kept_run (old.kept ++ c ∷ []) → new.window ≡ after_line dialect old.window l
     → new.acts ≡ old.acts ++ said_as listens d owner l (seen_by dialect old.window l) → new ≡ read_on dialect listens d owner old (c ∷ [])
 one_line dialect listens d owner old c l new e k w a =
     ap (λ (x : List ℕ). let v : Read = record { kept = x; window = new.window; acts = new.acts } in v) k
@@ -88,7 +89,7 @@ after_both : (dialect : Dialect) (w : Option OpenWindow) (xs ys : List (List ℕ
 after_both dialect w [] ys = refl
 after_both dialect w (x ∷ xs) ys = after_both dialect (after_line dialect w x) xs ys
 
-said_both : (dialect : Dialect) (listens : UrcKind → Bool) (d : ℕ) (owner : Option Owner) (w : Option OpenWindow) (xs ys : List (List ℕ))
+said_both : (dialect : Dialect) (listens : UrcKind → Bool) (d : ℕ) (owner : Option Asker) (w : Option OpenWindow) (xs ys : List (List ℕ))
     → said_lines dialect listens d owner w (xs ++ ys) ≡ said_lines dialect listens d owner w xs ++ said_lines dialect listens d owner (after_all dialect w xs) ys
 said_both dialect listens d owner w [] ys = refl
 said_both dialect listens d owner w (x ∷ xs) ys =
@@ -100,7 +101,7 @@ none_more xs [] h = refl
 none_more xs (y ∷ ys) h = absurd (let n : length xs ≡ length xs + suc (length ys) = ap length h ∙ length-append xs (y ∷ ys) in omega (arith, n))
 
 -- from what is kept of some text, reading octets one by one is reading them all
-pub each_is : (dialect : Dialect) (listens : UrcKind → Bool) (d : ℕ) (owner : Option Owner) (v : Read) (x octets : List ℕ) → ((x y : List ℕ) → ReadsOn x y) → v.kept ≡ kept_run x → read_each dialect listens d owner v octets ≡ read_on dialect listens d owner v octets
+pub each_is : (dialect : Dialect) (listens : UrcKind → Bool) (d : ℕ) (owner : Option Asker) (v : Read) (x octets : List ℕ) → ((x y : List ℕ) → ReadsOn x y) → v.kept ≡ kept_run x → read_each dialect listens d owner v octets ≡ read_on dialect listens d owner v octets
 each_is dialect listens d owner v x [] on k =
     let e = on x [] in
     let same : kept_run (v.kept ++ []) ≡ v.kept = ap (λ (w : List ℕ). kept_run (w ++ [])) k ∙ (sym e.keeps ∙ (ap kept_run (append-nil x) ∙ sym k)) in
@@ -154,21 +155,21 @@ behind : Act → Read → Read
 behind a r = record { kept = r.kept; window = r.window; acts = a ∷ r.acts }
 
 -- what is said goes behind an act of before
-each_behind : (dialect : Dialect) (listens : UrcKind → Bool) (d : ℕ) (owner : Option Owner) (a : Act) (r : Read) (octets : List ℕ) → read_each dialect listens d owner (behind a r) octets ≡ behind a (read_each dialect listens d owner r octets)
+each_behind : (dialect : Dialect) (listens : UrcKind → Bool) (d : ℕ) (owner : Option Asker) (a : Act) (r : Read) (octets : List ℕ) → read_each dialect listens d owner (behind a r) octets ≡ behind a (read_each dialect listens d owner r octets)
 unfolding behind
 each_behind dialect listens d owner a r [] = refl
 each_behind dialect listens d owner a r (c ∷ octets) = each_behind dialect listens d owner a (read_on dialect listens d owner r (c ∷ [])) octets
 
 -- a frame is read from what is kept of its connection, on a fork of its window
-pub reads_apart : (v : Core) (f : Frame) (kinds : List UrcKind) (r : Reading) (first last : Read) (held : Bool) → kinds ≡ v.kinds → r.dlci.number ≡ f.dlci → r.owner ≡ option_map owner_of (first_on f.dlci v.hand)
+pub reads_apart : (v : Core) (f : Frame) (kinds : List UrcKind) (r : Reading) (first last : Read) (held : Bool) → kinds ≡ v.kinds → r.dlci.number ≡ f.dlci → r.owner ≡ option_map asker_of (first_on f.dlci v.hand)
     → first ≡ record { kept = (lane_at v f.dlci).kept; window = forked (lane_at v f.dlci).window; acts = [] } → ReadsAll (dialect_in v) kinds r f.info first last
     → ReadsApart v f (record { kept = last.kept; window = last.window; held = held }) (Got f ∷ last.acts)
 unfolding ReadsAll ReadsApart behind
 reads_apart v f kinds r first last held k d o e reads listens h =
     let start : Read = record { kept = (lane_at v f.dlci).kept; window = forked (lane_at v f.dlci).window; acts = [] } in
-    let owner = option_map owner_of (first_on f.dlci v.hand) in
+    let owner = option_map asker_of (first_on f.dlci v.hand) in
     let same : last ≡ read_each (dialect_in v) listens f.dlci owner start f.info
     = reads listens (subst (λ (x : List UrcKind). Listens listens x) (sym k) h)
     ∙ (ap (λ (n : ℕ). read_each (dialect_in v) listens n r.owner first f.info) d
-    ∙ (ap (λ (x : Option Owner). read_each (dialect_in v) listens f.dlci x first f.info) o ∙ ap (λ (x : Read). read_each (dialect_in v) listens f.dlci owner x f.info) e)) in
+    ∙ (ap (λ (x : Option Asker). read_each (dialect_in v) listens f.dlci x first f.info) o ∙ ap (λ (x : Read). read_each (dialect_in v) listens f.dlci owner x f.info) e)) in
     ap (behind (Got f)) same ∙ sym (each_behind (dialect_in v) listens f.dlci owner (Got f) start f.info)

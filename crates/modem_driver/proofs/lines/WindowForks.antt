@@ -27,10 +27,11 @@ use Rattle.modem_desk.specs.declared.request.Answer.TheVariants as answers
 use Rattle.modem_history.specs.declared.act.Act as code
 use Rattle.modem_history.specs.Acts.{act_of, Act, Got, Told, Heard}
 use Rattle.modem_history.specs.Calls.{first_on}
-use Rattle.modem_driver.specs.declared.reports.Owner.{Owner}
+use Rattle.modem_driver.specs.declared.machine.course.Asker.{Asker}
 use Rattle.modem_driver.specs.Lanes.{Lane}
 use Rattle.modem_driver.specs.Cores.{dialect_in, Core, lane_at}
-use Rattle.modem_driver.specs.Reports.{owner_of, done_by, said_as, said_lines, Read, after_all, read_on, read_each}
+use Rattle.modem_driver.specs.Endings.{asker_of}
+use Rattle.modem_driver.specs.Reports.{done_by, said_as, said_lines, Read, after_all, read_on, read_each}
 use Rattle.modem_driver.specs.Receiving.{reads_data}
 use Rattle.modem_driver.specs.Handing.{EndedBy, ReadsFrame, ReadsApart}
 use Rattle.modem_driver.specs.Forks.{has_lines, led_answer, tells_lines, led, led_first, joined_acts, joined}
@@ -43,11 +44,11 @@ heard_led : (ls : List AnswerLine) (b : Bool) (kind : UrcKind) (d : ℕ) (line :
 heard_led ls true kind d line = refl
 heard_led ls false kind d line = refl
 
-done_led : (ls more : List AnswerLine) (owner : Option Owner) → done_by owner (ls ++ more) ≡ map (led ls) (done_by owner more)
+done_led : (ls more : List AnswerLine) (owner : Option Asker) → done_by owner (ls ++ more) ≡ map (led ls) (done_by owner more)
 done_led ls more None = refl
 done_led ls more (Some o) = refl
 
-said_led : (ls : List AnswerLine) (listens : UrcKind → Bool) (d : ℕ) (owner : Option Owner) (line : List ℕ) (seen : line_is.Seen) → said_as listens d owner line (led_seen ls seen) ≡ map (led ls) (said_as listens d owner line seen)
+said_led : (ls : List AnswerLine) (listens : UrcKind → Bool) (d : ℕ) (owner : Option Asker) (line : List ℕ) (seen : line_is.Seen) → said_as listens d owner line (led_seen ls seen) ≡ map (led ls) (said_as listens d owner line seen)
 said_led ls listens d owner line Echo = refl
 said_led ls listens d owner line Kept = refl
 said_led ls listens d owner line (line_is.TheVariants.Done more) = done_led ls more owner
@@ -58,7 +59,7 @@ after_led : (dialect : Dialect) (ls : List AnswerLine) (w : Option OpenWindow) (
 after_led dialect ls w [] = refl
 after_led dialect ls w (x ∷ xs) = ap (λ (v : Option OpenWindow). after_all dialect v xs) (sees_apart dialect ls w x).after ∙ after_led dialect ls (after_line dialect w x) xs
 
-lines_led : (dialect : Dialect) (ls : List AnswerLine) (listens : UrcKind → Bool) (d : ℕ) (owner : Option Owner) (w : Option OpenWindow) (xs : List (List ℕ))
+lines_led : (dialect : Dialect) (ls : List AnswerLine) (listens : UrcKind → Bool) (d : ℕ) (owner : Option Asker) (w : Option OpenWindow) (xs : List (List ℕ))
     → said_lines dialect listens d owner (led_by ls w) xs ≡ map (led ls) (said_lines dialect listens d owner w xs)
 lines_led dialect ls listens d owner w [] = refl
 lines_led dialect ls listens d owner w (x ∷ xs) =
@@ -72,7 +73,7 @@ lines_led dialect ls listens d owner w (x ∷ xs) =
 led_read : List AnswerLine → Read → Read
 led_read ls r = record { kept = r.kept; window = led_by ls r.window; acts = map (led ls) r.acts }
 
-on_led : (dialect : Dialect) (ls : List AnswerLine) (listens : UrcKind → Bool) (d : ℕ) (owner : Option Owner) (r : Read) (octets : List ℕ) → read_on dialect listens d owner (led_read ls r) octets ≡ led_read ls (read_on dialect listens d owner r octets)
+on_led : (dialect : Dialect) (ls : List AnswerLine) (listens : UrcKind → Bool) (d : ℕ) (owner : Option Asker) (r : Read) (octets : List ℕ) → read_on dialect listens d owner (led_read ls r) octets ≡ led_read ls (read_on dialect listens d owner r octets)
 unfolding led_read
 on_led dialect ls listens d owner r octets =
     let kept = kept_run (r.kept ++ octets) in
@@ -81,7 +82,7 @@ on_led dialect ls listens d owner r octets =
     ∙ ap (λ (acts : List Act). let v : Read = record { kept = kept; window = led_by ls (after_all dialect r.window xs); acts = acts } in v)
     (ap (λ (acts : List Act). map (led ls) r.acts ++ acts) (lines_led dialect ls listens d owner r.window xs) ∙ sym (map-append (led ls) r.acts (said_lines dialect listens d owner r.window xs)))
 
-each_led : (dialect : Dialect) (ls : List AnswerLine) (listens : UrcKind → Bool) (d : ℕ) (owner : Option Owner) (r : Read) (octets : List ℕ) → read_each dialect listens d owner (led_read ls r) octets ≡ led_read ls (read_each dialect listens d owner r octets)
+each_led : (dialect : Dialect) (ls : List AnswerLine) (listens : UrcKind → Bool) (d : ℕ) (owner : Option Asker) (r : Read) (octets : List ℕ) → read_each dialect listens d owner (led_read ls r) octets ≡ led_read ls (read_each dialect listens d owner r octets)
 each_led dialect ls listens d owner r [] = refl
 each_led dialect ls listens d owner r (c ∷ octets) =
     ap (λ (v : Read). read_each dialect listens d owner v octets) (on_led dialect ls listens d owner r (c ∷ [])) ∙ each_led dialect ls listens d owner (read_on dialect listens d owner r (c ∷ [])) octets
@@ -106,12 +107,12 @@ unfolding many
 heard_none true kind d line = refl
 heard_none false kind d line = refl
 
-done_one : (owner : Option Owner) (ls : List AnswerLine) → many (done_by owner ls) ≤ 1
+done_one : (owner : Option Asker) (ls : List AnswerLine) → many (done_by owner ls) ≤ 1
 unfolding many
 done_one None ls = omega arith
 done_one (Some o) ls = omega arith
 
-said_one : (dialect : Dialect) (listens : UrcKind → Bool) (d : ℕ) (owner : Option Owner) (w : Option OpenWindow) (line : List ℕ) → many (said_as listens d owner line (seen_by dialect w line)) + under_way (after_line dialect w line) ≤ under_way w
+said_one : (dialect : Dialect) (listens : UrcKind → Bool) (d : ℕ) (owner : Option Asker) (w : Option OpenWindow) (line : List ℕ) → many (said_as listens d owner line (seen_by dialect w line)) + under_way (after_line dialect w line) ≤ under_way w
 unfolding many under_way
 said_one dialect listens d owner w line = by_kinds (dialect.kind_of line) w
   where
@@ -127,7 +128,7 @@ said_one dialect listens d owner w line = by_kinds (dialect.kind_of line) w
     by_kinds None None = let none = heard_none (listens Other) Other d line in omega (arith, none)
     by_kinds None (Some o) = by_tests o (is_echo o line) (dialect.is_final line)
 
-lines_one : (dialect : Dialect) (listens : UrcKind → Bool) (d : ℕ) (owner : Option Owner) (w : Option OpenWindow) (xs : List (List ℕ)) → many (said_lines dialect listens d owner w xs) + under_way (after_all dialect w xs) ≤ under_way w
+lines_one : (dialect : Dialect) (listens : UrcKind → Bool) (d : ℕ) (owner : Option Asker) (w : Option OpenWindow) (xs : List (List ℕ)) → many (said_lines dialect listens d owner w xs) + under_way (after_all dialect w xs) ≤ under_way w
 unfolding many
 lines_one dialect listens d owner w [] = omega arith
 lines_one dialect listens d owner w (x ∷ xs) =
@@ -136,7 +137,7 @@ lines_one dialect listens d owner w (x ∷ xs) =
     let both = many_both (said_as listens d owner x (seen_by dialect w x)) (said_lines dialect listens d owner (after_line dialect w x) xs) in
     omega (arith, here, more, both)
 
-on_one : (dialect : Dialect) (listens : UrcKind → Bool) (d : ℕ) (owner : Option Owner) (r : Read) (octets : List ℕ)
+on_one : (dialect : Dialect) (listens : UrcKind → Bool) (d : ℕ) (owner : Option Asker) (r : Read) (octets : List ℕ)
     → many (read_on dialect listens d owner r octets).acts + under_way (read_on dialect listens d owner r octets).window ≤ many r.acts + under_way r.window
 on_one dialect listens d owner r octets =
     let xs = lines (r.kept ++ octets) in
@@ -144,7 +145,7 @@ on_one dialect listens d owner r octets =
     let both = many_both r.acts (said_lines dialect listens d owner r.window xs) in
     omega (arith, more, both)
 
-each_one : (dialect : Dialect) (listens : UrcKind → Bool) (d : ℕ) (owner : Option Owner) (r : Read) (octets : List ℕ)
+each_one : (dialect : Dialect) (listens : UrcKind → Bool) (d : ℕ) (owner : Option Asker) (r : Read) (octets : List ℕ)
     → many (read_each dialect listens d owner r octets).acts + under_way (read_each dialect listens d owner r octets).window ≤ many r.acts + under_way r.window
 each_one dialect listens d owner r [] = omega arith
 each_one dialect listens d owner r (c ∷ octets) =
@@ -199,7 +200,7 @@ reads_joined v f fork acts apart listens h =
     let d = f.dlci in
     let before = lane_at v d in
     let ls = lines_so_far before.window in
-    let owner = option_map owner_of (first_on d v.hand) in
+    let owner = option_map asker_of (first_on d v.hand) in
     let start : Read = record { kept = before.kept; window = forked before.window; acts = Got f ∷ [] } in
     let first : Read = record { kept = before.kept; window = before.window; acts = Got f ∷ [] } in
     let last : Read = record { kept = fork.kept; window = fork.window; acts = acts } in

@@ -1,10 +1,11 @@
 //! How long the commands of connections have waited, counted in ticks.
 ghost use Rattle.std.specs.Prelude.{◌≡◌, ◌<◌};
-ghost use Rattle.modem_driver.specs.WaitingTicks.{asks_on, delay_after, first_command, is_same, ticks_kept, ticks_shown, CountsTick};
+ghost use Rattle.modem_driver.specs.WaitingTicks.{delay_after, is_same, ticks_kept, ticks_shown, CountsTick};
 
+use crate::hand::first_asker;
 use crate::machine::Machine;
 use crate::machine::course::Asker;
-use modem_desk::{Ask, Request};
+use modem_desk::Request;
 use mux_frame::Dlci;
 
 /// The asker of the command that a tick found first in hand on a connection, and how many ticks in a row did. The count
@@ -17,27 +18,6 @@ pub(crate) struct Delay {
 
 /// What the last tick found on each of the connections 0 to 61.
 pub(crate) type Delays = [Option<Delay>; Dlci::COUNT];
-
-/// Whether it is a command on this connection.
-fn asks_on(number: u8, ask: &Ask) -> bool
-    ensures { result ≡ asks_on number ask.now }
-{
-    match ask {
-        Ask::Command(dlci, _line) => dlci.number() == number,
-        _ => false,
-    }
-}
-
-/// Whose command is the first on a connection.
-fn first_command(hand: &[Request], number: u8) -> Option<Asker>
-    ensures { result ≡ first_command number hand.now }
-{
-    let request = hand.iter().find(|request| asks_on(number, &request.ask))?;
-    Some(Asker {
-        caller: request.caller,
-        number: request.number,
-    })
-}
 
 /// Whether these are the same one.
 fn is_same(who: Asker, other: Asker) -> bool
@@ -74,7 +54,7 @@ fn counted(delays: Delays, hand: &[Request]) -> Delays
     let mut counted = delays;
     for number in 0..Dlci::COUNT as u8 {
         let place = usize::from(number);
-        counted[place] = delay_after(delays[place], first_command(hand, number));
+        counted[place] = delay_after(delays[place], first_asker(hand, Dlci { number }));
     }
     counted
 }
@@ -83,7 +63,7 @@ fn counted(delays: Delays, hand: &[Request]) -> Delays
 fn ticks_shown(delays: &Delays, hand: &[Request], dlci: Dlci) -> Option<u64>
     ensures { result ≡ ticks_shown delays.now hand.now dlci.number }
 {
-    let who = first_command(hand, dlci.number())?;
+    let who = first_asker(hand, dlci)?;
     let delay = delays[usize::from(dlci.number())];
     Some(ticks_kept(delay, who))
 }

@@ -12,7 +12,8 @@ use Rattle.modem_history.specs.Calls.{first_on}
 use Rattle.modem_driver.specs.Lanes.{Lane}
 use Rattle.modem_driver.specs.Forks.{forked_lane}
 use Rattle.modem_driver.specs.Cores.{Core, lane_at}
-use Rattle.modem_driver.specs.Reports.{Read, ReadsAll, owner_of}
+use Rattle.modem_driver.specs.Endings.{asker_of}
+use Rattle.modem_driver.specs.Reports.{Read, ReadsAll}
 use Rattle.modem_driver.proofs.lines.ReportedLines.{reads_apart}
 use Rattle.modem_driver.proofs.driver.Core.read.Goals as goal
 
@@ -27,7 +28,7 @@ pub returns-clause-read : goal.returns-clause-read
 returns-clause-read c =
     let old : Core = c.args.self.now in
     let f = frame_of c.args.frame in
-    let reading : Reading = record { alloc = c.self.inside.alloc; dlci = c.args.frame.dlci; owner = c.first_owner.result } in
+    let reading : Reading = record { alloc = c.self.inside.alloc; dlci = c.args.frame.dlci; owner = c.first_asker.result } in
     let first : Read = record { kept = c.fork.inside.reader; window = c.fork.inside.window; acts = map act_of c.args.acts.now.items } in
     let last : Read = record { kept = c.read_octets.new.reader; window = c.read_octets.new.window; acts = map act_of c.read_octets.new.acts.items } in
     let given : ReadsAll (dialect_of c.self.inside.dialect) c.as_slice-2.result.now reading f.info first last = c.in_ok-read_octets.ensures in
@@ -43,8 +44,8 @@ returns-clause-read c =
     = ap (λ (x : List ℕ). let v : Read = record { kept = x; window = c.fork.inside.window; acts = map act_of c.args.acts.now.items } in v) kept
     ∙ (ap (λ (x : Option OpenWindow). let v : Read = record { kept = (lane_at old f.dlci).kept; window = x; acts = map act_of c.args.acts.now.items } in v) window
     ∙ ap (λ (x : List Act). let v : Read = record { kept = (lane_at old f.dlci).kept; window = forked (lane_at old f.dlci).window; acts = x } in v) acts) in
-    let owner : c.first_owner.result ≡ option_map owner_of (first_on f.dlci old.hand)
-    = c.first_owner.ensures ∙ ap (λ (q : List Request). option_map owner_of (first_on f.dlci q)) (c.as_slice.ensures ∙ ap (λ (v : Core). v.hand) c.self.view_is) in
+    let owner : c.first_asker.result ≡ option_map asker_of (first_on f.dlci old.hand)
+    = c.first_asker.ensures ∙ ap (λ (q : List Request). option_map asker_of (first_on f.dlci q)) (c.as_slice.ensures ∙ ap (λ (v : Core). v.hand) c.self.view_is) in
     let kinds : c.as_slice-2.result.now ≡ old.kinds
     = c.as_slice-2.ensures.value ∙ ap (λ (v : Core). v.kinds) c.self.view_is in
     reads_apart old f c.as_slice-2.result.now reading first last c.fork.inside.held kinds refl owner first_is reads
