@@ -59,6 +59,7 @@ are_told = record {
   echo = refl;
   cut_anywhere = refl;
   reopened = refl;
+  sent_again = refl;
   crosses_close = refl;
   crosses_down = refl;
   behind_close = refl;

@@ -1,8 +1,9 @@
 -- Frames that ask for an answer, and their answers (27.010, 5.4.1, 5.4.2 and 5.4.6).
-use Rattle.std.specs.Prelude.{ℕ, ◌==◌, ◌&&◌, ◌||◌, not, Bool, false, List, [], ◌∷◌, ◌++◌, map, Option, None, Some, if◌then◌else◌}
+use Rattle.std.specs.Prelude.{ℕ, ◌==◌, ◌&&◌, ◌||◌, not, Bool, false, List, [], ◌∷◌, ◌++◌, map, Option, None, Some, option_map, if◌then◌else◌}
 use Rattle.std.specs.List.{find, list_any, position_or_len, remove}
 use Rattle.std.specs.Str.{bytes_eq}
 use Rattle.mux_frame.specs.Frames.{Frame}
+use Rattle.mux_frame.specs.declared.frame.Kind.{Kind}
 use Rattle.mux_frame.specs.declared.frame.Kind.TheVariants.{Sabm, Ua, Dm, Disc, Uih}
 use Rattle.mux_capture.specs.declared.packet.Stamp.{Stamp}
 use Rattle.mux_capture.specs.Passing.{Caught}
@@ -11,7 +12,7 @@ use Rattle.mux_station.specs.Written.{is_kind}
 use Rattle.mux_station.specs.Messages.{Message, message_in, is_command, response_of, nsc, cld, brings_command}
 use Rattle.mux_station.specs.Opening.{is_mode_frame_on}
 use Rattle.mux_station.specs.Tables.{is_supported}
-use Rattle.modem_show.specs.Ways.{is_from}
+use Rattle.modem_show.specs.Ways.{is_from, other, sender}
 
 -- a SABM or a DISC, which UA or DM answers
 abbrev pub is_mode_command : Frame → Bool
@@ -104,3 +105,8 @@ waiting r [] = []
 waiting r (c ∷ line) =
     map (excused_by c.frame)
     (if is_from r c then asked_with c.stamp c.frame ++ waiting r line else unanswered_by c.frame (waiting r line))
+
+-- the kind of the frame that a frame answers, behind those that passed before it
+abbrev pub answered_kind : List Caught → Caught → Option Kind
+answered_kind line c =
+    option_map (λ a. a.frame.kind) (answered_by c.frame (waiting (other (sender c.direction)) line))

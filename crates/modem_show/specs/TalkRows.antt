@@ -10,7 +10,7 @@ use Rattle.at_text.specs.declared.unsolicited.UrcKind.TheVariants.{Ring}
 use Rattle.at_text.specs.declared.window.Seen.TheVariants.{Echo, Done, Unsolicited}
 use Rattle.modem_show.specs.declared.told.Told.{Told}
 use Rattle.modem_show.specs.declared.told.Told.TheVariants.{Command, Text, Line}
-use Rattle.modem_show.specs.Rows.{out, back, opened_1, lines_of}
+use Rattle.modem_show.specs.Rows.{out, back, opened_0, opened_1, lines_of}
 use Rattle.modem_show.specs.Talking.{told_in, overlaps, is_unprompted, is_unfinished}
 
 -- what each of these frames tells, the first of which comes first, behind those that passed before
@@ -70,6 +70,12 @@ pub record AreTold : Type 0 where
       which_unprompted
       (told_of_1 (asks at ∷ out Disc 1 [] ∷ back Ua 1 [] ∷ out Sabm 1 [] ∷ back Ua 1 [] ∷ says ok ∷ []))
       ≡ false ∷ true ∷ []
+  -- a SABM that was sent again, whose UA comes behind the command
+  pub sent_again :
+      which_unprompted
+      (told_from [] []
+      (opened_0 ++ (out Sabm 1 [] ∷ out Sabm 1 [] ∷ back Ua 1 [] ∷ asks at ∷ back Ua 1 [] ∷ says ok ∷ [])))
+      ≡ false ∷ false ∷ []
   -- one that crosses the DISC of its connection, or the CLD, answers its command; once that is answered it doesn't
   pub crosses_close :
       which_unprompted (told_of_1 (asks at ∷ out Disc 1 [] ∷ says ok ∷ [])) ≡ false ∷ false ∷ []

@@ -5,8 +5,9 @@ use Rattle.mux_frame.specs.Frames.{Frame}
 use Rattle.mux_frame.specs.declared.dlci.Dlci.{Dlci}
 use Rattle.mux_capture.specs.Passing.{Caught}
 use Rattle.mux_station.specs.Messages.{cld, brings_response}
-use Rattle.mux_station.specs.Written.{is_data_frame, is_on}
-use Rattle.mux_frame.specs.declared.frame.Kind.TheVariants.{Sabm, Ua, Dm}
+use Rattle.mux_station.specs.Written.{is_data_frame, is_kind, is_on}
+use Rattle.mux_frame.specs.declared.frame.Kind.{Kind}
+use Rattle.mux_frame.specs.declared.frame.Kind.TheVariants.{Sabm, Ua, Dm, Disc}
 use Rattle.at_text.specs.Rules.{Rules, dialect_of}
 use Rattle.mux_capture.specs.declared.packet.Direction.{Direction}
 use Rattle.mux_capture.specs.declared.packet.Direction.TheVariants.{ToModem, FromModem}
@@ -15,6 +16,7 @@ use Rattle.at_text.specs.Dialects.{Dialect}
 use Rattle.at_text.specs.declared.window.Seen.TheVariants.{Other}
 use Rattle.at_text.specs.Lines.{lines, kept_run}
 use Rattle.at_text.specs.OpenWindow.{OpenWindow, opened, seen_by, after_line}
+use Rattle.modem_show.specs.Asking.{answered_kind}
 use Rattle.modem_show.specs.declared.told.Told.{Told}
 use Rattle.modem_show.specs.declared.told.Told.TheVariants.{Command, Text, Line}
 
@@ -86,25 +88,31 @@ heard_each dialect d t (octet ∷ octets) = heard_each dialect d (heard dialect 
 abbrev pub silence : Talk
 silence = record { driver = []; modem = []; window = None }
 
--- d begins with this frame, or has ended: what comes before a DISC is answered still belongs to it
-abbrev pub is_turn_on : ℕ → Frame → Bool
-is_turn_on d f = is_on Sabm d f || (is_on Ua d f || is_on Dm d f)
+-- what a frame answers is a DISC
+abbrev pub is_close : Option Kind → Bool
+is_close None = false
+is_close (Some k) = is_kind k Disc
+
+-- d begins with this frame, which answers one of this kind, or has ended: what comes before a DISC is answered still belongs to it, and a UA
+-- to a SABM that was sent again begins nothing
+abbrev pub is_turn_on : Option Kind → ℕ → Frame → Bool
+is_turn_on answered d f = is_on Sabm d f || ((is_on Ua d f && is_close answered) || is_on Dm d f)
 
 -- all connections do so with 0; a CLD ends them once it is answered
-abbrev pub closes_all : Frame → Bool
-closes_all f = is_turn_on 0 f || brings_response cld f
+abbrev pub closes_all : Option Kind → Frame → Bool
+closes_all answered f = is_turn_on answered 0 f || brings_response cld f
 
-abbrev pub starts_afresh : ℕ → Frame → Bool
-starts_afresh d f = closes_all f || is_turn_on d f
+abbrev pub starts_afresh : Option Kind → ℕ → Frame → Bool
+starts_afresh answered d f = closes_all answered f || is_turn_on answered d f
 
 -- the frame has text: it is on a connection, and not on one that is named as one of data
 abbrev pub has_text : List Dlci → Frame → Bool
 has_text data_channels f = is_data_frame f && not (list_any (λ e. e.number == f.dlci) data_channels)
 
--- what is kept of d after a frame
-abbrev pub talk_after : Dialect → List Dlci → ℕ → Talk → Direction → Frame → Talk
-talk_after dialect data_channels d t direction f =
-    if starts_afresh d f then silence
+-- what is kept of d after a frame, which answers one of this kind
+abbrev pub talk_after : Dialect → List Dlci → ℕ → Talk → Direction → Option Kind → Frame → Talk
+talk_after dialect data_channels d t direction answered f =
+    if starts_afresh answered d f then silence
     else if has_text data_channels f && (f.dlci == d) then heard_each dialect direction t f.info
     else t
 
@@ -112,12 +120,12 @@ talk_after dialect data_channels d t direction f =
 abbrev pub talk_of : Dialect → List Dlci → ℕ → List Caught → Talk
 talk_of dialect data_channels d [] = silence
 talk_of dialect data_channels d (c ∷ line) =
-    talk_after dialect data_channels d (talk_of dialect data_channels d line) c.direction c.frame
+    talk_after dialect data_channels d (talk_of dialect data_channels d line) c.direction (answered_kind line c) c.frame
 
 -- what is told of the lines that end in a frame, behind those that passed before it
 abbrev pub told_in : Dialect → List Dlci → List Caught → Caught → List Told
 told_in dialect data_channels line c =
-    if starts_afresh c.frame.dlci c.frame then []
+    if starts_afresh (answered_kind line c) c.frame.dlci c.frame then []
     else if has_text data_channels c.frame
     then told_each dialect c.direction (talk_of dialect data_channels c.frame.dlci line) c.frame.info
     else []
@@ -135,17 +143,17 @@ pub record TalksFit (v : Talks) (line : List Caught) : Type 0 where
   pub each : (d : ℕ) → d < 62 → talk_at v d ≡ talk_of (dialect_of v.rules) v.data_channels d line
 
 -- each connection is kept on by a frame
-pub record TalksAfter (old new : Talks) (direction : Direction) (f : Frame) : Type 0 where
+pub record TalksAfter (old new : Talks) (direction : Direction) (answered : Option Kind) (f : Frame) : Type 0 where
   pub rules : new.rules ≡ old.rules
   pub data_channels : new.data_channels ≡ old.data_channels
   pub each :
       (d : ℕ) → d < 62
-      → talk_at new d ≡ talk_after (dialect_of old.rules) old.data_channels d (talk_at old d) direction f
+      → talk_at new d ≡ talk_after (dialect_of old.rules) old.data_channels d (talk_at old d) direction answered f
 
 -- what is told of the lines that end in a frame, by what is kept
-abbrev pub told_at : Talks → Direction → Frame → List Told
-told_at v direction f =
-    if starts_afresh f.dlci f then []
+abbrev pub told_at : Talks → Direction → Option Kind → Frame → List Told
+told_at v direction answered f =
+    if starts_afresh answered f.dlci f then []
     else if has_text v.data_channels f then told_each (dialect_of v.rules) direction (talk_at v f.dlci) f.info
     else []
 

@@ -34,7 +34,7 @@ pub(crate) fn is_ask(frame: FrameView<'_>) -> bool
 }
 
 /// Whether a frame is an answer.
-pub(crate) fn is_answer(frame: FrameView<'_>) -> bool
+pub fn is_answer(frame: FrameView<'_>) -> bool
     ensures { result ≡ is_answer (frame_of frame.entry) }
 {
     is_mode_answer(frame)

@@ -22,7 +22,7 @@ mod talks;
 mod told;
 mod watcher;
 
-pub use ask::Ask;
+pub use ask::{Ask, is_answer};
 pub use faults::Faults;
 pub use message::{Message, message_of, msc_dlci, msc_stops};
 pub use rule::Rule;

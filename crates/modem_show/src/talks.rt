@@ -5,9 +5,10 @@ ghost use Rattle.mux_frame.specs.Frames.{frame_of};
 ghost use Rattle.mux_capture.specs.Passing.{Caught};
 ghost use Rattle.at_text.specs.Rules.{dialect_of};
 ghost use Rattle.modem_show.specs.Ways.{caught};
-ghost use Rattle.modem_show.specs.Talking.{TalksAfter, TalksFit, closes_all, has_text, is_turn_on, silence, talk_at, talk_of, told_at, told_in};
+ghost use Rattle.modem_show.specs.Asking.{answered_kind};
+ghost use Rattle.modem_show.specs.Talking.{TalksAfter, TalksFit, closes_all, has_text, is_close, is_turn_on, silence, talk_at, talk_of, told_at, told_in};
 
-use crate::message::{answers_close_down, is_data_frame, is_on};
+use crate::message::{answers_close_down, is_data_frame, is_kind, is_on};
 use crate::talk::Talk;
 use crate::told::Told;
 use at_text::Dialect;
@@ -56,18 +57,31 @@ fn reset_each(talks: &mut Vec<Talk>)
     }
 }
 
-/// Whether a connection begins with this frame, or has ended: what comes before a DISC is answered still belongs to it.
-fn is_turn_on(dlci: u8, frame: FrameView<'_>) -> bool
-    ensures { result ≡ is_turn_on dlci (frame_of frame.entry) }
+/// Whether what a frame answers is a DISC.
+fn is_close(answered: Option<Kind>) -> bool
+    ensures { result ≡ is_close answered }
 {
-    is_on(Kind::Sabm, dlci, frame) || is_on(Kind::Ua, dlci, frame) || is_on(Kind::Dm, dlci, frame)
+    match answered {
+        Some(kind) => is_kind(kind, Kind::Disc),
+        None => false,
+    }
+}
+
+/// Whether a connection begins with this frame, which answers one of this kind, or has ended: what comes before a DISC is answered still
+/// belongs to it, and a UA to a SABM that was sent again begins nothing.
+fn is_turn_on(answered: Option<Kind>, dlci: u8, frame: FrameView<'_>) -> bool
+    ensures { result ≡ is_turn_on answered dlci (frame_of frame.entry) }
+{
+    is_on(Kind::Sabm, dlci, frame)
+        || (is_on(Kind::Ua, dlci, frame) && is_close(answered))
+        || is_on(Kind::Dm, dlci, frame)
 }
 
 /// Whether all connections begin with this frame, or have ended.
-fn closes_all(frame: FrameView<'_>) -> bool
-    ensures { result ≡ closes_all (frame_of frame.entry) }
+fn closes_all(answered: Option<Kind>, frame: FrameView<'_>) -> bool
+    ensures { result ≡ closes_all answered (frame_of frame.entry) }
 {
-    is_turn_on(0, frame) || answers_close_down(frame)
+    is_turn_on(answered, 0, frame) || answers_close_down(frame)
 }
 
 /// Whether a connection is one of these.
@@ -103,22 +117,23 @@ impl Talks {
         })
     }
 
-    /// A frame passes: tells the lines that end in it, behind what was told.
+    /// A frame passes, which answers one of this kind: tells the lines that end in it, behind what was told.
     fn step(
         &mut self,
         direction: Direction,
+        answered: Option<Kind>,
         frame: FrameView<'_>,
         out: &mut Vec<Told>,
     ) -> Result<(), AllocError>
-        ensures after { OnOk result (TalksAfter self.old self.new direction (frame_of frame.entry)) }
+        ensures after { OnOk result (TalksAfter self.old self.new direction answered (frame_of frame.entry)) }
         ensures told { OnOk result (
-            out.new.items ≡ out.old.items ++ told_at self.old direction (frame_of frame.entry)) }
+            out.new.items ≡ out.old.items ++ told_at self.old direction answered (frame_of frame.entry)) }
     {
         let talk = usize::from(frame.dlci.number());
-        if closes_all(frame) {
+        if closes_all(answered, frame) {
             reset_each(&mut self.talks);
             Ok(())
-        } else if is_turn_on(frame.dlci.number(), frame) {
+        } else if is_turn_on(answered, frame.dlci.number(), frame) {
             self.talks[talk].reset();
             Ok(())
         } else if has_text(&self.data_channels, frame) {
@@ -128,23 +143,27 @@ impl Talks {
         }
     }
 
-    /// Takes a frame that passed: tells the lines that end in it, behind what was told. After want of memory nothing is said of it.
+    /// Takes a frame that passed, which answers one of this kind (`Watcher::answered`): tells the lines that end in it, behind what was
+    /// told. After want of memory nothing is said of it.
     pub fn pass(
         &mut self,
         stamp: Stamp,
         direction: Direction,
+        answered: Option<Kind>,
         frame: FrameView<'_>,
         out: &mut Vec<Told>,
     ) -> Result<(), AllocError>
         ensures rules { OnOk result (self.new.rules ≡ self.old.rules) }
         ensures data_channels { OnOk result (self.new.data_channels ≡ self.old.data_channels) }
         ensures past { OnOk result ((line : List Caught) → TalksFit self.old line
+            → answered ≡ answered_kind line (caught stamp direction (frame_of frame.entry))
             → TalksFit self.new (caught stamp direction (frame_of frame.entry) ∷ line)) }
         ensures told { OnOk result ((line : List Caught) → TalksFit self.old line
+            → answered ≡ answered_kind line (caught stamp direction (frame_of frame.entry))
             → out.new.items ≡ out.old.items ++ told_in (dialect_of self.old.rules) self.old.data_channels line
             (caught stamp direction (frame_of frame.entry))) }
     {
-        self.step(direction, frame, out)
+        self.step(direction, answered, frame, out)
     }
 
     /// Whether a command is under way on a connection.

@@ -10,6 +10,7 @@ use Rattle.mux_frame.specs.declared.frame.Kind.{Kind}
 use Rattle.mux_capture.specs.Passing.{Caught, Passed}
 use Rattle.mux_capture.specs.declared.packet.Direction.{Direction}
 use Rattle.mux_capture.specs.declared.packet.Stamp.{Stamp}
+use Rattle.modem_show.specs.Asking.{answered_kind}
 use Rattle.modem_show.specs.Judging.{WatchFits, faults_of}
 use Rattle.modem_show.specs.Talking.{TalksFit, told_in}
 use Rattle.modem_show.specs.Ways.{caught}
@@ -20,7 +21,7 @@ use Rattle.show_texts.specs.Complaints.{faults_text, has_fault}
 use Rattle.show_texts.specs.Frames.{event_text}
 use Rattle.show_texts.specs.Lines.{are_wrong}
 use Rattle.show_texts.specs.Tallies.{no_tally, with_frame}
-use Rattle.show_texts.specs.Telling.{Damage, Framed, Item, Setting, Teller, TellerFits, Tells, answered_kind, are_wrong_items, damage_text, data_in, frames_of, is_data_on, items_text, setting_of, tally_at, tally_of, told_by, told_with}
+use Rattle.show_texts.specs.Telling.{Damage, Framed, Item, Setting, Teller, TellerFits, Tells, are_wrong_items, damage_text, data_in, frames_of, is_data_on, items_text, setting_of, tally_at, tally_of, told_by, told_with}
 
 -- the text of a frame by its parts
 texts_alike : (rules : Rules) (s : Stamp) (d : Direction) (f : Frame) (a a2 : Option Kind) (k k2 : Option Stamp) (is is2 : Bool) (told told2 : List Told) (faults faults2 : Faults)
@@ -55,8 +56,8 @@ pub frame_tells : (old mid new : Teller) (s : Stamp) (d : Direction) (f : Frame)
     → ((line : List Caught) → WatchFits old.watch line → WatchFits mid.watch (caught s d f ∷ line))
     → ((line : List Caught) → WatchFits old.watch line → faults ≡ faults_of old.watch.n1 line (caught s d f))
     → ((line : List Caught) → WatchFits old.watch line → answered ≡ answered_kind line (caught s d f))
-    → ((line : List Caught) → TalksFit old.talks line → TalksFit mid.talks (caught s d f ∷ line))
-    → ((line : List Caught) → TalksFit old.talks line → told ≡ told_in (dialect_of old.talks.rules) old.talks.data_channels line (caught s d f))
+    → ((line : List Caught) → TalksFit old.talks line → answered ≡ answered_kind line (caught s d f) → TalksFit mid.talks (caught s d f ∷ line))
+    → ((line : List Caught) → TalksFit old.talks line → answered ≡ answered_kind line (caught s d f) → told ≡ told_in (dialect_of old.talks.rules) old.talks.data_channels line (caught s d f))
     → new ≡ told_by mid s d f answered faults told
     → Tells old new (Framed (caught s d f))
 frame_tells old mid new s d f answered faults told n l mt mx mw e1 e2 e3 hw hf ha ht hs is =
@@ -71,7 +72,7 @@ frame_tells old mid new s d f answered faults told n l mt mx mw e1 e2 e3 hw hf h
           ap (λ (g : Setting). is_data_on g f.dlci) setting_is in
           record {
             watch = hw line h.watch;
-            talks = ht line h.talks;
+            talks = ht line h.talks (ha line h.watch);
             tallies = λ e b.
                 counts_at mid.tallies f.dlci e (with_frame s (tally_at mid.tallies f.dlci) (data_in (is_data_on (setting_of mid) f.dlci) f) told) no_tally (f.dlci == e) (ap (λ (ts : List Tally). length ts) mt ∙ n) l refl
                 ∙ (counted_on f.dlci e (with_frame s (tally_at mid.tallies f.dlci) (data_in (is_data_on (setting_of mid) f.dlci) f) told)
@@ -80,7 +81,7 @@ frame_tells old mid new s d f answered faults told n l mt mx mw e1 e2 e3 hw hf h
                 (λ g.
                 ap (λ (t : Tally). with_frame s t (data_in (is_data_on (setting_of mid) f.dlci) f) told) counts
                 ∙ (ap (λ (x : Bool). with_frame s (tally_of (setting_of old) f.dlci line) (data_in x f) told) on
-                ∙ (ap (λ (x : List Told). with_frame s (tally_of (setting_of old) f.dlci line) (data_in (is_data_on (setting_of old) f.dlci) f) x) (hs line h.talks)
+                ∙ (ap (λ (x : List Told). with_frame s (tally_of (setting_of old) f.dlci line) (data_in (is_data_on (setting_of old) f.dlci) f) x) (hs line h.talks (ha line h.watch))
                 ∙ ap (λ (k : ℕ). with_frame s (tally_of (setting_of old) k line) (data_in (is_data_on (setting_of old) k) f) (told_with (setting_of old) line (caught s d f))) g)))
                 ∙ (ap (λ (t : Tally). if f.dlci == e then with_frame s (tally_of (setting_of old) e line) (data_in (is_data_on (setting_of old) e) f) (told_with (setting_of old) line (caught s d f)) else t)
                 (ap (λ (ts : List Tally). tally_at ts e) mt ∙ h.tallies e b)
@@ -89,14 +90,14 @@ frame_tells old mid new s d f answered faults told n l mt mx mw e1 e2 e3 hw hf h
                 ap (λ (g : Setting). items_text g (Framed (caught s d f) ∷ items)) setting_is
                 ∙ (joined _ _ _ written old.text h.text
                 (texts_alike old.talks.rules s d f answered _ (tally_at mid.tallies f.dlci).asked _ (is_data_on (setting_of mid) f.dlci) _ told _ faults _
-                (ha line h.watch) (ap (λ (t : Tally). t.asked) counts) on (hs line h.talks) (hf line h.watch))
+                (ha line h.watch) (ap (λ (t : Tally). t.asked) counts) on (hs line h.talks (ha line h.watch)) (hf line h.watch))
                 ∙ (ap (λ (x : List ℕ). written ++ (x ++ (event_text old.talks.rules s d answered (tally_at mid.tallies f.dlci).asked (is_data_on (setting_of mid) f.dlci) f told ++ faults_text s d faults f))) (sym mx)
                 ∙ ap (λ (r : Rules). written ++ (mid.text ++ (event_text r s d answered (tally_at mid.tallies f.dlci).asked (is_data_on (setting_of mid) f.dlci) f told ++ faults_text s d faults f))) (sym e2)));
             is_wrong =
                 ap (λ (b : Bool). b || (has_fault faults || are_wrong mid.talks.rules told)) (mw ∙ h.is_wrong)
                 ∙ (ap (λ (r : Rules). are_wrong_items (setting_of old) items || (has_fault faults || are_wrong r told)) e2
                 ∙ (ap (λ (x : Faults). are_wrong_items (setting_of old) items || (has_fault x || are_wrong old.talks.rules told)) (hf line h.watch)
-                ∙ (ap (λ (x : List Told). are_wrong_items (setting_of old) items || (has_fault (faults_of old.watch.n1 line (caught s d f)) || are_wrong old.talks.rules x)) (hs line h.talks)
+                ∙ (ap (λ (x : List Told). are_wrong_items (setting_of old) items || (has_fault (faults_of old.watch.n1 line (caught s d f)) || are_wrong old.talks.rules x)) (hs line h.talks (ha line h.watch))
                 ∙ ap (λ (g : Setting). are_wrong_items g (Framed (caught s d f) ∷ items)) (sym setting_is))));
           };
     })

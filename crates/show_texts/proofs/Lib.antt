@@ -2,3 +2,4 @@ mod FramesTold
 mod LineEnds
 mod RowFacts
 mod Shown
+mod Merged

@@ -7,3 +7,4 @@ pub mod Telling
 pub mod Captures
 pub mod Options
 pub mod Rows
+pub mod Merging

@@ -1,5 +1,5 @@
 -- What is printed of a captured line. Items are the frames and the damage that were captured, the newest first.
-use Rattle.std.specs.Prelude.{◌≡◌, zero, suc, ℕ, ◌<◌, ◌==◌, ◌&&◌, ◌||◌, not, Bool, false, List, [], ◌∷◌, ◌++◌, length, codes, Option, None, Some, option_map, if◌then◌else◌, slice_index_or, slice_set}
+use Rattle.std.specs.Prelude.{◌≡◌, zero, suc, ℕ, ◌<◌, ◌==◌, ◌&&◌, ◌||◌, not, Bool, false, List, [], ◌∷◌, ◌++◌, length, codes, Option, None, Some, if◌then◌else◌, slice_index_or, slice_set}
 use Rattle.std.specs.List.{flat_map, list_any}
 use Rattle.std.specs.Fmt.{decimal}
 use Rattle.hex.specs.Hex.{encode_lower}
@@ -12,11 +12,11 @@ use Rattle.mux_capture.specs.declared.packet.Direction.{Direction}
 use Rattle.mux_capture.specs.declared.packet.Direction.TheVariants.{ToModem, FromModem}
 use Rattle.mux_capture.specs.declared.packet.Stamp.{Stamp}
 use Rattle.mux_station.specs.Written.{is_data_frame}
-use Rattle.modem_show.specs.Asking.{Ask, answered_by, waiting}
+use Rattle.modem_show.specs.Asking.{Ask, answered_kind, waiting}
 use Rattle.modem_show.specs.Judging.{Watch, WatchFits, faults_of}
 use Rattle.modem_show.specs.Rules.{rule_words}
 use Rattle.modem_show.specs.Talking.{Talks, TalksFit, is_unfinished, told_in}
-use Rattle.modem_show.specs.Ways.{other, sender}
+use Rattle.modem_show.specs.Ways.{sender}
 use Rattle.modem_show.specs.declared.faults.Faults.{Faults}
 use Rattle.modem_show.specs.declared.rule.Rule.TheVariants.{Unanswered, Unfinished}
 use Rattle.modem_show.specs.declared.told.Told.{Told}
@@ -51,11 +51,6 @@ is_data_on s d = list_any (λ e. e.number == d) s.data_channels
 -- the lines that end in it
 abbrev pub told_with : Setting → List Caught → Caught → List Told
 told_with s line c = told_in (dialect_of s.rules) s.data_channels line c
-
--- the kind of the frame that it answers
-abbrev pub answered_kind : List Caught → Caught → Option Kind
-answered_kind line c =
-    option_map (λ a. a.frame.kind) (answered_by c.frame (waiting (other (sender c.direction)) line))
 
 -- its octets of data
 abbrev pub data_in : (is_data : Bool) → Frame → ℕ

@@ -39,7 +39,7 @@ fn push_unanswered(
 }
 
 /// Whether there is such a frame.
-fn some_unanswered(asks: &[Ask]) -> bool
+pub(crate) fn some_unanswered(asks: &[Ask]) -> bool
     ensures { result ≡ list_any (λ a. not a.is_excused) asks.now }
 {
     asks.iter().any(|ask| !ask.is_excused())

@@ -13,9 +13,11 @@ mod reading;
 mod run;
 mod tally;
 mod teller;
+mod untimed;
 mod words;
 
 pub use fault::ShowFault;
 pub use run::{ShowOptions, show_run};
 pub use tally::Tally;
 pub use teller::Teller;
+pub use untimed::show_untimed_run;

@@ -119,7 +119,7 @@ fn show<I: Read, W: Write>(
 }
 
 /// Says why a capture isn't shown to its end, and gives the status.
-fn give_up<E: Write>(faults: &mut E, fault: ShowFault) -> u8
+pub(crate) fn give_up<E: Write>(faults: &mut E, fault: ShowFault) -> u8
     ensures status { result ≡ fault_status fault }
     ensures said { IsBegun (E.contents faults.old) (E.contents faults.new) (fault_line fault) }
 {

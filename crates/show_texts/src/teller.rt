@@ -4,10 +4,11 @@ ghost use Rattle.std.specs.String.{string_bytes};
 ghost use Rattle.mux_frame.specs.Frames.{frame_of, kept_frame};
 ghost use Rattle.mux_frame.specs.Reading.{Reads};
 ghost use Rattle.mux_capture.specs.Passing.{Caught, Passed};
+ghost use Rattle.modem_show.specs.Asking.{answered_kind};
 ghost use Rattle.modem_show.specs.Judging.{WatchFits};
 ghost use Rattle.modem_show.specs.Ways.{caught};
 ghost use Rattle.show_texts.specs.Tallies.{no_tally};
-ghost use Rattle.show_texts.specs.Telling.{Framed, TellerFits, Tells, answered_kind, data_in, setting_of, told_by};
+ghost use Rattle.show_texts.specs.Telling.{Framed, TellerFits, Tells, data_in, setting_of, told_by};
 
 use crate::complaint::{either, has_fault, push_faults};
 use crate::event::push_event;
@@ -121,7 +122,8 @@ impl Teller {
         let answered = answered_kind(&self.watcher, direction, frame);
         let faults = self.watcher.see(stamp, direction, frame)?;
         let mut told = Vec::new(self.alloc);
-        self.talks.pass(stamp, direction, frame, &mut told)?;
+        self.talks
+            .pass(stamp, direction, answered, frame, &mut told)?;
         self.tell(stamp, direction, frame, answered, faults, told.as_slice())
     }
 

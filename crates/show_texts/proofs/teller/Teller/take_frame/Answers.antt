@@ -32,9 +32,9 @@ returns c =
     c.in_ok-faults.ensures.past c.in_ok-faults.ensures.faults
     (λ line h. c.answered_kind-answered.ensures c.args.stamp line h)
     c.in_ok-pass.ensures.past
-    (λ line h.
+    (λ line h e.
     c.as_slice.ensures.value
-    ∙ (c.in_ok-pass.ensures.told line h
+    ∙ (c.in_ok-pass.ensures.told line h e
     ∙ ap (λ (l : List Told). l ++ told_in (dialect_of c.self.inside.talks.rules) c.self.inside.talks.data_channels line here) c.new-told.ensures.items))
     is)
     c.tell.ensures
