@@ -1,10 +1,10 @@
+pub mod Entry
 pub mod HeldLine
 pub mod InMux
 pub mod Leaving
 pub mod MuxStates
 pub mod Muxes
 pub mod Plain
-pub mod Requests
 pub mod Saying
 pub mod Serving
 pub mod Standing

@@ -4,24 +4,24 @@
 //! # Layout
 //!
 //! - `serving`, `writing`, `fault`: a modem on a reader and a writer. `server`: the same, octets in and octets out.
-//! - `plain`, `requests`: plain lines. `mux`, `held_line`, `history`: in the multiplexer. `first_frame`: where one ends. `steps`: scripts.
+//! - `plain`, `entry`: plain lines. `mux`, `held_line`, `history`: in the multiplexer. `first_frame`: where one ends. `steps`: scripts.
 //! - `watching`: captures.
 //! - `laws`.
 #![tactic(auto)]
 
+mod entry;
 mod fault;
 mod held_line;
 mod history;
 mod mux;
 mod plain;
-mod requests;
 mod server;
 mod serving;
 mod steps;
 mod watching;
 mod writing;
 
+pub use entry::mux_entry;
 pub use fault::{BadOption, ServeFault};
 pub use plain::PlainMode;
-pub use requests::{MuxRequest, mux_request};
 pub use serving::{SimOptions, sim_captured, sim_run};

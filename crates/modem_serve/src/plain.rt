@@ -1,19 +1,20 @@
 //! A modem at plain command lines.
 ghost use Rattle.std.specs.Prelude.{◌≡◌, ◌≤◌, ◌<◌, ◌++◌, ◌∷◌, [], None, length, take, option_map, IfOk, OnOk};
-ghost use Rattle.at_text.specs.Lines.{kept_run, lines};
-ghost use Rattle.modem_serve.specs.Plain.{entered_by, entered_by_all, modem_by, modem_by_all, plain_after, plain_begun, n1_by, octets_of, plain_octet, repeated_as, said_by, said_to, said_to_all};
+ghost use Rattle.at_text.specs.Lines.{cut, is_line_end};
+ghost use Rattle.modem_serve.specs.Plain.{begins_with_at, ended_by, entered_by_ended, from_at, may_begin, modem_by, modem_by_ended, plain_after, plain_begun, plain_octet, repeated_as, run_by, said_entering, said_to, said_to_ended};
+ghost use Rattle.modem_sim.specs.CommandLines.{is_letter_a, is_letter_t};
 ghost use Rattle.modem_sim.specs.Pieces.{framed};
-ghost use Rattle.modem_serve.specs.Requests.{asked_of, mux_request};
+ghost use Rattle.modem_serve.specs.Entry.{mux_entry, octets_of};
 
-use crate::requests::{MuxRequest, mux_request};
-use at_text::LineReader;
+use crate::entry::mux_entry;
 use modem_sim::{Modem, reply};
 use mux_frame::N1;
 use std::alloc::{AllocError, Global};
 use std::marker::Model;
+use std::mem;
 
-/// What the multiplexer takes (27.007, 5.7).
-const RANGES: &[u8] = b"+CMUX: (0),(0),(1-8),(31-32767),(1-255),(0-100),(2-255),(1-255)";
+/// So many octets are kept of a line.
+const LINE_LEN: usize = 512;
 
 /// A modem at plain command lines. Contracts see all that octets make of it; of octets behind a line that enters the multiplexer it
 /// takes none.
@@ -21,7 +22,8 @@ const RANGES: &[u8] = b"+CMUX: (0),(0),(1-8),(31-32767),(1-255),(0-100),(2-255),
 pub struct PlainMode {
     alloc: Global,
     n1: N1,
-    reader: LineReader,
+    /// What is kept of the line that hasn't ended.
+    run: Vec<u8>,
     modem: Modem,
     said: Vec<u8>,
     entered: Option<N1>,
@@ -29,18 +31,73 @@ pub struct PlainMode {
 
 impl Model for PlainMode {
     ghost use Rattle.std.specs.Prelude.{[], option_map};
-    ghost use Rattle.modem_serve.specs.Plain.{Plain, octets_of};
+    ghost use Rattle.modem_serve.specs.Entry.{octets_of};
+    ghost use Rattle.modem_serve.specs.Plain.{Plain};
 
     ghost Value = { Plain };
 
     ghost view = { λ p. record {
       n1 = p.n1.octets;
-      run = p.reader;
+      run = p.run.items;
       modem = p.modem;
       said = p.said.items;
       entered = option_map octets_of p.entered;
       behind = [];
     } };
+}
+
+/// Whether it is an A.
+fn is_letter_a(octet: u8) -> bool
+    ensures { result ≡ is_letter_a octet }
+{
+    octet == b'A' || octet == b'a'
+}
+
+/// Whether it is a T.
+fn is_letter_t(octet: u8) -> bool
+    ensures { result ≡ is_letter_t octet }
+{
+    octet == b'T' || octet == b't'
+}
+
+/// Whether octets begin with `AT`, its letters in either case.
+fn begins_with_at(octets: &[u8]) -> bool
+    ensures { result ≡ begins_with_at octets.now }
+{
+    match octets {
+        [a, t, ..] => is_letter_a(*a) && is_letter_t(*t),
+        _ => false,
+    }
+}
+
+/// Whether they do with octets behind them.
+fn may_begin(octets: &[u8]) -> bool
+    ensures { result ≡ may_begin octets.now }
+{
+    match octets {
+        [] => true,
+        [a] => is_letter_a(*a),
+        [a, t, ..] => is_letter_a(*a) && is_letter_t(*t),
+    }
+}
+
+/// Whether it ends a line (V.250, 6.2.1, 6.2.2).
+fn is_line_end(octet: u8) -> bool
+    ensures { result ≡ is_line_end octet }
+{
+    octet == b'\r' || octet == b'\n'
+}
+
+/// Keeps one more octet of a line. Octets before `AT` are passed over (V.250, 5.2.1).
+fn keep(run: &mut Vec<u8>, octet: u8) -> Result<(), AllocError>
+    ensures { OnOk result (run.new.items ≡ cut (from_at (run.old.items ++ octet ∷ []))) }
+{
+    run.push(octet)?;
+    while !may_begin(run) {
+        run.remove(0);
+    }
+    run.truncate(LINE_LEN);
+    Ok(())
 }
 
 /// Writes a line repeated, where that is on.
@@ -64,32 +121,17 @@ fn push_framed(text: &[u8], out: &mut Vec<u8>) -> Result<(), AllocError>
     Ok(())
 }
 
-/// Answers a line that asks this of the multiplexer.
-fn answer_request(
-    request: MuxRequest,
-    echo: bool,
-    line: &[u8],
-    out: &mut Vec<u8>,
-) -> Result<Option<N1>, AllocError>
-    ensures said { OnOk result (out.new.items ≡ out.old.items ++ said_by (asked_of request) echo line.now) }
-    ensures entered { IfOk result (λ entered. option_map octets_of entered ≡ n1_by (asked_of request)) }
+/// Writes what is said to a line that enters the multiplexer.
+#[tactic(auto, unfolding(crate::specs::Plain::said_entering))]
+fn push_entering(echo: bool, line: &[u8], out: &mut Vec<u8>) -> Result<(), AllocError>
+    ensures { OnOk result (out.new.items ≡ out.old.items ++ said_entering echo line.now) }
 {
     push_repeated(echo, line, out)?;
-    match request {
-        MuxRequest::Ranges => {
-            push_framed(RANGES, out)?;
-            push_framed(b"OK", out)?;
-            Ok(None)
-        }
-        MuxRequest::Enter(n1) => {
-            push_framed(b"OK", out)?;
-            Ok(Some(n1))
-        }
-    }
+    push_framed(b"OK", out)
 }
 
 /// Answers a line; gives the N1 of the multiplexer where it enters that. After an error nothing is said of modem and octets.
-#[tactic(auto, using(crate::proofs::Answering::said_none, crate::proofs::Answering::said_some))]
+#[tactic(auto, using(crate::proofs::Answering::said_none))]
 fn answer(
     alloc: Global,
     n1: N1,
@@ -98,13 +140,15 @@ fn answer(
     out: &mut Vec<u8>,
 ) -> Result<Option<N1>, AllocError>
     ensures said { OnOk result
-        (out.new.items ≡ out.old.items ++ said_to (mux_request n1.octets line.now) modem.old line.now) }
-    ensures modem { OnOk result (modem.new ≡ modem_by (mux_request n1.octets line.now) modem.old line.now) }
-    ensures entered { IfOk result
-        (λ entered. option_map octets_of entered ≡ entered_by (mux_request n1.octets line.now)) }
+        (out.new.items ≡ out.old.items ++ said_to (mux_entry n1.octets line.now) modem.old line.now) }
+    ensures modem { OnOk result (modem.new ≡ modem_by (mux_entry n1.octets line.now) modem.old line.now) }
+    ensures entered { IfOk result (λ entered. option_map octets_of entered ≡ mux_entry n1.octets line.now) }
 {
-    match mux_request(alloc, n1, line)? {
-        Some(request) => Ok(answer_request(request, modem.echoes(false), line, out)?),
+    match mux_entry(alloc, n1, line)? {
+        Some(entered) => {
+            push_entering(modem.echoes(false), line, out)?;
+            Ok(Some(entered))
+        }
         None => match reply(modem, false, line, out) {
             Ok(()) => Ok(None),
             Err(_) => Err(AllocError),
@@ -112,26 +156,31 @@ fn answer(
     }
 }
 
-/// Reads an octet, and answers the line that it ends, if it ends one.
+/// Reads an octet, and answers the command line that it ends, if it ends one.
 fn read_octet(
     alloc: Global,
     n1: N1,
-    reader: &mut LineReader,
+    run: &mut Vec<u8>,
     modem: &mut Modem,
     octet: u8,
     out: &mut Vec<u8>,
 ) -> Result<Option<N1>, AllocError>
-    ensures run { OnOk result (reader.new ≡ kept_run (reader.old ++ octet ∷ [])) }
+    ensures run { OnOk result (run.new.items ≡ run_by run.old.items octet) }
     ensures said { OnOk result
-        (out.new.items ≡ out.old.items ++ said_to_all n1.octets modem.old (lines (reader.old ++ octet ∷ []))) }
-    ensures modem { OnOk result (modem.new ≡ modem_by_all n1.octets modem.old (lines (reader.old ++ octet ∷ []))) }
+        (out.new.items ≡ out.old.items ++ said_to_ended n1.octets modem.old (ended_by run.old.items octet)) }
+    ensures modem { OnOk result (modem.new ≡ modem_by_ended n1.octets modem.old (ended_by run.old.items octet)) }
     ensures entered { IfOk result
-        (λ entered. option_map octets_of entered ≡ entered_by_all n1.octets (lines (reader.old ++ octet ∷ []))) }
+        (λ entered. option_map octets_of entered ≡ entered_by_ended n1.octets (ended_by run.old.items octet)) }
 {
-    let Some(line) = reader.push(octet) else {
+    if !is_line_end(octet) {
+        keep(run, octet)?;
         return Ok(None);
-    };
-    answer(alloc, n1, modem, line.text, out)
+    }
+    let line = mem::replace(run, Vec::new(alloc));
+    if !begins_with_at(&line) {
+        return Ok(None);
+    }
+    answer(alloc, n1, modem, &line, out)
 }
 
 impl PlainMode {
@@ -142,7 +191,7 @@ impl PlainMode {
         PlainMode {
             alloc,
             n1,
-            reader: LineReader::new(),
+            run: Vec::new(alloc),
             modem,
             said: Vec::new(alloc),
             entered: None,
@@ -157,7 +206,7 @@ impl PlainMode {
         self.entered = read_octet(
             self.alloc,
             self.n1,
-            &mut self.reader,
+            &mut self.run,
             &mut self.modem,
             octet,
             &mut self.said,

@@ -2,7 +2,8 @@ use Rattle.std.proofs.Common.{◌++◌, ◌≡◌, ap, sym, ◌∙◌, refl, tak
 use Rattle.std.proofs.lemmas.List.{take_rest}
 use Rattle.std.specs.Prelude.{option_map}
 use Rattle.modem_serve.specs.declared.server.Mode.TheVariants.{Lines}
-use Rattle.modem_serve.specs.Plain.{Plain, octets_of}
+use Rattle.modem_serve.specs.Entry.{octets_of}
+use Rattle.modem_serve.specs.Plain.{Plain}
 use Rattle.modem_serve.specs.Standing.{setting_by, unsaid}
 use Rattle.modem_serve.proofs.Stepping.{entered, moves_on, split_steps, stays}
 use Rattle.modem_serve.proofs.server.take_lines.Goals as goal

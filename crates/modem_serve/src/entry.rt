@@ -1,20 +1,11 @@
-//! What a command line asks of the multiplexer (27.007, 5.7).
+//! The command that enters the multiplexer (27.007, 5.7).
 ghost use Rattle.std.specs.Prelude.{◌≡◌, ◌≤◌, option_map, IfOk};
-ghost use Rattle.modem_serve.specs.Requests.{Read, asked_of, digit_read, entered_with, entering, is_basic, is_between, is_good, mux_request, n1_of, none_read, number_so_far, parameter_ended, parameter_octet, request_in};
+ghost use Rattle.modem_serve.specs.Entry.{Read, digit_read, entered_by, entered_with, entering, is_basic, is_between, is_good, mux_entry, n1_of, none_read, number_so_far, octets_of, parameter_ended, parameter_octet};
 
 use modem_sim::commands_in;
 use mux_frame::N1;
 use std::alloc::{AllocError, Global};
 use std::marker::Model;
-
-/// What a command line asks of the multiplexer.
-#[derive(Clone, Copy)]
-pub enum MuxRequest {
-    /// `AT+CMUX=?`: what values its parameters take.
-    Ranges,
-    /// `AT+CMUX=0` with or without further parameters, each in its range: enters the basic option, with this N1.
-    Enter(N1),
-}
 
 /// Whether a parameter is left out, or between these.
 fn is_between(low: u32, high: u32, number: Option<u32>) -> bool
@@ -110,10 +101,10 @@ impl Parameters {
     }
 }
 
-/// What parameters ask that enter the multiplexer; N1 is this where they leave it out.
-#[tactic(auto, unfolding(crate::specs::Requests::entering))]
-fn entering(n1: N1, text: &[u8]) -> Option<MuxRequest>
-    ensures { option_map asked_of result ≡ entering n1.octets text.now }
+/// The N1 of the basic option that these parameters enter, each in its range; it is this where they leave it out.
+#[tactic(auto, unfolding(crate::specs::Entry::entering))]
+fn entering(n1: N1, text: &[u8]) -> Option<N1>
+    ensures { option_map octets_of result ≡ entering n1.octets text.now }
 {
     let mut parameters = Parameters {
         place: 0,
@@ -126,19 +117,16 @@ fn entering(n1: N1, text: &[u8]) -> Option<MuxRequest>
     }
     parameters.end();
     if parameters.good {
-        Some(MuxRequest::Enter(parameters.n1))
+        Some(parameters.n1)
     } else {
         None
     }
 }
 
-/// What one command asks.
-fn request_in(n1: N1, command: &[u8]) -> Option<MuxRequest>
-    ensures { option_map asked_of result ≡ request_in n1.octets command.now }
+/// The N1 of the multiplexer that one command enters, if it enters it.
+fn entered_by(n1: N1, command: &[u8]) -> Option<N1>
+    ensures { option_map octets_of result ≡ entered_by n1.octets command.now }
 {
-    if command.eq_ignore_ascii_case(b"AT+CMUX=?") {
-        return Some(MuxRequest::Ranges);
-    }
     let (head, parameters) = command.split_at_checked(8)?;
     if !head.eq_ignore_ascii_case(b"AT+CMUX=") {
         return None;
@@ -149,10 +137,10 @@ fn request_in(n1: N1, command: &[u8]) -> Option<MuxRequest>
 /// So many octets are kept of a line; one that is as long is taken for longer.
 const TOO_LONG: usize = 512;
 
-/// What a command line asks of the multiplexer, if its only command asks something and it isn't too long. Where the line names no N1,
-/// it is `n1`. Where a parameter is out of its range it asks nothing, and is answered as any other line.
-pub fn mux_request(alloc: Global, n1: N1, line: &[u8]) -> Result<Option<MuxRequest>, AllocError>
-    ensures { IfOk result (λ asked. option_map asked_of asked ≡ mux_request n1.octets line.now) }
+/// The N1 of the multiplexer that a command line enters, if its only command does and it isn't too long: `AT+CMUX=0` with or without
+/// further parameters, each in its range. Where it names no N1, that is `n1`. Any other line is the modem's.
+pub fn mux_entry(alloc: Global, n1: N1, line: &[u8]) -> Result<Option<N1>, AllocError>
+    ensures { IfOk result (λ entered. option_map octets_of entered ≡ mux_entry n1.octets line.now) }
 {
     if line.len() >= TOO_LONG {
         return Ok(None);
@@ -161,7 +149,7 @@ pub fn mux_request(alloc: Global, n1: N1, line: &[u8]) -> Result<Option<MuxReque
         return Ok(None);
     };
     match commands.as_slice() {
-        [command] => Ok(request_in(n1, command.as_slice())),
+        [command] => Ok(entered_by(n1, command.as_slice())),
         _ => Ok(None),
     }
 }

@@ -1,21 +1,15 @@
--- What a command line asks of the multiplexer (27.007, 5.7).
+-- The command that enters the multiplexer (27.007, 5.7).
 use Rattle.std.specs.Prelude.{ℕ, ◌+◌, ◌-◌, ◌*◌, ◌==◌, ◌&&◌, nat_lt, nat_le, Bool, true, false, List, [], ◌∷◌, take, drop, fold, Option, Some, None, if◌then◌else◌, codes}
 use Rattle.std.specs.Str.{bytes_eq}
 use Rattle.at_text.specs.Octets.{is_comma, is_digit}
 use Rattle.modem_sim.specs.CommandLines.{commands_in}
 use Rattle.modem_sim.specs.Reading.{lowered}
 use Rattle.modem_sim.specs.Steps.{is_too_long}
-use Rattle.modem_serve.specs.declared.requests.MuxRequest.{MuxRequest}
-use Rattle.modem_serve.specs.declared.requests.MuxRequest.TheVariants as code
+use Rattle.mux_frame.specs.declared.n1.N1.{N1}
 
--- what is asked: the ranges of the parameters; or the multiplexer, with this N1
-pub data Asked : Type 0 where
-  Ranges : Asked
-  Enter : ℕ → Asked
-
-abbrev pub asked_of : MuxRequest → Asked
-asked_of code.Ranges = Ranges
-asked_of (code.Enter n1) = Enter n1.octets
+-- N1 as a number
+abbrev pub octets_of : N1 → ℕ
+octets_of n1 = n1.octets
 
 -- a parameter is left out or between these
 abbrev pub is_between : ℕ → ℕ → Option ℕ → Bool
@@ -81,25 +75,22 @@ parameter_octet r c =
 abbrev pub none_read : ℕ → Read
 none_read n1 = record { place = 0; digits = None; n1 = n1; good = true }
 
-abbrev pub entered_with : Read → Option Asked
-entered_with r = if r.good then Some (Enter r.n1) else None
+abbrev pub entered_with : Read → Option ℕ
+entered_with r = if r.good then Some r.n1 else None
 
--- parameters that enter the basic option
-unfoldable pub entering : ℕ → List ℕ → Option Asked
+-- the N1 of the basic option that parameters enter
+unfoldable pub entering : ℕ → List ℕ → Option ℕ
 entering n1 text = entered_with (parameter_ended (fold parameter_octet (none_read n1) text))
 
--- what one command asks, its letters in either case
-abbrev pub request_in : ℕ → List ℕ → Option Asked
-request_in n1 command =
-    if bytes_eq (lowered command) (codes "at+cmux=?") then Some Ranges
-    else if bytes_eq (lowered (take 8 command)) (codes "at+cmux=") then entering n1 (drop 8 command)
-    else None
+-- the N1 of the multiplexer that one command enters, its letters in either case
+abbrev pub entered_by : ℕ → List ℕ → Option ℕ
+entered_by n1 command = if bytes_eq (lowered (take 8 command)) (codes "at+cmux=") then entering n1 (drop 8 command) else None
 
--- a line asks it whose only command does
-abbrev pub asked_by : ℕ → Option (List (List ℕ)) → Option Asked
-asked_by n1 (Some (command ∷ [])) = request_in n1 command
-asked_by n1 _ = None
+-- a line enters it whose only command does
+abbrev pub entered_by_one : ℕ → Option (List (List ℕ)) → Option ℕ
+entered_by_one n1 (Some (command ∷ [])) = entered_by n1 command
+entered_by_one n1 _ = None
 
--- a line that is too long asks nothing
-abbrev pub mux_request : ℕ → List ℕ → Option Asked
-mux_request n1 line = if is_too_long line then None else asked_by n1 (commands_in line)
+-- a line that is too long enters nothing
+abbrev pub mux_entry : ℕ → List ℕ → Option ℕ
+mux_entry n1 line = if is_too_long line then None else entered_by_one n1 (commands_in line)
