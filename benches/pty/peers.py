@@ -15,6 +15,7 @@ sys.path.insert(0, str(pathlib.Path(__file__).resolve().parent))
 from mux import FLAG, POLL, UIH, check_octet  # noqa: E402
 
 failures = []
+ENDS = {">": "client", "<": "modem"}
 
 
 def check(what, holds, seen=""):
@@ -54,7 +55,7 @@ class Place:
         path = self.folder / name
         if not program:
             subprocess.run([TOP / "modemctl", "prove"], stdin=subprocess.DEVNULL, check=True)
-            program = f"{TOP}/modemctl sim"
+            program = f"{TOP}/modemctl sim --capture {path}.pcap"
         kept = ["-r", f"{path}.sent", "-R", f"{path}.said"]
         self.start("socat", *kept, f"pty,raw,echo=0,link={path}", f"EXEC:{program}", log=f"{name}.socat")
         self.await_path(path)
@@ -90,6 +91,24 @@ class Place:
         talk = self.talk(name)
         others = dict.fromkeys(f"{line.decode(errors='replace').strip()} ({(code or b'nothing').decode()})" for _, line, code in talk if code != b"OK")
         print(f"{len(talk)} command lines; not answered by OK: {'; '.join(others) or 'none'}")
+
+    def complaints(self, name="modem"):
+        """What `modemctl show` complains of in the modem's capture: who is complained of, the rule, and the frame. None where there is no capture."""
+        file = self.folder / f"{name}.pcap"
+        if not file.exists():
+            return None
+        shown = subprocess.run([TOP / "modemctl", "show", "--strict", file], capture_output=True, text=True, timeout=30)
+        check("its capture is shown", shown.returncode in (0, 3) and not shown.stderr, shown.stderr)
+        found = []
+        for line in shown.stdout.splitlines():
+            way, _, rest = line.partition(" ! ")
+            if rest:
+                rule, _, frame = rest.partition(" ")[2].partition(": ")
+                found.append((ENDS[way.split(" ")[-1]], rule, frame))
+        for end, rule, _frame in dict.fromkeys((*it[:2], "") for it in found):
+            frames = [it[2] for it in found if it[:2] == (end, rule)]
+            print(f"        the {end}: {rule}: {len(frames)} times, {', '.join(dict.fromkeys(frames[:3]))}", flush=True)
+        return found
 
     @staticmethod
     def await_path(path):

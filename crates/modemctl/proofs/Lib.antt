@@ -1,3 +1,4 @@
 pub mod FileFaults
 pub mod Stops
 pub mod TextFiles
+pub mod ShownFiles

@@ -7,8 +7,6 @@ use Rattle.modem_sim.specs.declared.script.Step.{Step}
 use Rattle.modem_runs.specs.Steps.{GivesSteps}
 use Rattle.modem_runs.specs.Printed.{IsBenched, IsFramed, IsPrinted}
 use Rattle.modem_serve.specs.declared.serving.SimOptions.{SimOptions}
-use Rattle.modem_serve.specs.Leaving.{IsServedInPart}
-use Rattle.modem_serve.specs.Serving.{IsServed}
 use Rattle.modemctl.specs.Dialects.{PrintsActs}
 use Rattle.modemctl.specs.Words.{IsGiven, raw_in, text_in}
 
@@ -59,27 +57,3 @@ pub record AreMatched (texts : Text → Option (List ℕ)) (n1 : ℕ) (m : ArgMa
   pub pin_is : options.pin ≡ first_value (found_of m) (codes "pin")
   pub echo_is : IsFlag (one_text (found_of m) (codes "echo")) options.echo
   pub steps_are : AreScripted texts (first_value (found_of m) (codes "script")) options.steps
-
--- a client was served so, by a modem with the options of the words
-pub record ServesClient (texts : Text → Option (List ℕ)) (met : Option (Text × List Row)) (input before after : Option (List ℕ)) : Type 0 where
-  pub options : SimOptions
-  pub given : AreGiven texts met options
-  pub served : IsServed options input before after
-
--- a client was served so, by a modem with the options that the matches of the subcommand have
-pub record ServesWith (texts : Text → Option (List ℕ)) (n1 : ℕ) (m : ArgMatches) (input before after : Option (List ℕ)) : Type 0 where
-  pub options : SimOptions
-  pub matched : AreMatched texts n1 m options
-  pub served : IsServed options input before after
-
--- a client was left at a fault, by a modem with the options of the words
-pub record LeavesClient (texts : Text → Option (List ℕ)) (met : Option (Text × List Row)) (input rest before after : Option (List ℕ)) : Type 0 where
-  pub options : SimOptions
-  pub given : AreGiven texts met options
-  pub left : IsServedInPart options input rest before after
-
--- a client was left at a fault, by a modem with the options that the matches of the subcommand have
-pub record LeavesWith (texts : Text → Option (List ℕ)) (n1 : ℕ) (m : ArgMatches) (input rest before after : Option (List ℕ)) : Type 0 where
-  pub options : SimOptions
-  pub matched : AreMatched texts n1 m options
-  pub left : IsServedInPart options input rest before after

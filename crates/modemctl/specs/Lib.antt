@@ -1,6 +1,8 @@
-pub mod Dialects
 pub mod Benches
-pub mod Words
 pub mod Captures
+pub mod Dialects
 pub mod Drives
 pub mod Files
+pub mod Sims
+pub mod Words
+pub mod Shows

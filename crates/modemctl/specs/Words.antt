@@ -3,7 +3,7 @@ use Rattle.std.specs.Prelude.{◌≡◌, ◌⊎◌, ◌||◌, ℕ, pos, Bool, tr
 use Rattle.std.specs.Fmt.{decimal}
 use Rattle.std.specs.Str.{bytes_eq}
 use Rattle.clap.specs.Words.{App, IsAmong, Kinds, Row, Rule, Text, first_of, one_of, fault_of, new_app, new_rule, subcommand_of, with_rule, with_subcommand}
-use Rattle.clap.specs.declared.builder.ArgAction.TheVariants.{Set, SetTrue}
+use Rattle.clap.specs.declared.builder.ArgAction.TheVariants.{Append, Set, SetTrue}
 use Rattle.clap.specs.declared.error.ErrorKind.TheVariants.{DisplayHelp, DisplayVersion}
 use Rattle.clap.specs.declared.builder.ValueParser.TheVariants.{Signed}
 
@@ -139,9 +139,40 @@ drive_app =
     (with_rule (with_rule (with_rule (with_rule (with_rule (subcommand_app (codes "drive")) tick_rule) quiet_rule) entry_rule) dialect_rule) capture_rule)
     device_rule
 
--- the program, with its five subcommands
+-- the same with a drive
+abbrev pub with_five : App
+with_five = with_subcommand with_four drive_app.top
+
+-- the option `--data`: a number from 1 to 61, as often as is wanted
+abbrev pub data_rule : Rule
+data_rule = record (new_rule (codes "data")) {
+  long = Some (codes "data");
+  action = Some Append;
+  value_names = 1;
+  parser = Some (Signed (pos 1) (pos 61));
+}
+
+-- the option `--strict`, which has no value
+abbrev pub strict_rule : Rule
+strict_rule = record (new_rule (codes "strict")) { long = Some (codes "strict"); action = Some SetTrue }
+
+-- the option `--raw`: a text
+abbrev pub raw_rule : Rule
+raw_rule = record (new_rule (codes "raw")) { long = Some (codes "raw"); action = Some Set; value_names = 1 }
+
+-- the file, a word that has to be there
+abbrev pub file_rule : Rule
+file_rule = record (new_rule (codes "file")) { action = Some Set; value_names = 1; required = true }
+
+-- the subcommand with these, `--n1` and `--dialect`
+abbrev pub show_app : App
+show_app =
+    with_rule (with_rule (with_rule (with_rule (with_rule (subcommand_app (codes "show")) dialect_rule) data_rule) strict_rule) raw_rule)
+    file_rule
+
+-- the program, with its six subcommands
 abbrev pub program_app : App
-program_app = with_subcommand with_four drive_app.top
+program_app = with_subcommand with_five show_app.top
 
 -- what is wrong with words, or the help that they ask for; nothing where they name a subcommand to run
 abbrev pub fault_in : List Text → Kinds

@@ -1,15 +1,20 @@
 //! The words of the program.
-ghost use Rattle.std.specs.Prelude.{◌≡◌, ◌≢◌, ◌<◌, ◌≤◌, ◌⊎◌, Bool, [], map, Some, IfOk, false, codes, true};
+ghost use Rattle.std.specs.Prelude.{◌≡◌, ◌≢◌, ◌<◌, ◌≤◌, ◌⊎◌, Bool, [], map, Some, IfOk, false, codes, is_some, true};
 ghost use Rattle.std.specs.String.{string_bytes};
-ghost use Rattle.clap.specs.Words.{kind_of, subcommand_name_of, subcommand_rows_of};
+ghost use Rattle.clap.specs.Words.{first_value, found_of, kind_of, subcommand_name_of, subcommand_rows_of};
 ghost use Rattle.modem_runs.specs.Printed.{IsBenched, IsPrinted};
+ghost use Rattle.modem_runs.specs.Statuses.{stop_line};
 ghost use Rattle.modem_runs.specs.Stopping.{HasGivenUp};
-ghost use Rattle.modem_serve.specs.Leaving.{IsServedInPart};
+ghost use Rattle.modem_serve.specs.Leaving.{SaysBad};
 ghost use Rattle.modem_serve.specs.Serving.{IsServed};
-ghost use Rattle.modemctl.specs.Benches.{LeavesClient, LeavesWith, PrintsBench, PrintsFrames, PrintsReplay, ServesClient, ServesWith, plain_script};
+ghost use Rattle.modem_serve.specs.Watching.{CapturesClient};
+ghost use Rattle.modem_texts.specs.Writing.{IsBegun};
+ghost use Rattle.modemctl.specs.Benches.{PrintsBench, PrintsFrames, PrintsReplay, plain_script};
 ghost use Rattle.modemctl.specs.Dialects.{IsShut};
 ghost use Rattle.modemctl.specs.Drives.{PrintsDrive};
 ghost use Rattle.modemctl.specs.Files.{NamesCause};
+ghost use Rattle.modemctl.specs.Sims.{FailsClient, HasBadMatched, HasNoCapture, IsNotBegun, LeavesClient, LeavesWith, RefusesClient, SaysBadStep, ServesClient, ServesWith, number_line};
+ghost use Rattle.modemctl.specs.Shows.{IsShutFile, PrintsShow, SaysUnshown};
 ghost use Rattle.modemctl.specs.Words.{fault_in, met_in, raw_in, AreFor, AsksNoHelp, HasNoNumber, is_explained};
 
 mod commands;
@@ -21,6 +26,7 @@ mod help;
 mod numbers;
 mod options;
 mod reasons;
+mod showing;
 mod sims;
 mod text_files;
 
@@ -29,12 +35,14 @@ use clap::{ArgMatches, Error};
 use commands::program;
 use dialects::replay_words;
 use driving::drive_words;
-use files::{capture_at, refuse_capture, refuse_script, steps_of};
+use files::{capture_at, refuse_capture, steps_of};
 use modem_runs::{Stop, bench_run_explained, frames_run_explained, give_up};
 use modem_serve::{SimOptions, sim_captured, sim_run};
 use modem_sim::{Script, Steps};
+use modem_texts::say_line;
 use numbers::{Numbers, numbers_of};
 use reasons::wants_reason;
+use showing::show_words;
 use sims::{echo_of, pin_of};
 use std::alloc::{AllocGlobal, Global};
 use std::fs::File;
@@ -79,6 +87,9 @@ fn explain<W: Write, E: Write>(
     ensures wrong { kind_of error.now ≢ ErrorKind.DisplayHelp
         → kind_of error.now ≢ ErrorKind.DisplayVersion → 0 < result }
     ensures bad { result ≡ 2 → output.new ≡ output.old }
+    ensures quiet { result ≡ 0 → faults.new ≡ faults.old }
+    ensures cause { kind_of error.now ≡ ErrorKind.OutOfMemory
+        → IsBegun (E.contents faults.old) (E.contents faults.new) (stop_line Stop.NoMemory) }
     ensures nothing { result ≡ 1 → (explained : Bool)
         → HasGivenUp explained output.old output.new (E.contents faults.old) (E.contents faults.new) result }
 {
@@ -97,11 +108,14 @@ fn explain<W: Write, E: Write>(
 
 /// Says of which option the number isn't one, and gives the status.
 fn refuse<E: Write>(faults: &mut E, option: &str) -> u8
-    ensures { result ≡ 2 }
+    ensures status { result ≡ 2 }
+    ensures said { IsBegun (E.contents faults.old) (E.contents faults.new) (number_line option.now) }
 {
-    let _ = writeln!(
+    say_line(
         faults,
-        "error: --{option} takes a number in decimal, without a sign and leading zeros"
+        "error: --",
+        option,
+        " takes a number in decimal, without a sign and leading zeros",
     );
     2
 }
@@ -124,6 +138,7 @@ where
         (I.remaining input.old) (W.contents output.old) (W.contents output.new) }
     ensures nothing { result ≡ 1 → HasGivenUp explained output.old output.new (E.contents faults.old)
         (E.contents faults.new) result }
+    ensures silent { result ≡ 0 → faults.new ≡ faults.old }
 {
     let script = Script {
         echo: false,
@@ -158,14 +173,19 @@ where
     ensures status { result ≤ 2 }
     ensures bad { result ≡ 2 → output.new ≡ output.old }
     ensures served { result ≡ 0 → IsServed options (I.remaining input.old) (W.contents output.old) (W.contents output.new) }
-    ensures left { result ≡ 1 → ((input.new ≡ input.old) × (output.new ≡ output.old))
-        ⊎ IsServedInPart options (I.remaining input.old) (I.remaining input.new) (W.contents output.old)
-        (W.contents output.new) }
+    ensures captured { result ≡ 0 → CapturesClient (is_some (first_value (found_of matches.now) (codes "capture"))) options
+        (I.remaining input.old) (W.contents output.old) (W.contents output.new) }
+    ensures silent { result ≡ 0 → faults.new ≡ faults.old }
+    ensures left { result ≡ 1 → ((input.new ≡ input.old) × (output.new ≡ output.old)
+        × HasNoCapture (first_value (found_of matches.now) (codes "capture")) (E.contents faults.old) (E.contents faults.new))
+        ⊎ FailsClient (is_some (first_value (found_of matches.now) (codes "capture"))) options (I.remaining input.old)
+        (I.remaining input.new) (W.contents output.old) (W.contents output.new) (E.contents faults.old) (E.contents faults.new) }
+    ensures told { result ≡ 2 → SaysBad options (E.contents faults.old) (E.contents faults.new) }
 {
     let Some(path) = matches.get_str("capture") else {
         return sim_run(alloc, input, output, faults, options);
     };
-    match capture_at(rt, alloc, path) {
+    match capture_at(rt, alloc, path, options.n1) {
         Ok(capture) => {
             let (status, _) = sim_captured(rt, alloc, input, output, faults, options, capture);
             status
@@ -190,23 +210,22 @@ where
     ensures bad { result ≡ 2 → output.new ≡ output.old }
     ensures served { result ≡ 0 → ServesWith (R.text_of rt.now) n1 matches.now (I.remaining input.old) (W.contents output.old)
         (W.contents output.new) }
-    ensures left { result ≡ 1 → ((input.new ≡ input.old) × (output.new ≡ output.old))
+    ensures silent { result ≡ 0 → faults.new ≡ faults.old }
+    ensures left { result ≡ 1 → IsNotBegun (first_value (found_of matches.now) (codes "script"))
+        (first_value (found_of matches.now) (codes "capture")) input.old input.new output.old output.new (E.contents faults.old)
+        (E.contents faults.new)
         ⊎ LeavesWith (R.text_of rt.now) n1 matches.now (I.remaining input.old) (I.remaining input.new) (W.contents output.old)
-        (W.contents output.new) }
+        (W.contents output.new) (E.contents faults.old) (E.contents faults.new) }
+    ensures told { result ≡ 2
+        → SaysBadStep (R.text_of rt.now) (first_value (found_of matches.now) (codes "script")) (E.contents faults.old) (E.contents faults.new)
+        ⊎ HasBadMatched (R.text_of rt.now) n1 matches.now (E.contents faults.old) (E.contents faults.new) }
 {
     let Ok(pin) = pin_of(alloc, matches) else {
         return give_up(faults, Stop::NoMemory);
     };
-    let steps = match steps_of(rt, alloc, matches) {
+    let steps = match steps_of(rt, alloc, matches, faults) {
         Ok(steps) => steps,
-        Err(fault) => {
-            return refuse_script(
-                alloc,
-                faults,
-                matches.get_str("script").unwrap_or(""),
-                fault,
-            );
-        }
+        Err(status) => return status,
     };
     let options = SimOptions {
         n1,
@@ -241,11 +260,13 @@ where
         + Drop
         + 'static,
     J: Read + Send + Drop + 'static,
-    ensures status { result ≤ 2 }
+    ensures status { result ≤ 3 }
+    ensures three { result ≡ 3 → subcommand_name_of matches.now ≡ Some (codes "show") }
     ensures bad { result ≡ 2 → subcommand_name_of matches.now ≢ Some (codes "drive") → output.new ≡ output.old }
     ensures unread { HasNoNumber (subcommand_rows_of matches.now) → input.new ≡ input.old }
     ensures nothing { result ≡ 1 → subcommand_name_of matches.now ≢ Some (codes "sim")
         → subcommand_name_of matches.now ≢ Some (codes "drive") → subcommand_name_of matches.now ≢ Some (codes "replay")
+        → subcommand_name_of matches.now ≢ Some (codes "show")
         → HasGivenUp (is_explained terminal (subcommand_rows_of matches.now)) output.old output.new (E.contents faults.old)
         (E.contents faults.new) result }
     ensures unreplayed { result ≡ 1 → subcommand_name_of matches.now ≡ Some (codes "replay")
@@ -273,16 +294,33 @@ where
     ensures sim { result ≡ 0 → subcommand_name_of matches.now ≡ Some (codes "sim")
         → ServesClient (R.text_of rt.now) (subcommand_rows_of matches.now) (I.remaining input.old) (W.contents output.old)
         (W.contents output.new) }
+    ensures silent { result ≡ 0 → (subcommand_name_of matches.now ≡ Some (codes "drive") → ⊥) → faults.new ≡ faults.old }
     ensures sim_left { result ≡ 1 → subcommand_name_of matches.now ≡ Some (codes "sim")
-        → ((input.new ≡ input.old) × (output.new ≡ output.old))
+        → IsNotBegun (raw_in (subcommand_rows_of matches.now) (codes "script"))
+        (raw_in (subcommand_rows_of matches.now) (codes "capture")) input.old input.new output.old output.new
+        (E.contents faults.old) (E.contents faults.new)
         ⊎ LeavesClient (R.text_of rt.now) (subcommand_rows_of matches.now) (I.remaining input.old) (I.remaining input.new)
-        (W.contents output.old) (W.contents output.new) }
+        (W.contents output.old) (W.contents output.new) (E.contents faults.old) (E.contents faults.new) }
+    ensures sim_bad { result ≡ 2 → subcommand_name_of matches.now ≡ Some (codes "sim")
+        → RefusesClient (R.text_of rt.now) (subcommand_rows_of matches.now) (E.contents faults.old) (E.contents faults.new) }
     ensures drive { result ≡ 0 → subcommand_name_of matches.now ≡ Some (codes "drive")
         → PrintsDrive (R.text_of rt.now) (subcommand_rows_of matches.now) (W.contents output.old) (W.contents output.new)
         (E.contents faults.old) (E.contents faults.new) false }
     ensures drive_bad { result ≡ 2 → subcommand_name_of matches.now ≡ Some (codes "drive") → (output.new ≡ output.old)
         ⊎ PrintsDrive (R.text_of rt.now) (subcommand_rows_of matches.now) (W.contents output.old) (W.contents output.new)
         (E.contents faults.old) (E.contents faults.new) true }
+    ensures show { (result ≡ 0) ⊎ (result ≡ 3) → subcommand_name_of matches.now ≡ Some (codes "show")
+        → PrintsShow (R.text_of rt.now) (subcommand_rows_of matches.now) (W.contents output.old) (W.contents output.new) result }
+    ensures show_silent { (result ≡ 0) ⊎ (result ≡ 3) → subcommand_name_of matches.now ≡ Some (codes "show")
+        → faults.new ≡ faults.old }
+    ensures unshown { result ≡ 1 → subcommand_name_of matches.now ≡ Some (codes "show")
+        → SaysUnshown (raw_in (subcommand_rows_of matches.now) (codes "dialect")) (raw_in (subcommand_rows_of matches.now) (codes "raw"))
+        (raw_in (subcommand_rows_of matches.now) (codes "file")) (E.contents faults.old) (E.contents faults.new) result }
+    ensures show_shut { subcommand_name_of matches.now ≡ Some (codes "show")
+        → IsShut (R.is_shut rt.now) (raw_in (subcommand_rows_of matches.now) (codes "dialect"))
+        ⊎ (IsShutFile (R.is_shut rt.now) (raw_in (subcommand_rows_of matches.now) (codes "file"))
+        ⊎ IsShutFile (R.is_shut rt.now) (raw_in (subcommand_rows_of matches.now) (codes "raw")))
+        → (0 < result) × ((result ≤ 2) × (output.new ≡ output.old)) }
 {
     let Some((name, given)) = matches.subcommand() else {
         return 2;
@@ -300,12 +338,13 @@ where
         "bench" => bench_plain(rt, alloc, numbers, input, output, faults, explained),
         "sim" => sim_words(rt, alloc, given, numbers.n1, input, output, faults),
         "drive" => drive_words(rt, given, numbers.n1, lines, output, faults),
+        "show" => show_words(rt, alloc, given, numbers.n1, output, faults),
         _ => 2,
     }
 }
 
 /// Runs the subcommand that the words name, the program's own name before them, and gives the exit
-/// status: 0 where it is done, 1 at a fault, 2 at bad words or a bad line. `lines` reads the same input from the thread that `drive` starts.
+/// status: 0 where it is done, 1 at a fault, 2 at bad words or a bad line, 3 at a complaint of a strict `show`. `lines` reads the same input from the thread that `drive` starts.
 /// `terminal` says whether what `faults` writes to is a terminal: then the reason is said of what goes wrong.
 pub fn run<R, I: Read, J, W: Write, E: Write>(
     rt: &R,
@@ -330,7 +369,8 @@ where
         + Drop
         + 'static,
     J: Read + Send + Drop + 'static,
-    ensures status { result ≤ 2 }
+    ensures status { result ≤ 3 }
+    ensures three { result ≡ 3 → AreFor (codes "show") (map string_bytes words.now) }
     ensures bad { result ≡ 2 → (AreFor (codes "drive") (map string_bytes words.now) → ⊥) → output.new ≡ output.old }
     ensures wrong { fault_in (map string_bytes words.now) ≢ []
         → AsksNoHelp (fault_in (map string_bytes words.now)) → 0 < result }
@@ -340,6 +380,7 @@ where
     ensures nothing { result ≡ 1 → (AreFor (codes "sim") (map string_bytes words.now) → ⊥)
         → (AreFor (codes "drive") (map string_bytes words.now) → ⊥)
         → (AreFor (codes "replay") (map string_bytes words.now) → ⊥)
+        → (AreFor (codes "show") (map string_bytes words.now) → ⊥)
         → HasGivenUp (is_explained terminal (met_in (map string_bytes words.now))) output.old output.new (E.contents faults.old)
         (E.contents faults.new) result }
     ensures unreplayed { result ≡ 1 → AreFor (codes "replay") (map string_bytes words.now)
@@ -367,16 +408,33 @@ where
     ensures sim { result ≡ 0 → AreFor (codes "sim") (map string_bytes words.now)
         → ServesClient (R.text_of rt.now) (met_in (map string_bytes words.now)) (I.remaining input.old) (W.contents output.old)
         (W.contents output.new) }
+    ensures silent { result ≡ 0 → (AreFor (codes "drive") (map string_bytes words.now) → ⊥) → faults.new ≡ faults.old }
     ensures sim_left { result ≡ 1 → AreFor (codes "sim") (map string_bytes words.now)
-        → ((input.new ≡ input.old) × (output.new ≡ output.old))
+        → IsNotBegun (raw_in (met_in (map string_bytes words.now)) (codes "script"))
+        (raw_in (met_in (map string_bytes words.now)) (codes "capture")) input.old input.new output.old output.new
+        (E.contents faults.old) (E.contents faults.new)
         ⊎ LeavesClient (R.text_of rt.now) (met_in (map string_bytes words.now)) (I.remaining input.old) (I.remaining input.new)
-        (W.contents output.old) (W.contents output.new) }
+        (W.contents output.old) (W.contents output.new) (E.contents faults.old) (E.contents faults.new) }
+    ensures sim_bad { result ≡ 2 → AreFor (codes "sim") (map string_bytes words.now)
+        → RefusesClient (R.text_of rt.now) (met_in (map string_bytes words.now)) (E.contents faults.old) (E.contents faults.new) }
     ensures drive { result ≡ 0 → AreFor (codes "drive") (map string_bytes words.now)
         → PrintsDrive (R.text_of rt.now) (met_in (map string_bytes words.now)) (W.contents output.old) (W.contents output.new)
         (E.contents faults.old) (E.contents faults.new) false }
     ensures drive_bad { result ≡ 2 → AreFor (codes "drive") (map string_bytes words.now) → (output.new ≡ output.old)
         ⊎ PrintsDrive (R.text_of rt.now) (met_in (map string_bytes words.now)) (W.contents output.old) (W.contents output.new)
         (E.contents faults.old) (E.contents faults.new) true }
+    ensures show { (result ≡ 0) ⊎ (result ≡ 3) → AreFor (codes "show") (map string_bytes words.now)
+        → PrintsShow (R.text_of rt.now) (met_in (map string_bytes words.now)) (W.contents output.old) (W.contents output.new) result }
+    ensures show_silent { (result ≡ 0) ⊎ (result ≡ 3) → AreFor (codes "show") (map string_bytes words.now)
+        → faults.new ≡ faults.old }
+    ensures unshown { result ≡ 1 → AreFor (codes "show") (map string_bytes words.now)
+        → SaysUnshown (raw_in (met_in (map string_bytes words.now)) (codes "dialect")) (raw_in (met_in (map string_bytes words.now)) (codes "raw"))
+        (raw_in (met_in (map string_bytes words.now)) (codes "file")) (E.contents faults.old) (E.contents faults.new) result }
+    ensures show_shut { AreFor (codes "show") (map string_bytes words.now)
+        → IsShut (R.is_shut rt.now) (raw_in (met_in (map string_bytes words.now)) (codes "dialect"))
+        ⊎ (IsShutFile (R.is_shut rt.now) (raw_in (met_in (map string_bytes words.now)) (codes "file"))
+        ⊎ IsShutFile (R.is_shut rt.now) (raw_in (met_in (map string_bytes words.now)) (codes "raw")))
+        → (0 < result) × ((result ≤ 2) × (output.new ≡ output.old)) }
 {
     let command = match program(alloc) {
         Ok(command) => command,

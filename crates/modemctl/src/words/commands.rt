@@ -1,7 +1,7 @@
 //! The words that the program takes: its subcommands, and their options.
 ghost use Rattle.std.specs.Prelude.{◌≡◌, IfOk};
 ghost use Rattle.clap.specs.Words.{app_of, with_subcommand, AddsSubcommand};
-ghost use Rattle.modemctl.specs.Words.{bench_app, drive_app, frames_app, program_app, replay_app, sim_app, with_four, with_one, with_three, with_two};
+ghost use Rattle.modemctl.specs.Words.{bench_app, drive_app, frames_app, program_app, replay_app, sim_app, with_five, with_four, with_one, with_three, with_two};
 
 use crate::words::dialects::dialect_option;
 use crate::words::driving::drive_command;
@@ -9,6 +9,7 @@ use crate::words::files::{capture_option, script_option};
 use crate::words::help;
 use crate::words::options::{callers_option, cut_option, n1_option};
 use crate::words::reasons::explain_option;
+use crate::words::showing::show_command;
 use crate::words::sims::{echo_option, pin_option};
 use clap::Command;
 use std::alloc::{AllocError, Global};
@@ -102,10 +103,18 @@ fn four_commands<'a>(alloc: Global) -> Result<Command<'a>, AllocError>
     three_commands(alloc)?.subcommand(sim)
 }
 
+/// The same with a drive.
+fn five_commands<'a>(alloc: Global) -> Result<Command<'a>, AllocError>
+    ensures { IfOk result (λ c. app_of c ≡ with_five) }
+{
+    let drive = drive_command(alloc)?;
+    four_commands(alloc)?.subcommand(drive)
+}
+
 /// The program with all of them.
 pub fn program<'a>(alloc: Global) -> Result<Command<'a>, AllocError>
     ensures { IfOk result (λ c. app_of c ≡ program_app) }
 {
-    let drive = drive_command(alloc)?;
-    four_commands(alloc)?.subcommand(drive)
+    let show = show_command(alloc)?;
+    five_commands(alloc)?.subcommand(show)
 }

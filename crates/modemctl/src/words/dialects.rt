@@ -124,6 +124,7 @@ where
     ensures nothing { result ≡ 1
         → NamesCause explained (first_value (found_of matches.now) (codes "dialect")) output.old output.new (E.contents faults.old)
         (E.contents faults.new) result }
+    ensures silent { result ≡ 0 → faults.new ≡ faults.old }
 {
     let Some(name) = matches.get_str("dialect") else {
         return replay_run_explained(alloc, input, output, faults, n1, explained);

@@ -1,12 +1,13 @@
 //! The files of `sim`: the script of its modem, and the capture.
-ghost use Rattle.std.specs.Prelude.{◌≡◌, ◌<◌, ◌≤◌, ◌++◌, IfOk, Some, codes, false, true};
+ghost use Rattle.std.specs.Prelude.{◌≡◌, ℕ, ◌<◌, ◌≤◌, ◌++◌, IfErr, IfOk, List, OnOk, Option, Some, codes, false, true};
 ghost use Rattle.std.specs.Fmt.{decimal};
 ghost use Rattle.clap.specs.Words.{first_value, found_of, rule_of};
 ghost use Rattle.modem_texts.specs.LineFaults.{bad_line, reason_line};
 ghost use Rattle.modem_texts.specs.Writing.{IsBegun};
 ghost use Rattle.modemctl.specs.Benches.{AreScripted};
-ghost use Rattle.modemctl.specs.Captures.{SaysNoCapture};
+ghost use Rattle.modemctl.specs.Captures.{HasBegunWith, SaysNoCapture};
 ghost use Rattle.modemctl.specs.Files.{IsNoText};
+ghost use Rattle.modemctl.specs.Sims.{IsOfScript, SaysBadStep, bad_step_of};
 ghost use Rattle.modemctl.specs.Words.{capture_rule, script_rule};
 
 use crate::words::file_faults::{FileFault, refuse_file, refuse_text};
@@ -15,8 +16,8 @@ use clap::{Arg, ArgAction, ArgMatches};
 use itoa::Buffer;
 use modem_runs::{LineFault, Stop, steps_from};
 use modem_sim::Steps;
-use modem_texts::say_bad_line;
-use mux_capture::{Capture, CaptureFault};
+use modem_texts::{say_bad_line, say_line};
+use mux_capture::Capture;
 use std::alloc::Global;
 use std::fs::File;
 use std::io::{ErrorKind, Write};
@@ -46,17 +47,11 @@ pub fn capture_option<'a>(alloc: Global) -> Arg<'a>
         .action(ArgAction::Set)
 }
 
-/// The steps of the script that the words name; none where they name none.
-pub fn steps_of<R: TextFiles>(
-    rt: &R,
-    alloc: Global,
-    matches: &ArgMatches<'_>,
-) -> Result<Steps, TextFault>
-    ensures { IfOk result (AreScripted (R.text_of rt.now) (first_value (found_of matches.now) (codes "script"))) }
+/// The steps of the script of this path.
+fn steps_at<R: TextFiles>(rt: &R, alloc: Global, path: &str) -> Result<Steps, TextFault>
+    ensures given { IfOk result (AreScripted (R.text_of rt.now) (Some path.now)) }
+    ensures refused { IfErr result (IsOfScript (R.text_of rt.now path.now)) }
 {
-    let Some(path) = matches.get_str("script") else {
-        return Ok(Steps::from(Vec::new(alloc)));
-    };
     let mut file = match rt.open_text(path) {
         Ok(file) => file,
         Err(error) => return Err(TextFault::Closed(error.kind())),
@@ -76,18 +71,69 @@ fn say_bad_step<E: Write>(faults: &mut E, place: u64, why: LineFault)
     say_bad_line(faults, digits.format(place), "the script: ", why);
 }
 
+/// The bad line of a script, where that is the fault: its number, and what has to stand there.
+fn bad_step_of(fault: TextFault) -> Option<(u64, LineFault)>
+    ensures { result ≡ bad_step_of fault }
+{
+    match fault {
+        TextFault::Stopped(Stop::BadLine(place, why)) => Some((place, why)),
+        _ => None,
+    }
+}
+
 /// Says why the script of this path gives no steps, with the reason on a second line, and gives the status.
-pub fn refuse_script<E: Write>(alloc: Global, faults: &mut E, path: &str, fault: TextFault) -> u8
+fn refuse_script<E: Write>(alloc: Global, faults: &mut E, path: &str, fault: TextFault) -> u8
     ensures some { 0 < result }
     ensures status { result ≤ 2 }
     ensures said { result ≡ 1 → IsNoText true (codes "script") (Some path.now) (E.contents faults.old) (E.contents faults.new) result }
+    ensures told { result ≡ 2 → (texts : List ℕ → Option (List ℕ)) → IsOfScript (texts path.now) fault
+        → SaysBadStep texts (Some path.now) (E.contents faults.old) (E.contents faults.new) }
 {
-    match fault {
-        TextFault::Stopped(Stop::BadLine(place, why)) => {
-            say_bad_step(faults, place, why);
-            2
-        }
-        other => refuse_text(alloc, faults, "script", path, other, true),
+    let Some((place, why)) = bad_step_of(fault) else {
+        return refuse_text(alloc, faults, "script", path, fault, true);
+    };
+    say_bad_step(faults, place, why);
+    2
+}
+
+/// The steps of the script of this path. Where it gives none it says why, with the reason on a second line, and gives the status.
+fn steps_by<R: TextFiles, E: Write>(
+    rt: &R,
+    alloc: Global,
+    path: &str,
+    faults: &mut E,
+) -> Result<Steps, u8>
+    ensures given { IfOk result (AreScripted (R.text_of rt.now) (Some path.now)) }
+    ensures silent { OnOk result (faults.new ≡ faults.old) }
+    ensures bad { IfErr result (λ status. (0 < status) × (status ≤ 2)) }
+    ensures refused { IfErr result (λ status. status ≡ 1 → IsNoText true (codes "script") (Some path.now) (E.contents faults.old) (E.contents faults.new) status) }
+    ensures told { IfErr result (λ status. status ≡ 2
+        → SaysBadStep (R.text_of rt.now) (Some path.now) (E.contents faults.old) (E.contents faults.new)) }
+{
+    match steps_at(rt, alloc, path) {
+        Ok(steps) => Ok(steps),
+        Err(fault) => Err(refuse_script(alloc, faults, path, fault)),
+    }
+}
+
+/// The steps of the script that the words name; none where they name none. Where it gives none it says why, and gives the status.
+pub fn steps_of<R: TextFiles, E: Write>(
+    rt: &R,
+    alloc: Global,
+    matches: &ArgMatches<'_>,
+    faults: &mut E,
+) -> Result<Steps, u8>
+    ensures given { IfOk result (AreScripted (R.text_of rt.now) (first_value (found_of matches.now) (codes "script"))) }
+    ensures silent { OnOk result (faults.new ≡ faults.old) }
+    ensures bad { IfErr result (λ status. (0 < status) × (status ≤ 2)) }
+    ensures refused { IfErr result (λ status. status ≡ 1 → IsNoText true (codes "script") (first_value (found_of matches.now) (codes "script"))
+        (E.contents faults.old) (E.contents faults.new) status) }
+    ensures told { IfErr result (λ status. status ≡ 2 → SaysBadStep (R.text_of rt.now) (first_value (found_of matches.now) (codes "script"))
+        (E.contents faults.old) (E.contents faults.new)) }
+{
+    match matches.get_str("script") {
+        Some(path) => steps_by(rt, alloc, path, faults),
+        None => Ok(Steps::from(Vec::new(alloc))),
     }
 }
 
@@ -97,17 +143,23 @@ pub enum NoCapture {
     /// Its file can't be made.
     Closed(ErrorKind),
     /// Its head can't be written.
-    Begun(CaptureFault),
+    Unwritten,
 }
 
-/// A capture into the file of this path. The file is made, or emptied where there is one.
+/// A capture into the file of this path, which reads frames by this N1. The file is made, or emptied where there is one.
 pub fn capture_at<R: Files<File = File>>(
     rt: &R,
     alloc: Global,
     path: &str,
-) -> Result<Capture<File>, NoCapture> {
+    n1: u16,
+) -> Result<Capture<File>, NoCapture>
+    ensures { IfOk result (HasBegunWith n1) }
+{
     match File::create(rt, path) {
-        Ok(file) => Capture::begin(alloc, file).map_err(NoCapture::Begun),
+        Ok(file) => match Capture::with_n1(alloc, file, n1) {
+            Ok(capture) => Ok(capture),
+            Err(_) => Err(NoCapture::Unwritten),
+        },
         Err(error) => Err(NoCapture::Closed(error.kind())),
     }
 }
@@ -122,8 +174,8 @@ pub fn refuse_capture<E: Write>(alloc: Global, faults: &mut E, path: &str, fault
             let fault = FileFault::Unmade(kind);
             refuse_file(alloc, faults, "fault: ", "capture", path, fault)
         }
-        NoCapture::Begun(fault) => {
-            let _ = writeln!(faults, "{fault}");
+        NoCapture::Unwritten => {
+            say_line(faults, "fault: capture", "", "");
             1
         }
     }

@@ -23,3 +23,7 @@ pub const SIM: &str =
 /// Behind the help of `drive`.
 pub const DRIVE: &str =
     "Set the terminal up first: stty -F DEVICE raw -echo min 0 time 1 -crtscts clocal -hupcl\n\nEach line of the input is a connection from 1 to 61, a blank and a command.\n\nAn interrupt can't be caught: the modem then stays in the multiplexer. The next drive begins with a CLD frame if nothing answers it.\n\nExample: printf '1 AT+CSQ\\n' | modemctl drive /dev/ttyUSB0\n\nExit status: 0 all is done; 1 a fault, named on standard error; 2 bad words, a bad line, or a bad file of --dialect.\ndocs/modemctl.1 has what it does with the terminal and the modem, docs/FORMATS.md its output.";
+
+/// Behind the help of `show`.
+pub const SHOW: &str =
+    "Example: modemctl show --strict capture.pcap\n\nExit status: 0 all is shown; 1 a fault; 2 bad words, or no capture; 3 there is a complaint, where --strict is given.\ndocs/FORMATS.md has the lines, under \"show\".";

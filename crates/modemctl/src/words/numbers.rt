@@ -26,8 +26,8 @@ pub struct Numbers {
 
 /// A number that is written in decimal, without a sign and leading zeros.
 #[derive(Drop)]
-struct Decimal {
-    number: u16,
+pub struct Decimal {
+    pub number: u16,
 }
 
 /// A text isn't a decimal number.

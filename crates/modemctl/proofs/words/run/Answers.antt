@@ -9,10 +9,12 @@ use Rattle.modem_runs.specs.declared.stop.Stop.TheVariants as Stop
 use Rattle.modem_runs.proofs.outputs.SaidLines.{begun_line}
 use Rattle.modem_runs.proofs.outputs.StoppedRuns.{gave_up}
 use Rattle.modem_runs.specs.Stopping.{HasGivenUp}
-use Rattle.modemctl.specs.Benches.{LeavesClient, PrintsBench, PrintsFrames, PrintsReplay, ServesClient}
+use Rattle.modemctl.specs.Benches.{PrintsBench, PrintsFrames, PrintsReplay}
 use Rattle.modemctl.specs.Dialects.{IsShut}
 use Rattle.modemctl.specs.Drives.{PrintsDrive}
-use Rattle.modemctl.specs.Files.{NamesCause}
+use Rattle.modemctl.specs.Files.{IsNoText, NamesCause}
+use Rattle.modemctl.specs.Sims.{IsNotBegun, LeavesClient, RefusesClient, ServesClient}
+use Rattle.modemctl.specs.Shows.{IsShutFile, PrintsShow, SaysUnshown, all_in}
 use Rattle.modemctl.proofs.words.run.Goals as goal
 
 simple : is_simple program_app ≡ true
@@ -56,14 +58,29 @@ returns-in-Ok-try_get_matches_from-clause-sim g c zero for =
     subst (λ (m : Option (Text × List Row)). ServesClient (g.R.TextFiles.text_of c.args.rt.now) m (g.I.Read.remaining c.args.input.now) (g.W.Write.contents c.args.output.now) (g.W.Write.contents c.run_named.new.output)) (met c.in-Ok-try_get_matches_from.matches _ _ c.in-Ok.ensures (λ e. (c.in-Ok-try_get_matches_from.ensures.matches e).1))
     (c.run_named.ensures.sim zero (named c.in-Ok-try_get_matches_from.matches _ _ c.in-Ok.ensures (λ e. (c.in-Ok-try_get_matches_from.ensures.matches e).1) ∙ for.1))
 
-leaves : {P : Type 0} (texts : Text → Option (List ℕ)) (a b : Option (Text × List Row)) (input rest before after : Option (List ℕ)) → a ≡ b → P ⊎ LeavesClient texts a input rest before after → P ⊎ LeavesClient texts b input rest before after
-leaves {P} texts a b input rest before after same h = subst (λ (m : Option (Text × List Row)). P ⊎ LeavesClient texts m input rest before after) same h
+leaves : {I O : Type 0} (texts : Text → Option (List ℕ)) (a b : Option (Text × List Row)) (input rest before after told_before told_after : Option (List ℕ)) (was is : I) (old new : O) → a ≡ b
+    → IsNotBegun (raw_in a (codes "script")) (raw_in a (codes "capture")) was is old new told_before told_after ⊎ LeavesClient texts a input rest before after told_before told_after
+    → IsNotBegun (raw_in b (codes "script")) (raw_in b (codes "capture")) was is old new told_before told_after ⊎ LeavesClient texts b input rest before after told_before told_after
+leaves texts a b input rest before after told_before told_after was is old new same h =
+    subst
+    (λ (m : Option (Text × List Row)). IsNotBegun (raw_in m (codes "script")) (raw_in m (codes "capture")) was is old new told_before told_after ⊎ LeavesClient texts m input rest before after told_before told_after)
+    same h
 
 pub returns-in-Ok-try_get_matches_from-clause-sim_left :
     goal.returns-in-Ok-try_get_matches_from-clause-sim_left
 returns-in-Ok-try_get_matches_from-clause-sim_left g c one for =
-    leaves _ _ _ _ _ _ _ (met c.in-Ok-try_get_matches_from.matches _ _ c.in-Ok.ensures (λ e. (c.in-Ok-try_get_matches_from.ensures.matches e).1))
+    leaves _ _ _ _ _ _ _ _ _ _ _ _ _ (met c.in-Ok-try_get_matches_from.matches _ _ c.in-Ok.ensures (λ e. (c.in-Ok-try_get_matches_from.ensures.matches e).1))
     (c.run_named.ensures.sim_left one (named c.in-Ok-try_get_matches_from.matches _ _ c.in-Ok.ensures (λ e. (c.in-Ok-try_get_matches_from.ensures.matches e).1) ∙ for.1))
+
+pub returns-in-Ok-try_get_matches_from-clause-sim_bad :
+    goal.returns-in-Ok-try_get_matches_from-clause-sim_bad
+returns-in-Ok-try_get_matches_from-clause-sim_bad g c two for =
+    subst (λ (m : Option (Text × List Row)). RefusesClient (g.R.TextFiles.text_of c.args.rt.now) m (g.E.Write.contents c.args.faults.now) (g.E.Write.contents c.run_named.new.faults)) (met c.in-Ok-try_get_matches_from.matches _ _ c.in-Ok.ensures (λ e. (c.in-Ok-try_get_matches_from.ensures.matches e).1))
+    (c.run_named.ensures.sim_bad two (named c.in-Ok-try_get_matches_from.matches _ _ c.in-Ok.ensures (λ e. (c.in-Ok-try_get_matches_from.ensures.matches e).1) ∙ for.1))
+
+pub returns-in-Err-try_get_matches_from-clause-silent :
+    goal.returns-in-Err-try_get_matches_from-clause-silent
+returns-in-Err-try_get_matches_from-clause-silent g c zero other = c.explain.ensures.quiet zero
 
 pub returns-in-Ok-try_get_matches_from-clause-drive :
     goal.returns-in-Ok-try_get_matches_from-clause-drive
@@ -109,7 +126,18 @@ by_memory k kinds has none = ⊎_elim (λ (m : k ≡ OutOfMemory). m) (λ (a : I
 pub returns-in-Err-try_get_matches_from-clause-sim_left :
     goal.returns-in-Err-try_get_matches_from-clause-sim_left
 returns-in-Err-try_get_matches_from-clause-sim_left g c one for =
-    inl (refl, c.explain.ensures.silent (by_memory _ _ (at_program (λ kinds. HasKind kinds c.in-Err-try_get_matches_from.error) _ _ c.in-Ok.ensures c.in-Err-try_get_matches_from.ensures.kinds) for.0))
+    let memory = by_memory _ _ (at_program (λ kinds. HasKind kinds c.in-Err-try_get_matches_from.error) _ _ c.in-Ok.ensures c.in-Err-try_get_matches_from.ensures.kinds) for.0 in
+    inl (record { unread = refl; nothing = c.explain.ensures.silent memory; said = inl (c.explain.ensures.cause memory) })
+
+pub returns-in-Err-clause-sim_left : goal.returns-in-Err-clause-sim_left
+returns-in-Err-clause-sim_left g c one for = inl (record { unread = refl; nothing = refl; said = inl c.give_up.ensures.said })
+
+pub returns-in-Err-try_get_matches_from-clause-sim_bad :
+    goal.returns-in-Err-try_get_matches_from-clause-sim_bad
+returns-in-Err-try_get_matches_from-clause-sim_bad g c two for =
+    let memory = by_memory _ _ (at_program (λ kinds. HasKind kinds c.in-Err-try_get_matches_from.error) _ _ c.in-Ok.ensures c.in-Err-try_get_matches_from.ensures.kinds) for.0 in
+    let one = c.explain.ensures.memory memory in
+    absurd (omega (arith, one, two))
 
 pub returns-in-Ok-try_get_matches_from-clause-wrong :
     goal.returns-in-Ok-try_get_matches_from-clause-wrong
@@ -171,19 +199,19 @@ returns-in-Ok-try_get_matches_from-clause-no_number g c right none =
 
 pub returns-in-Ok-try_get_matches_from-clause-nothing :
     goal.returns-in-Ok-try_get_matches_from-clause-nothing
-returns-in-Ok-try_get_matches_from-clause-nothing g c one no_sim no_drive no_replay =
+returns-in-Ok-try_get_matches_from-clause-nothing g c one no_sim no_drive no_replay no_show =
     let right = at_program (λ kinds. kinds ≡ []) _ _ c.in-Ok.ensures c.in-Ok-try_get_matches_from.ensures.kinds in
     let name = sym (named c.in-Ok-try_get_matches_from.matches _ _ c.in-Ok.ensures (λ e. (c.in-Ok-try_get_matches_from.ensures.matches e).1)) in
     subst (λ (m : Option (Text × List Row)). HasGivenUp (is_explained c.args.terminal m) c.args.output.now c.run_named.new.output (g.E.Write.contents c.args.faults.now) (g.E.Write.contents c.run_named.new.faults) c.run_named.result) (met c.in-Ok-try_get_matches_from.matches _ _ c.in-Ok.ensures (λ e. (c.in-Ok-try_get_matches_from.ensures.matches e).1))
-    (c.run_named.ensures.nothing one (λ is. no_sim (right, name ∙ is)) (λ is. no_drive (right, name ∙ is)) (λ is. no_replay (right, name ∙ is)))
+    (c.run_named.ensures.nothing one (λ is. no_sim (right, name ∙ is)) (λ is. no_drive (right, name ∙ is)) (λ is. no_replay (right, name ∙ is)) (λ is. no_show (right, name ∙ is)))
 
 pub returns-in-Err-clause-nothing : goal.returns-in-Err-clause-nothing
-returns-in-Err-clause-nothing g c one no_sim no_drive no_replay =
+returns-in-Err-clause-nothing g c one no_sim no_drive no_replay no_show =
     gave_up _ Stop.NoMemory c.args.output.now _ _ _ _ c.give_up.ensures.status (begun_line _ Stop.NoMemory _ _ c.give_up.ensures.said) (λ other. refl)
 
 pub returns-in-Err-try_get_matches_from-clause-nothing :
     goal.returns-in-Err-try_get_matches_from-clause-nothing
-returns-in-Err-try_get_matches_from-clause-nothing g c one no_sim no_drive no_replay = c.explain.ensures.nothing one _
+returns-in-Err-try_get_matches_from-clause-nothing g c one no_sim no_drive no_replay no_show = c.explain.ensures.nothing one _
 
 -- ## A dialect whose file can't be used
 
@@ -242,6 +270,78 @@ returns-in-Err-clause-unreplayed g c one for = inl (gave_up _ Stop.NoMemory c.ar
 
 pub returns-in-Err-clause-undriven : goal.returns-in-Err-clause-undriven
 returns-in-Err-clause-undriven g c one for is = inl (gave_up true Stop.NoMemory c.args.output.now _ _ _ _ c.give_up.ensures.status (begun_line true Stop.NoMemory _ _ c.give_up.ensures.said) (λ other. refl))
+
+-- ## A capture that is shown
+
+pub returns-in-Ok-try_get_matches_from-clause-three :
+    goal.returns-in-Ok-try_get_matches_from-clause-three
+returns-in-Ok-try_get_matches_from-clause-three g c three =
+    (at_program (λ kinds. kinds ≡ []) _ _ c.in-Ok.ensures c.in-Ok-try_get_matches_from.ensures.kinds, sym (named c.in-Ok-try_get_matches_from.matches _ _ c.in-Ok.ensures (λ e. (c.in-Ok-try_get_matches_from.ensures.matches e).1)) ∙ c.run_named.ensures.three three)
+
+pub returns-in-Ok-try_get_matches_from-clause-show :
+    goal.returns-in-Ok-try_get_matches_from-clause-show
+returns-in-Ok-try_get_matches_from-clause-show g c good for =
+    subst (λ (m : Option (Text × List Row)). PrintsShow (g.R.TextFiles.text_of c.args.rt.now) m (g.W.Write.contents c.args.output.now) (g.W.Write.contents c.run_named.new.output) c.run_named.result) (met c.in-Ok-try_get_matches_from.matches _ _ c.in-Ok.ensures (λ e. (c.in-Ok-try_get_matches_from.ensures.matches e).1))
+    (c.run_named.ensures.show good (named c.in-Ok-try_get_matches_from.matches _ _ c.in-Ok.ensures (λ e. (c.in-Ok-try_get_matches_from.ensures.matches e).1) ∙ for.1))
+
+pub returns-in-Ok-try_get_matches_from-clause-show_silent :
+    goal.returns-in-Ok-try_get_matches_from-clause-show_silent
+returns-in-Ok-try_get_matches_from-clause-show_silent g c good for =
+    c.run_named.ensures.show_silent good (named c.in-Ok-try_get_matches_from.matches _ _ c.in-Ok.ensures (λ e. (c.in-Ok-try_get_matches_from.ensures.matches e).1) ∙ for.1)
+
+pub returns-in-Ok-try_get_matches_from-clause-unshown :
+    goal.returns-in-Ok-try_get_matches_from-clause-unshown
+returns-in-Ok-try_get_matches_from-clause-unshown g c one for =
+    subst (λ (m : Option (Text × List Row)). SaysUnshown (raw_in m (codes "dialect")) (raw_in m (codes "raw")) (raw_in m (codes "file")) (g.E.Write.contents c.args.faults.now) (g.E.Write.contents c.run_named.new.faults) c.run_named.result) (met c.in-Ok-try_get_matches_from.matches _ _ c.in-Ok.ensures (λ e. (c.in-Ok-try_get_matches_from.ensures.matches e).1))
+    (c.run_named.ensures.unshown one (named c.in-Ok-try_get_matches_from.matches _ _ c.in-Ok.ensures (λ e. (c.in-Ok-try_get_matches_from.ensures.matches e).1) ∙ for.1))
+
+shut_word : (is : Text → Bool) (a b : Option (Text × List Row)) → a ≡ b → IsShut is (raw_in b (codes "dialect")) ⊎ (IsShutFile is (raw_in b (codes "file")) ⊎ IsShutFile is (raw_in b (codes "raw")))
+    → IsShut is (raw_in a (codes "dialect")) ⊎ (IsShutFile is (raw_in a (codes "file")) ⊎ IsShutFile is (raw_in a (codes "raw")))
+shut_word is a b same h = subst (λ (m : Option (Text × List Row)). IsShut is (raw_in m (codes "dialect")) ⊎ (IsShutFile is (raw_in m (codes "file")) ⊎ IsShutFile is (raw_in m (codes "raw")))) (sym same) h
+
+pub returns-in-Ok-try_get_matches_from-clause-show_shut :
+    goal.returns-in-Ok-try_get_matches_from-clause-show_shut
+returns-in-Ok-try_get_matches_from-clause-show_shut g c for is =
+    c.run_named.ensures.show_shut (named c.in-Ok-try_get_matches_from.matches _ _ c.in-Ok.ensures (λ e. (c.in-Ok-try_get_matches_from.ensures.matches e).1) ∙ for.1)
+    (shut_word (g.R.TextFiles.is_shut c.args.rt.now) _ _ (met c.in-Ok-try_get_matches_from.matches _ _ c.in-Ok.ensures (λ e. (c.in-Ok-try_get_matches_from.ensures.matches e).1)) is)
+
+-- where nothing is wrong with the words, a parse that fails doesn't end well
+not_good : (k : ErrorKind) (kinds : Kinds) (status : ℕ) → (k ≡ OutOfMemory) ⊎ IsAmong k kinds → (k ≡ OutOfMemory → status ≡ 1) → (status ≡ 0) ⊎ (status ≡ 3) → kinds ≡ [] → ⊥
+not_good k kinds status has memory good none =
+    let one = memory (by_memory k kinds has none) in
+    ⊎_elim (λ (zero : status ≡ 0). omega (arith, one, zero)) (λ (three : status ≡ 3). omega (arith, one, three)) good
+
+pub returns-in-Err-try_get_matches_from-clause-show :
+    goal.returns-in-Err-try_get_matches_from-clause-show
+returns-in-Err-try_get_matches_from-clause-show g c good for =
+    absurd (not_good _ _ _ (at_program (λ kinds. HasKind kinds c.in-Err-try_get_matches_from.error) _ _ c.in-Ok.ensures c.in-Err-try_get_matches_from.ensures.kinds) c.explain.ensures.memory good for.0)
+
+pub returns-in-Err-try_get_matches_from-clause-show_silent :
+    goal.returns-in-Err-try_get_matches_from-clause-show_silent
+returns-in-Err-try_get_matches_from-clause-show_silent g c good for =
+    absurd (not_good _ _ _ (at_program (λ kinds. HasKind kinds c.in-Err-try_get_matches_from.error) _ _ c.in-Ok.ensures c.in-Err-try_get_matches_from.ensures.kinds) c.explain.ensures.memory good for.0)
+
+pub returns-in-Err-try_get_matches_from-clause-three :
+    goal.returns-in-Err-try_get_matches_from-clause-three
+returns-in-Err-try_get_matches_from-clause-three g c three = let most = c.explain.ensures.status in absurd (omega (arith, most, three))
+
+stopped : {O : Type 0} (dialect raw file : Option Text) (old new : O) (before after : Option (List ℕ)) (status : ℕ) → HasGivenUp true old new before after status → SaysUnshown dialect raw file before after status
+stopped dialect raw file old new before after status up = inl (inr (record { stop = up.stop; has_status = up.gives_up.has_status; said = up.gives_up.said }))
+
+pub returns-in-Err-try_get_matches_from-clause-unshown :
+    goal.returns-in-Err-try_get_matches_from-clause-unshown
+returns-in-Err-try_get_matches_from-clause-unshown g c one for = stopped _ _ _ _ _ _ _ _ (c.explain.ensures.nothing one true)
+
+pub returns-in-Err-try_get_matches_from-clause-show_shut :
+    goal.returns-in-Err-try_get_matches_from-clause-show_shut
+returns-in-Err-try_get_matches_from-clause-show_shut g c for is =
+    let memory = by_memory _ _ (at_program (λ kinds. HasKind kinds c.in-Err-try_get_matches_from.error) _ _ c.in-Ok.ensures c.in-Err-try_get_matches_from.ensures.kinds) for.0 in
+    let one = c.explain.ensures.memory memory in
+    (omega (arith, one), (omega (arith, one), c.explain.ensures.silent memory))
+
+pub returns-in-Err-clause-unshown : goal.returns-in-Err-clause-unshown
+returns-in-Err-clause-unshown g c one for =
+    stopped _ _ _ _ _ _ _ _ (gave_up true Stop.NoMemory c.args.output.now c.args.output.now _ _ _ c.give_up.ensures.status (begun_line true Stop.NoMemory _ _ c.give_up.ensures.said) (λ other. refl))
 
 -- ## Rows
 
@@ -312,3 +412,32 @@ explained_by_words = refl
 explained_nowhere : is_explained false (met_in (codes "modemctl" ∷ codes "bench" ∷ [])) ≡ false
 unfolding clap_on_literals
 explained_nowhere = refl
+
+show_with_file : fault_in (codes "modemctl" ∷ codes "show" ∷ codes "--strict" ∷ codes "--data" ∷ codes "3" ∷ codes "--data" ∷ codes "5" ∷ codes "a.pcap" ∷ []) ≡ []
+unfolding clap_on_literals
+show_with_file = refl
+
+show_alone : fault_in (codes "modemctl" ∷ codes "show" ∷ []) ≢ []
+unfolding clap_on_literals
+show_alone e = cc
+
+show_with_0 : fault_in (codes "modemctl" ∷ codes "show" ∷ codes "--data" ∷ codes "0" ∷ codes "a.pcap" ∷ []) ≢ []
+unfolding clap_on_literals
+show_with_0 e = cc
+
+data_of_words : all_in (met_in (codes "modemctl" ∷ codes "show" ∷ codes "--data" ∷ codes "3" ∷ codes "--data" ∷ codes "5" ∷ codes "a.pcap" ∷ [])) (codes "data") ≡ Some (codes "3" ∷ codes "5" ∷ [])
+unfolding clap_on_literals
+data_of_words = refl
+
+raw_of_words : raw_in (met_in (codes "modemctl" ∷ codes "show" ∷ codes "--raw" ∷ codes "from" ∷ codes "to" ∷ [])) (codes "raw") ≡ Some (codes "from")
+unfolding clap_on_literals
+raw_of_words = refl
+
+to_behind_raw : raw_in (met_in (codes "modemctl" ∷ codes "show" ∷ codes "--raw" ∷ codes "from" ∷ codes "to" ∷ [])) (codes "file") ≡ Some (codes "to")
+unfolding clap_on_literals
+to_behind_raw = refl
+
+pub returns-in-Ok-try_get_matches_from-clause-silent :
+    goal.returns-in-Ok-try_get_matches_from-clause-silent
+returns-in-Ok-try_get_matches_from-clause-silent g c zero other =
+    c.run_named.ensures.silent zero (λ is. other (at_program (λ kinds. kinds ≡ []) _ _ c.in-Ok.ensures c.in-Ok-try_get_matches_from.ensures.kinds, sym (named c.in-Ok-try_get_matches_from.matches _ _ c.in-Ok.ensures (λ e. (c.in-Ok-try_get_matches_from.ensures.matches e).1)) ∙ is))

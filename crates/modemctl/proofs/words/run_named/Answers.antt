@@ -1,17 +1,21 @@
 -- What was printed, by the numbers that the matches of the subcommand give.
 use Rattle.std.proofs.Common.{◌≡◌, ◌∙◌, ◌⊎◌, ◌||◌, ⊎_elim, ℕ, Bool, ap, arith, is_some, sym, subst, inl, inr, List, Option, None, Some, option_map, codes, true}
-use Rattle.clap.specs.Words.{Row, Text, first_of, first_value, found_of, one_of, one_text, rows_of, subcommand_rows_of}
+use Rattle.clap.specs.Words.{Row, Text, all_of, first_of, first_value, found_of, matched_of, one_of, one_text, raw_values, rows_of, subcommand_rows_of}
 use Rattle.clap.specs.declared.ArgMatches.{ArgMatches}
-use Rattle.clap.proofs.WalkLemmas.{first_value-rows, one_text-rows}
+use Rattle.clap.proofs.WalkLemmas.{first_value-rows, one_text-rows, raw_values-rows}
 use Rattle.modemctl.specs.Words.{HasNoNumber, IsGiven, IsNoNumber, IsNumberOf, is_explained, is_set, raw_in, text_in}
 use Rattle.modem_runs.specs.Stopping.{HasGivenUp}
 use Rattle.modem_serve.specs.declared.serving.SimOptions.{SimOptions}
-use Rattle.modemctl.specs.Benches.{AreGiven, AreMatched, AreScripted, IsFlag, LeavesClient, LeavesWith}
+use Rattle.modem_serve.specs.Watching.{CapturesClient}
+use Rattle.modemctl.specs.Benches.{AreGiven, AreMatched, AreScripted, IsFlag}
+use Rattle.modemctl.specs.Sims.{FailsClient, HasBadMatched, IsNotBegun, LeavesClient, LeavesWith, RefusesClient, SaysBadStep}
 use Rattle.modem_drive.specs.Entry.{entry_for}
 use Rattle.modem_drive.specs.OnDevice.{RanDevice}
 use Rattle.modemctl.specs.Dialects.{IsGivenDialect, IsShut, PrintsActs}
 use Rattle.modemctl.specs.Drives.{DrivesWith, PrintsDrive}
 use Rattle.modemctl.specs.Files.{NamesCause}
+use Rattle.modemctl.specs.Shows.{AreChannels, AreWanted, AreWantedBy, IsShutFile, PrintsShow, SaysUnshown, ShowsFiles, ShowsWith, all_in}
+use Rattle.show_texts.specs.declared.run.ShowOptions.{ShowOptions}
 use Rattle.modemctl.proofs.words.run_named.Goals as goal
 
 of_rows : (met : Option (Text × List Row)) (rows : List Row) (option : Text) → Some rows ≡ option_map (λ p. p.1) met → one_of option rows ≡ text_in met option
@@ -109,20 +113,39 @@ returns-in-sim-clause-sim g c zero named =
       options = serves.options;
       given = are_given (g.R.TextFiles.text_of c.args.rt.now) c.args.matches.now c.in-Some.given.now c.in-Ok.numbers.n1 serves.options c.in-Some.ensures.rows c.in-Ok.ensures.n1 serves.matched;
       served = serves.served;
+      captured =
+          subst (λ (t : Option Text). CapturesClient (is_some t) serves.options (g.I.Read.remaining c.args.input.now) (g.W.Write.contents c.args.output.now) (g.W.Write.contents c.sim_words.new.output))
+          (word_given c.args.matches.now c.in-Some.given.now (codes "capture") c.in-Some.ensures.rows) serves.captured;
     }
 
-leaves_client : {P : Type 0} (texts : Text → Option (List ℕ)) (top m : ArgMatches) (n1 : ℕ) (input rest before after : Option (List ℕ)) → Some (rows_of (found_of m)) ≡ option_map (λ p. p.1) (subcommand_rows_of top) → IsNumberOf 31 (one_text (found_of m) (codes "n1")) n1
-    → P ⊎ LeavesWith texts n1 m input rest before after → P ⊎ LeavesClient texts (subcommand_rows_of top) input rest before after
-leaves_client texts top m n1 input rest before after rows number (inl none) = inl none
-leaves_client texts top m n1 input rest before after rows number (inr leaves) = inr (record {
+leaves_client : {I O : Type 0} (texts : Text → Option (List ℕ)) (top m : ArgMatches) (n1 : ℕ) (input rest before after told_before told_after : Option (List ℕ)) (was is : I) (old new : O) → Some (rows_of (found_of m)) ≡ option_map (λ p. p.1) (subcommand_rows_of top)
+    → IsNumberOf 31 (one_text (found_of m) (codes "n1")) n1
+    → IsNotBegun (first_value (found_of m) (codes "script")) (first_value (found_of m) (codes "capture")) was is old new told_before told_after ⊎ LeavesWith texts n1 m input rest before after told_before told_after
+    → IsNotBegun (raw_in (subcommand_rows_of top) (codes "script")) (raw_in (subcommand_rows_of top) (codes "capture")) was is old new told_before told_after ⊎ LeavesClient texts (subcommand_rows_of top) input rest before after told_before told_after
+leaves_client texts top m n1 input rest before after told_before told_after was is old new rows number (inl none) =
+    inl (subst (λ (t : Option Text × Option Text). IsNotBegun t.0 t.1 was is old new told_before told_after) (λ i. (word_given top m (codes "script") rows i, word_given top m (codes "capture") rows i)) none)
+leaves_client texts top m n1 input rest before after told_before told_after was is old new rows number (inr leaves) = inr (record {
   options = leaves.options;
   given = are_given texts top m n1 leaves.options rows number leaves.matched;
-  left = leaves.left;
+  fails = subst (λ (t : Option Text). FailsClient (is_some t) leaves.options input rest before after told_before told_after) (word_given top m (codes "capture") rows) leaves.fails;
 })
 
 pub returns-in-sim-clause-sim_left : goal.returns-in-sim-clause-sim_left
 returns-in-sim-clause-sim_left g c one named =
-    leaves_client (g.R.TextFiles.text_of c.args.rt.now) c.args.matches.now c.in-Some.given.now c.in-Ok.numbers.n1 _ _ _ _ c.in-Some.ensures.rows c.in-Ok.ensures.n1 (c.sim_words.ensures.left one)
+    leaves_client (g.R.TextFiles.text_of c.args.rt.now) c.args.matches.now c.in-Some.given.now c.in-Ok.numbers.n1 _ _ _ _ _ _ _ _ _ _ c.in-Some.ensures.rows c.in-Ok.ensures.n1 (c.sim_words.ensures.left one)
+
+refuses_client : (texts : Text → Option (List ℕ)) (top m : ArgMatches) (n1 : ℕ) (told_before told_after : Option (List ℕ)) → Some (rows_of (found_of m)) ≡ option_map (λ p. p.1) (subcommand_rows_of top) → IsNumberOf 31 (one_text (found_of m) (codes "n1")) n1
+    → SaysBadStep texts (first_value (found_of m) (codes "script")) told_before told_after ⊎ HasBadMatched texts n1 m told_before told_after → RefusesClient texts (subcommand_rows_of top) told_before told_after
+refuses_client texts top m n1 told_before told_after rows number (inl step) =
+    inr (inl (subst (λ (t : Option Text). SaysBadStep texts t told_before told_after) (word_given top m (codes "script") rows) step))
+refuses_client texts top m n1 told_before told_after rows number (inr bad) = inr (inr (record { options = bad.options; given = are_given texts top m n1 bad.options rows number bad.matched; says = bad.says }))
+
+pub returns-in-sim-clause-sim_bad : goal.returns-in-sim-clause-sim_bad
+returns-in-sim-clause-sim_bad g c two named =
+    refuses_client (g.R.TextFiles.text_of c.args.rt.now) c.args.matches.now c.in-Some.given.now c.in-Ok.numbers.n1 _ _ c.in-Some.ensures.rows c.in-Ok.ensures.n1 (c.sim_words.ensures.told two)
+
+pub returns-in-Err-clause-sim_bad : goal.returns-in-Err-clause-sim_bad
+returns-in-Err-clause-sim_bad g c two named = inl (record { option = _; said = c.refuse.ensures.said })
 
 prints_drive : (texts : Text → Option (List ℕ)) (top m : ArgMatches) (n1 : ℕ) (before after silent said : Option (List ℕ)) (was_bad : Bool) → Some (rows_of (found_of m)) ≡ option_map (λ p. p.1) (subcommand_rows_of top) → IsNumberOf 31 (one_text (found_of m) (codes "n1")) n1
     → DrivesWith texts n1 m before after silent said was_bad → PrintsDrive texts (subcommand_rows_of top) before after silent said was_bad
@@ -150,13 +173,13 @@ same_wish : (top m : ArgMatches) (terminal : Bool) → Some (rows_of (found_of m
 same_wish top m terminal rows = ap (λ (t : Option Text). terminal || is_set t) (word_given top m (codes "explain") rows)
 
 pub returns-in-frames-clause-nothing : goal.returns-in-frames-clause-nothing
-returns-in-frames-clause-nothing g c one no_sim no_drive no_replay =
+returns-in-frames-clause-nothing g c one no_sim no_drive no_replay no_show =
     subst (λ (e : Bool). HasGivenUp e c.args.output.now c.frames_run_explained.new.output (g.E.Write.contents c.args.faults.now) (g.E.Write.contents c.frames_run_explained.new.faults) c.frames_run_explained.result)
     (c.wants_reason-explained.ensures ∙ same_wish c.args.matches.now c.in-Some.given.now c.args.terminal c.in-Some.ensures.rows)
     (c.frames_run_explained.ensures.nothing one)
 
 pub returns-in-bench-clause-nothing : goal.returns-in-bench-clause-nothing
-returns-in-bench-clause-nothing g c one no_sim no_drive no_replay =
+returns-in-bench-clause-nothing g c one no_sim no_drive no_replay no_show =
     subst (λ (e : Bool). HasGivenUp e c.args.output.now c.bench_plain.new.output (g.E.Write.contents c.args.faults.now) (g.E.Write.contents c.bench_plain.new.faults) c.bench_plain.result)
     (c.wants_reason-explained.ensures ∙ same_wish c.args.matches.now c.in-Some.given.now c.args.terminal c.in-Some.ensures.rows)
     (c.bench_plain.ensures.nothing one)
@@ -187,3 +210,58 @@ returns-in-drive-clause-undriven g c one named is =
 pub returns-in-drive-clause-drive_shut : goal.returns-in-drive-clause-drive_shut
 returns-in-drive-clause-drive_shut g c named is =
     c.drive_words.ensures.shut (shut c.args.matches.now c.in-Some.given.now (g.R.TextFiles.is_shut c.args.rt.now) c.in-Some.ensures.rows is)
+
+-- ## A capture that is shown
+
+of_all : (met : Option (Text × List Row)) (rows : List Row) (option : Text) → Some rows ≡ option_map (λ p. p.1) met → all_of option rows ≡ all_in met option
+of_all None rows option e = cc
+of_all (Some p) rows option e = let same : Some rows ≡ Some p.1 = e in let rows_are : rows ≡ p.1 = cc in ap (all_of option) rows_are
+
+-- all that the words give for an option
+words_given : (top m : ArgMatches) (option : Text) → Some (rows_of (found_of m)) ≡ option_map (λ p. p.1) (subcommand_rows_of top)
+    → option_map raw_values (matched_of (found_of m) option) ≡ all_in (subcommand_rows_of top) option
+words_given top m option e = raw_values-rows (found_of m) option ∙ of_all (subcommand_rows_of top) (rows_of (found_of m)) option e
+
+are_wanted : (texts : Text → Option (List ℕ)) (top m : ArgMatches) (n1 : ℕ) (options : ShowOptions) → Some (rows_of (found_of m)) ≡ option_map (λ p. p.1) (subcommand_rows_of top) → IsNumberOf 31 (one_text (found_of m) (codes "n1")) n1
+    → AreWantedBy texts n1 m options → AreWanted texts (subcommand_rows_of top) options
+are_wanted texts top m n1 options rows number by = record {
+  n1_given = number_in top m (codes "n1") 31 options.n1 rows (subst (λ (n : ℕ). IsNumberOf 31 (one_text (found_of m) (codes "n1")) n) (sym by.n1_is) number);
+  named = subst (λ (t : Option Text). IsGivenDialect texts t options.dialect) (word_given top m (codes "dialect") rows) by.named;
+  data_given = subst (λ (t : Option (List Text)). AreChannels t options.data_channels.items) (words_given top m (codes "data") rows) by.data_given;
+  strict_given = subst (λ (t : Option Text). IsFlag t options.strict) (given_in top m (codes "strict") rows) by.strict_given;
+}
+
+prints_show : (texts : Text → Option (List ℕ)) (top m : ArgMatches) (n1 : ℕ) (before after : Option (List ℕ)) (status : ℕ) → Some (rows_of (found_of m)) ≡ option_map (λ p. p.1) (subcommand_rows_of top) → IsNumberOf 31 (one_text (found_of m) (codes "n1")) n1
+    → ShowsWith texts n1 m before after status → PrintsShow texts (subcommand_rows_of top) before after status
+prints_show texts top m n1 before after status rows number shows = record {
+  options = shows.options;
+  wanted = are_wanted texts top m n1 shows.options rows number shows.wanted;
+  path = shows.path;
+  path_is = sym (word_given top m (codes "file") rows) ∙ shows.path_is;
+  shown = subst (λ (t : Option Text). ShowsFiles texts shows.options t shows.path before after status) (word_given top m (codes "raw") rows) shows.shown;
+}
+
+pub returns-in-show-clause-show : goal.returns-in-show-clause-show
+returns-in-show-clause-show g c good named =
+    prints_show (g.R.TextFiles.text_of c.args.rt.now) c.args.matches.now c.in-Some.given.now c.in-Ok.numbers.n1 _ _ _ c.in-Some.ensures.rows c.in-Ok.ensures.n1 (c.show_words.ensures.shown good)
+
+unshown : (top m : ArgMatches) (before after : Option (List ℕ)) (status : ℕ) → Some (rows_of (found_of m)) ≡ option_map (λ p. p.1) (subcommand_rows_of top)
+    → SaysUnshown (first_value (found_of m) (codes "dialect")) (first_value (found_of m) (codes "raw")) (first_value (found_of m) (codes "file")) before after status
+    → SaysUnshown (raw_in (subcommand_rows_of top) (codes "dialect")) (raw_in (subcommand_rows_of top) (codes "raw")) (raw_in (subcommand_rows_of top) (codes "file")) before after status
+unshown top m before after status rows said =
+    subst (λ (t : Option Text × Option Text × Option Text). SaysUnshown t.0 t.1 t.2 before after status)
+    (λ i. (word_given top m (codes "dialect") rows i, word_given top m (codes "raw") rows i, word_given top m (codes "file") rows i)) said
+
+pub returns-in-show-clause-unshown : goal.returns-in-show-clause-unshown
+returns-in-show-clause-unshown g c one named =
+    unshown c.args.matches.now c.in-Some.given.now _ _ _ c.in-Some.ensures.rows (c.show_words.ensures.said one)
+
+shut_word : (top m : ArgMatches) (is : Text → Bool) (option : Text) → Some (rows_of (found_of m)) ≡ option_map (λ p. p.1) (subcommand_rows_of top) → IsShutFile is (raw_in (subcommand_rows_of top) option) → IsShutFile is (first_value (found_of m) option)
+shut_word top m is option rows h = subst (IsShutFile is) (sym (word_given top m option rows)) h
+
+pub returns-in-show-clause-show_shut : goal.returns-in-show-clause-show_shut
+returns-in-show-clause-show_shut g c named is =
+    c.show_words.ensures.shut
+    (⊎_elim (λ dialect. inl (shut c.args.matches.now c.in-Some.given.now (g.R.TextFiles.is_shut c.args.rt.now) c.in-Some.ensures.rows dialect))
+    (λ files. inr (⊎_elim (λ file. inl (shut_word c.args.matches.now c.in-Some.given.now (g.R.TextFiles.is_shut c.args.rt.now) (codes "file") c.in-Some.ensures.rows file))
+    (λ raw. inr (shut_word c.args.matches.now c.in-Some.given.now (g.R.TextFiles.is_shut c.args.rt.now) (codes "raw") c.in-Some.ensures.rows raw)) files)) is)

@@ -1,0 +1,123 @@
+-- How the program is a modem for a client, by what its words give, by what stands in the files that they name (`texts`), and what it
+-- says beside its output.
+use Rattle.std.specs.Prelude.{◌≡◌, ◌⊎◌, ℕ, ◌++◌, Bool, true, List, [], ◌∷◌, Option, None, Some, codes, is_some}
+use Rattle.std.specs.Fmt.{decimal}
+use Rattle.clap.specs.Words.{Row, Text, first_value, found_of}
+use Rattle.clap.specs.declared.ArgMatches.{ArgMatches}
+use Rattle.modem_runs.specs.Statuses.{stop_line}
+use Rattle.modem_runs.specs.Steps.{HasBadStep, StepsStop}
+use Rattle.modem_runs.specs.declared.stop.Stop.{Stop}
+use Rattle.modem_serve.specs.declared.serving.SimOptions.{SimOptions}
+use Rattle.modem_serve.specs.Leaving.{EndsFor, SaysBad}
+use Rattle.modem_serve.specs.Serving.{IsServed}
+use Rattle.modem_serve.specs.Watching.{CapturesClient}
+use Rattle.modem_texts.specs.LineFaults.{bad_line, reason_line}
+use Rattle.modem_texts.specs.Writing.{IsBegun}
+use Rattle.modem_texts.specs.declared.line_fault.LineFault.{LineFault}
+use Rattle.modemctl.specs.Benches.{AreGiven, AreMatched}
+use Rattle.modemctl.specs.Captures.{SaysNoCapture}
+use Rattle.modemctl.specs.Files.{IsNoText}
+use Rattle.modemctl.specs.Words.{raw_in}
+use Rattle.modemctl.specs.declared.words.files.NoCapture.{NoCapture}
+use Rattle.modemctl.specs.declared.words.text_files.TextFault.{TextFault}
+
+-- ## At status 0
+
+-- a client was served so, by a modem with the options of the words, and captured where they name a file for that
+pub record ServesClient (texts : Text → Option (List ℕ)) (met : Option (Text × List Row)) (input before after : Option (List ℕ)) : Type 0 where
+  pub options : SimOptions
+  pub given : AreGiven texts met options
+  pub served : IsServed options input before after
+  pub captured : CapturesClient (is_some (raw_in met (codes "capture"))) options input before after
+
+-- the same, with the options that the matches of the subcommand have
+pub record ServesWith (texts : Text → Option (List ℕ)) (n1 : ℕ) (m : ArgMatches) (input before after : Option (List ℕ)) : Type 0 where
+  pub options : SimOptions
+  pub matched : AreMatched texts n1 m options
+  pub served : IsServed options input before after
+  pub captured : CapturesClient (is_some (first_value (found_of m) (codes "capture"))) options input before after
+
+-- ## At status 1
+
+-- One fault ended it, which is said. It is that of a capture only where one is wanted, and all was served.
+abbrev pub FailsClient : (wanted : Bool) → SimOptions → (input rest before after told_before told_after : Option (List ℕ)) → Type 0
+FailsClient wanted options input rest before after told_before told_after =
+    EndsFor ((wanted ≡ true) × IsServed options input before after) options input rest before after told_before told_after
+
+-- a client was left at a fault, by a modem with the options of the words
+pub record LeavesClient (texts : Text → Option (List ℕ)) (met : Option (Text × List Row)) (input rest before after told_before told_after : Option (List ℕ)) : Type 0 where
+  pub options : SimOptions
+  pub given : AreGiven texts met options
+  pub fails : FailsClient (is_some (raw_in met (codes "capture"))) options input rest before after told_before told_after
+
+-- the same, with the options that the matches of the subcommand have
+pub record LeavesWith (texts : Text → Option (List ℕ)) (n1 : ℕ) (m : ArgMatches) (input rest before after told_before told_after : Option (List ℕ)) : Type 0 where
+  pub options : SimOptions
+  pub matched : AreMatched texts n1 m options
+  pub fails : FailsClient (is_some (first_value (found_of m) (codes "capture"))) options input rest before after told_before told_after
+
+-- there is no capture, for a cause that is said
+pub record HasNoCapture (path : Option Text) (told_before told_after : Option (List ℕ)) : Type 0 where
+  pub named : Text
+  pub path_is : path ≡ Some named
+  pub cause : NoCapture
+  pub said : SaysNoCapture cause named told_before told_after
+
+-- no client was served: memory was refused, or the script gives nothing, or there is no capture; that is said
+abbrev pub SaysNotBegun : (script capture : Option Text) → (told_before told_after : Option (List ℕ)) → Type 0
+SaysNotBegun script capture told_before told_after =
+    IsBegun told_before told_after (stop_line Stop.NoMemory)
+    ⊎ (IsNoText true (codes "script") script told_before told_after 1 ⊎ HasNoCapture capture told_before told_after)
+
+-- nothing was read and nothing written, for a cause that is said
+pub record IsNotBegun {I O : Type 0} (script capture : Option Text) (input rest : I) (old new : O) (told_before told_after : Option (List ℕ)) : Type 0 where
+  pub unread : rest ≡ input
+  pub nothing : new ≡ old
+  pub said : SaysNotBegun script capture told_before told_after
+
+-- ## At status 2
+
+-- of which option a text is no number
+abbrev pub number_line : List ℕ → List ℕ
+number_line option = codes "error: --" ++ option ++ codes " takes a number in decimal, without a sign and leading zeros" ++ 10 ∷ []
+
+pub record SaysNoNumber (told_before told_after : Option (List ℕ)) : Type 0 where
+  pub option : List ℕ
+  pub said : IsBegun told_before told_after (number_line option)
+
+-- why the file of a script gives no steps: it can't be opened, or for a cause to stop
+abbrev pub IsOfScript : (text : Option (List ℕ)) → TextFault → Type 0
+IsOfScript text (TextFault.Closed kind) = Unit {0}
+IsOfScript text (TextFault.Stopped stop) = StepsStop text stop
+
+-- the bad line of a script, where that is the fault
+abbrev pub bad_step_of : TextFault → Option (ℕ × LineFault)
+bad_step_of (TextFault.Stopped (Stop.BadLine place why)) = Some (place, why)
+bad_step_of _ = None
+
+-- a line of the script of this path is bad: the first such line is named, with what has to stand there
+pub record SaysBadStep (texts : Text → Option (List ℕ)) (script : Option Text) (told_before told_after : Option (List ℕ)) : Type 0 where
+  pub named : Text
+  pub path_is : script ≡ Some named
+  pub place : ℕ
+  pub why : LineFault
+  pub bad : HasBadStep (texts named) place why
+  pub said : IsBegun told_before told_after (bad_line (decimal place) ++ reason_line (codes "the script: ") why)
+
+-- an option of the words is bad, which is said
+pub record HasBadGiven (texts : Text → Option (List ℕ)) (met : Option (Text × List Row)) (told_before told_after : Option (List ℕ)) : Type 0 where
+  pub options : SimOptions
+  pub given : AreGiven texts met options
+  pub says : SaysBad options told_before told_after
+
+-- the same, of the matches of the subcommand
+pub record HasBadMatched (texts : Text → Option (List ℕ)) (n1 : ℕ) (m : ArgMatches) (told_before told_after : Option (List ℕ)) : Type 0 where
+  pub options : SimOptions
+  pub matched : AreMatched texts n1 m options
+  pub says : SaysBad options told_before told_after
+
+-- a number isn't one, a step of the script is bad, or an option, and that is said
+abbrev pub RefusesClient : (texts : Text → Option (List ℕ)) → (met : Option (Text × List Row)) → (told_before told_after : Option (List ℕ)) → Type 0
+RefusesClient texts met told_before told_after =
+    SaysNoNumber told_before told_after
+    ⊎ (SaysBadStep texts (raw_in met (codes "script")) told_before told_after ⊎ HasBadGiven texts met told_before told_after)
