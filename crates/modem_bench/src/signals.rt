@@ -17,7 +17,7 @@ const WAIT_MILLISECONDS: u64 = 100;
 /// Why a bench ends without its output.
 #[derive(Clone, Copy, Drop)]
 pub enum Fault {
-    /// A growth was refused.
+    /// Memory was refused.
     NoMemory,
     /// The line failed.
     Line,
