@@ -75,7 +75,7 @@ impl<L: SerialLine> DataLine<L> {
         })
     }
 
-    /// The line itself and the relay. Octets that wait at the relay for the line or the driver are its own to give.
+    /// The line itself and the relay, which keeps the octets that wait there for the line or the driver.
     pub fn into_parts(self) -> (L, Relay)
         ensures line { result.0 ≡ self.line }
         ensures relay { result.1 ≡ self.relay }
