@@ -99,8 +99,8 @@ impl Relay {
     }
 
     /// Begins a lane of a connection, in the opening that there is or else in the next. Data comes behind its next CONNECT line where
-    /// `by_connect` is set, else at once. Refused, in this order: 6 NotData where the connection isn't one that may carry data; 7
-    /// UnderWay where a lane is under way; 8 Unread where data of the last one wasn't read.
+    /// `by_connect` is set, else at once. Refused, in this order: 6 NotData where `new` didn't name the connection; 7 UnderWay where a
+    /// lane is under way; 8 Unread where data of the last one wasn't read.
     pub fn begin(&mut self, dlci: Dlci, by_connect: bool) -> Result<(), DataError>
         ensures began { OnOk result (Hops self.old self.new (Passed (Began dlci.number by_connect))) }
         ensures not_data { result ≡ Err error.NotData → IsNotData self.old.pipes dlci.number }
@@ -114,7 +114,7 @@ impl Relay {
     }
 
     /// Ends the lane of a connection, if there is one. From the next frame on lines come and go again. What was given and hasn't left
-    /// isn't sent; what came stays readable. Refused with 6 NotData where the connection isn't one that may carry data.
+    /// isn't sent; what came stays readable. Refused with 6 NotData where `new` didn't name the connection.
     pub fn lines(&mut self, dlci: Dlci) -> Result<(), DataError>
         ensures ended { OnOk result (Hops self.old self.new (Passed (EndedLane dlci.number))) }
         ensures not_data { OnErr result ((result ≡ Err error.NotData) × IsNotData self.old.pipes dlci.number) }
@@ -140,7 +140,7 @@ impl Relay {
     }
 
     /// Gives the first octets of data that wait, as many as there is room for. Says how many, and whether the lane is over and read to
-    /// its end. Refused with 6 NotData where the connection isn't one that may carry data.
+    /// its end. Refused with 6 NotData where `new` didn't name the connection.
     pub fn read(&mut self, dlci: Dlci, room: &mut [u8]) -> Result<Reading, DataError>
         ensures count { IfOk result (λ r. OfEachPast self.old.pipes (λ past. r.count ≡ min (unread dlci.number past) (length room.old))) }
         ensures read { IfOk result (λ r. Hops self.old self.new (Passed (Read dlci.number (take r.count room.new)))) }
@@ -153,7 +153,7 @@ impl Relay {
     }
 
     /// Takes octets to be sent as data from the front of these, until 4096 wait, and says how many. Refused, in this order: 6 NotData
-    /// where the connection isn't one that may carry data; 9 NotOpen where it isn't open; 10 Lines where it doesn't carry data.
+    /// where `new` didn't name the connection; 9 NotOpen where it isn't open; 10 Lines where it doesn't carry data.
     pub fn give(&mut self, dlci: Dlci, octets: &[u8]) -> Result<usize, DataError>
         ensures count { IfOk result (λ count. OfEachPast self.old.pipes (λ past.
             count ≡ min (length octets.now) (most_to_go - (length (given dlci.number past) - length (left dlci.number past))))) }
@@ -168,7 +168,7 @@ impl Relay {
     }
 
     /// How many octets were given on a connection and haven't left; where its lane is over, these aren't sent. Refused with 6 NotData
-    /// where the connection isn't one that may carry data.
+    /// where `new` didn't name the connection.
     pub fn to_go(&self, dlci: Dlci) -> Result<usize, DataError>
         ensures count { IfOk result (λ count. OfEachPast self.now.pipes (λ past. count ≡ to_go dlci.number past)) }
         ensures not_data { OnErr result ((result ≡ Err error.NotData) × IsNotData self.now.pipes dlci.number) }

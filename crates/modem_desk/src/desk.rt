@@ -21,7 +21,7 @@ const CALLERS: u8 = 8;
 /// - A `Caller` submits requests, and takes one outcome for each. At 16 outcomes untaken it is refused until it takes one.
 /// - A `Listener` takes the lines of its kind.
 /// - The `DriverEnd` goes into a session (`modem_driver::Session`), or is used by a driver of your own: `next`, `tell`, `announce`.
-/// - `settle` takes the driver's end, all callers and the listeners, and says what each asked, took and didn't take.
+/// - `settle` takes the driver's end, all callers and the listeners, and gives what was still queued and what they didn't take.
 pub struct Desk;
 
 impl Desk {
