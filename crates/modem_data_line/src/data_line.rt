@@ -53,7 +53,7 @@ impl<L: SerialLine> Model for DataLine<L> {
 }
 
 impl<L: SerialLine> DataLine<L> {
-    /// This line and this relay, between which nothing has passed. Refused for memory, it hands both back.
+    /// This line and this relay, between which nothing has passed. Where memory is refused it hands both back.
     pub fn new(alloc: Global, line: L, relay: Relay) -> Result<DataLine<L>, (L, Relay)>
         ensures { MatchResult result (λ l. l ≡ new_data_line line relay) (λ back. (back.0 ≡ line) × (back.1 ≡ relay)) }
     {
