@@ -63,7 +63,7 @@ impl StandardLine {
     }
 }
 
-/// Whether some line is of both rules. No where one of the texts has more than 64 octets, as no rule of a dialect has.
+/// Whether some line is of both rules. The answer is no where a text has more than 64 octets, which a dialect refuses.
 #[tactic(auto, using(crate::proofs::dialects::Meeting::meet_met, crate::proofs::dialects::Meeting::none_in_common))]
 pub fn have_line_in_common(form: Form, text: &[u8], other_form: Form, other_text: &[u8]) -> bool
     ensures value { result ≡ can_meet (pattern form text.now) (pattern other_form other_text.now) }

@@ -120,8 +120,8 @@ impl Dialect {
         })
     }
 
-    /// How many rules of its own it has: at most 64. No line both ends an answer and is unsolicited by it, and no
-    /// line that begins with `AT` or `at` is either.
+    /// How many rules of its own it has: at most 64. No line is both a final code and unsolicited by it. None that begins
+    /// with `AT` or `at` is either.
     pub fn count(&self) -> usize
         ensures count { result ≡ count self.now }
         ensures sound { IsSound self.now }
@@ -200,7 +200,7 @@ impl Dialect {
         }
     }
 
-    /// Adds a final rule behind the others. Refused with the first that applies, and the dialect stays as it was: 1
+    /// Adds a final rule behind the others. A refusal leaves the dialect as it was, and is the first that applies: 1
     /// TooManyRules, 2 NoText, 3 TextTooLong, 4 LineEnd, 6 Command, 7 Ambiguous, 8 NoMemory.
     pub fn add_final(&mut self, form: Form, text: &[u8]) -> Result<(), DialectError>
         ensures added { OnOk result (self.new ≡ with_rule self.old (FinalRule form text.now)) }
@@ -220,7 +220,7 @@ impl Dialect {
     }
 
     /// Adds a rule of unsolicited lines behind the others. Its kind is that of the first rule of the same name, else a
-    /// new one. Refused with the first that applies, and the dialect stays as it was: 1 TooManyRules, 2 NoText, 3
+    /// new one. A refusal leaves the dialect as it was, and is the first that applies: 1 TooManyRules, 2 NoText, 3
     /// TextTooLong, 4 LineEnd, 5 BadName, 6 Command, 7 Ambiguous, 8 NoMemory.
     pub fn add_unsolicited(
         &mut self,

@@ -24,7 +24,7 @@ pub fn worked_examples()
     ensures two_commands { TwoCommands }
 {}
 
-/// Lines are read on from what is kept of an unfinished line, however a text is cut.
+/// However a text is cut, its lines can be read on from what is kept of the unfinished line.
 pub fn reading_on()
     ensures { (x y : List ℕ) → ReadsOn x y }
 {}
@@ -34,12 +34,12 @@ pub fn windows()
     ensures { (dialect : Dialect) (marks : List Mark) → IsInTurn dialect marks → NoneLost dialect marks }
 {}
 
-/// The lines that are placed are those of all octets, each at the same place wherever the octets are cut.
+/// The lines that are placed are those of all octets. Each has the same place, wherever the octets are cut.
 pub fn placing()
     ensures { (parts : List Part) → PlacesLines parts }
 {}
 
-/// A line that is seen on a fork of a window is what it is on the window, whose lines come before the fork's.
+/// A line is on a fork what it is on the window. The lines of the window come before those of the fork.
 pub fn forks()
     ensures apart { (dialect : Dialect) (ls : List AnswerLine) (w : Option OpenWindow) (line : List ℕ)
         → SeesApart dialect ls w line }

@@ -223,9 +223,9 @@ impl Window {
         })
     }
 
-    /// Makes `fork` a window of the same command with none of its lines, on which lines can be seen and dropped again.
-    /// Where both have a command, it uses the memory that `fork` has. `follow` puts the lines so far before the fork's
-    /// own, and `lead` before those of an answer that was whole on the fork.
+    /// Makes `fork` a window of the same command without its lines so far. Lines can be seen on a fork and dropped again.
+    /// Where both have a command, it uses the memory that `fork` has. Later `follow` puts the lines so far before the
+    /// fork's own, and `lead` before those of an answer that became whole on the fork.
     pub fn fork_into(&self, fork: &mut Window)
         ensures { fork.new ≡ forked self.now }
     {
@@ -251,8 +251,8 @@ impl Window {
         Ok(())
     }
 
-    /// Where a command is under way, moves the lines so far of the window before to the front of its own. Refused with
-    /// 4 NoMemory, which leaves both as they were.
+    /// Moves the lines so far of `before`, the window before, to the front of its own. Without a command under way here
+    /// nothing changes. Refused with 4 NoMemory, which leaves both as they were.
     pub fn follow(&mut self, before: &mut Window) -> Result<(), TextError>
         ensures ok { OnOk result (self.new ≡ led_by (lines_so_far before.old) self.old) }
         ensures left { OnOk result (

@@ -77,9 +77,9 @@ fn turn<W: Write, R: Wait>(
     None
 }
 
-/// Writes what comes out of a ring to a device, until the ring's writer is gone and all is written. It rings `bell` whenever there
-/// is room again. It waits on `own`, which a `RingWriter` rings, and stops once `own` is over. A write that takes nothing is a
-/// failure. Where it stops or the device fails, all that it took out of the ring is written, but the last 512 octets at most.
+/// Writes what comes out of a ring to a device, until the ring's writer is gone and all is written. It rings `bell` whenever there is
+/// room again. It waits on `own`, which a `RingWriter` rings, and stops once `own` is over. A write that takes nothing is a failure.
+/// Where it stops or the device fails, at most the last 512 octets that it took out of the ring aren't written.
 #[tactic(auto, using(crate::proofs::Written::none_out, crate::proofs::Written::both_out))]
 pub fn drain<W: Write, R: Wait>(
     rt: &R,

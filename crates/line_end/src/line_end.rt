@@ -41,8 +41,8 @@ impl Model for LineEnd {
 impl LineEnd {
     ghost use Rattle.line_end.specs.contracts.line_end.LineEnd.{the_row};
 
-    /// A new end. N1 is the most octets of information that a frame that comes may have. It takes all the room that it
-    /// ever needs. Refused with 3 BadN1 where N1 isn't 31 to 32767, checked first, and with 2 NoMemory.
+    /// A new end. N1 is the most octets of information that a received frame may have. It takes all the room that it ever
+    /// needs. Refused with 3 BadN1 where N1 isn't 31 to 32767, checked first, and with 2 NoMemory.
     pub fn new(alloc: Global, n1: u16) -> Result<LineEnd, FrameError>
         ensures ok { IfOk result (λ e. e ≡ new_end n1) }
         ensures past { IfOk result (λ e. Deframes [] [] e.deframer) }
@@ -67,7 +67,7 @@ impl LineEnd {
         self.failed
     }
 
-    /// Notes that the line has failed, as the caller found that carries the octets.
+    /// Notes that the line has failed, for a caller that carries the octets.
     pub fn fail(&mut self)
         ensures { self.new ≡ record self.old { failed = true } }
     {
@@ -81,8 +81,8 @@ impl LineEnd {
         self.unfed.is_empty()
     }
 
-    /// Reads the line once, with room for 512 octets, and says how many came. They wait for the deframer. Requires that no
-    /// octets wait for it. A fault is kept in mind.
+    /// Reads the line once, with room for 512 octets, and says how many came. They wait for the deframer. Requires that
+    /// no octets wait for it. After a fault `has_failed` says yes.
     pub fn read<L: SerialLine>(&mut self, line: &mut L) -> Result<usize, LineFault>
         requires { self.old.unfed ≡ [] }
         ensures bound { IfOk result (λ n. n ≤ 512) }
@@ -123,8 +123,8 @@ impl LineEnd {
         count
     }
 
-    /// Gives the deframer octets that come by this call, as many of the first as it has room for, and says how many.
-    /// Requires that none that were read wait for it: those come first.
+    /// Gives the deframer octets from the caller, as many of the first as it has room for, and says how many. Requires
+    /// that no octets that were read wait for it: those come first.
     pub fn feed_from(&mut self, octets: &[u8]) -> usize
         requires { self.old.unfed ≡ [] }
         ensures count { result ≡ min (length octets.now)
@@ -179,8 +179,8 @@ impl LineEnd {
         self.unwritten.put(frame);
     }
 
-    /// Offers the line the octets that wait to be written, once, and says how many of the first it took. A fault is kept
-    /// in mind.
+    /// Offers the line once the octets that wait to be written, and says how many of the first it took. After a fault
+    /// they all wait on, and `has_failed` says yes.
     pub fn write<L: SerialLine>(&mut self, line: &mut L) -> Result<usize, LineFault>
         ensures bound { IfOk result (λ n. n ≤ length self.old.unwritten) }
         ensures ok { IfOk result (λ n. self.new ≡ record self.old { unwritten = drop n self.old.unwritten }) }

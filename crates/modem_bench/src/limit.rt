@@ -25,8 +25,7 @@ impl Limits {
     }
 }
 
-/// How many polls a session has left, how many in a row moved nothing, the one under way counted as one that moves nothing, and how
-/// many in a row may.
+/// How many polls a session has left. How many in a row moved nothing, counting the one under way. How many in a row may.
 #[derive(Drop)]
 pub struct Limit {
     left: u32,
@@ -46,7 +45,7 @@ impl Limit {
         }
     }
 
-    /// Counts a poll that is to be made. Refused with UsedUp where no poll is left, checked first, and with Quiet where as many in a
+    /// Counts a poll that is to be made. Refused with UsedUp where no poll is left, checked first. Refused with Quiet where as many in a
     /// row moved nothing as may.
     pub fn count(&mut self) -> Result<(), Cause>
         ensures may { OnOk result (cause_at self.old ≡ None) }

@@ -23,7 +23,7 @@ pub enum Rest {
     Still,
     /// One of the two has sent as many octets as there is room for.
     Full,
-    /// All are used up.
+    /// All rounds are used up.
     UsedUp,
 }
 
@@ -196,10 +196,9 @@ fn steps<R: Wait + Drop>(
 /// after `rounds` rounds. Refusals: the fault of the session, or else that of the simulated modem, after the first
 /// round that has one.
 ///
-/// Whatever joint list of acts the two had before, it goes on to one that they have after it; and where they began at new lines,
-/// with one N1, it stays one line's: the frames that came at each end are the first that the other sent. Where each connection
-/// is asked for at most once and only unsolicited lines are announced, each command told Done is told what the modem answered to
-/// it at its place.
+/// Whatever joint list of acts the two had before goes on to one that they have after it. Where they began at new lines with one N1, it
+/// stays one line's: the frames that came at each end are the first that the other sent. Where each connection is asked for at most once
+/// and only unsolicited lines are announced, each command told Done is told what the modem answered to it at its place.
 #[tactic(auto, using(crate::proofs::OneLine::tells_modem_to))]
 pub fn run_in_rounds<R: Wait + Drop>(
     session: &mut Session<CutLine, R>,

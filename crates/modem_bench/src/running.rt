@@ -85,9 +85,9 @@ where
     run_threads(rt, alloc, ends, submissions, signals, limits)
 }
 
-/// Runs a bench, and gives what each caller was told for each thing that the submissions ask of it, in their order.
-/// `cut` is how many octets may be under way each way, 1 to 65536. The simulated modem has its default start and this
-/// script. Refused with the fault for which the bench was given up, and with NoMemory for another cut.
+/// Runs a bench, and gives what each caller was told for each thing that the submissions ask of it, in their order. Requires 1 to 8
+/// callers. `cut` is how many octets may be under way each way, 1 to 65536. The simulated modem has its default start and this script.
+/// Refused with the fault for which the bench was given up, and with NoMemory for another cut.
 pub fn run_bench<R>(
     rt: &R,
     alloc: Global,
@@ -130,9 +130,9 @@ where
     )
 }
 
-/// As `run_bench`, within these limits. Every poll of its session counts. One that moves an octet on the line, takes a request, tells
-/// an outcome or announces a line begins the count of those that move nothing anew. Few are made where nothing happens: behind a poll
-/// that leaves nothing to do the driver waits until it is rung, or for a tenth of a second.
+/// As `run_bench`, within these limits. Every poll of its session counts. The count of those that move nothing begins anew with one that
+/// moves an octet on the line, takes a request, tells an outcome or announces a line. Behind a poll that leaves nothing to do the driver
+/// waits until it is rung, or for a tenth of a second.
 pub fn run_bench_limited<R>(
     rt: &R,
     alloc: Global,

@@ -50,7 +50,8 @@ where
     }
 }
 
-/// Ends a session and settles its desk with the callers that have worked: the outcomes that each took.
+/// Ends a session, settles its desk with the callers that have worked, and gives the outcomes that each
+/// took.
 pub fn settle_run<L, R>(
     rt: &R,
     alloc: Global,

@@ -17,7 +17,7 @@ const WAIT_MILLISECONDS: u64 = 100;
 /// Why a bench ends without its output.
 #[derive(Clone, Copy, Drop)]
 pub enum Fault {
-    /// A growth was refused.
+    /// Memory was refused.
     NoMemory,
     /// The line failed.
     Line,
@@ -105,7 +105,7 @@ impl Signals {
         &self.shared.bells
     }
 
-    /// The same for another thread, which waits on this bell.
+    /// A share for another thread, which waits on this bell.
     fn share(&self, bell: &Bell) -> Result<Signals, AllocError>
         ensures { IfOk result (λ s. arc_value s.shared ≡ arc_value self.now.shared) }
     {
@@ -114,21 +114,21 @@ impl Signals {
         Ok(Signals { shared, bell })
     }
 
-    /// The same for the driver's thread.
+    /// A share for the driver's thread.
     pub fn of_driver(&self) -> Result<Signals, AllocError>
         ensures { IfOk result (λ s. arc_value s.shared ≡ arc_value self.now.shared) }
     {
         self.share(&self.shared.bells.driver)
     }
 
-    /// The same for the simulated modem's thread.
+    /// A share for the simulated modem's thread.
     pub fn of_modem(&self) -> Result<Signals, AllocError>
         ensures { IfOk result (λ s. arc_value s.shared ≡ arc_value self.now.shared) }
     {
         self.share(&self.shared.bells.modem)
     }
 
-    /// The same for the thread of the caller of this number, or of caller 0 where the bench has none of this number.
+    /// A share for the thread of the caller of this number, or of caller 0 where the bench has none of this number.
     pub fn of_caller(&self, number: u8) -> Result<Signals, AllocError>
         ensures { IfOk result (λ s. arc_value s.shared ≡ arc_value self.now.shared) }
     {

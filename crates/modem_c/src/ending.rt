@@ -40,7 +40,8 @@ fn end(endpoint: Endpoint, left: &mut LeftCounts, numbers: &mut [u64])
     };
 }
 
-/// Ends the driver, and says what is left of it.
+/// Ends the driver, counts what is left of it, and writes the numbers of the requests that weren't
+/// told, as many as fit.
 #[unsafe(no_mangle)]
 pub extern "C" fn cimbaloty_finish_at(
     alloc: Global,

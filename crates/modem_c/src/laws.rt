@@ -13,8 +13,8 @@ pub fn outputs()
     ensures { OutputsAreCalls }
 {}
 
-/// What the calls of an entry say of its text joins: it begins where nothing was sent or read yet, and its parts go out one
-/// behind the other. What came behind it stands in the clauses of `cimbaloty_enter_input_at`.
+/// An entry begins with nothing sent and nothing read, and the parts of its text go out one after the other. What comes
+/// behind the text stands in the clauses of `cimbaloty_enter_input_at`.
 #[tactic(auto, using(crate::proofs::GivenTexts::begins, crate::proofs::GivenTexts::gives))]
 pub fn entries()
     ensures begin { EntriesBegin }

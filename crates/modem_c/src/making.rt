@@ -140,7 +140,8 @@ pub extern "C" fn cimbaloty_free(alloc: Global, c: &mut Cimbaloty)
     drop(c.take(alloc));
 }
 
-/// The version of the library: its major number by 65536, its minor by 256, and its patch.
+/// The version of the library: 65536 times its major number, 256 times its minor, and its patch, added
+/// up.
 #[unsafe(no_mangle)]
 pub extern "C" fn cimbaloty_version() -> u32
     ensures { result ≡ 256 }

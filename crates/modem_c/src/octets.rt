@@ -102,8 +102,8 @@ fn give_on(endpoint: &mut Endpoint, room: &mut [u8]) -> usize
     }
 }
 
-/// Writes the next octets for the line to the front of the room, and says how many. Before the first, between them and behind the
-/// last it handles the frames at hand, and holds and frees connections, as far as there is room and memory.
+/// Writes the next octets for the line to the front of the room, and says how many. Meanwhile it handles the frames at hand, and holds
+/// and frees connections, as far as there is room and memory.
 #[unsafe(no_mangle)]
 pub extern "C" fn cimbaloty_output_at(alloc: Global, c: &mut Cimbaloty, room: &mut [u8]) -> usize
     ensures out { endpoint_of c.old ≢ None → Goes c.old c.new (λ e f. (l : LineView) (d : DriverView)

@@ -42,8 +42,8 @@ fn first_change(endpoint: &Endpoint, told: &mut [u8]) -> Option<Dlci>
     None
 }
 
-/// Hands out the first connection whose state isn't as it was told, by the numbers at these places; its state then stands
-/// there. A 0 stands for shut.
+/// At each connection's number `told` has the state last told of it, where a 0 stands for shut. Hands out the first
+/// connection whose state is another, and puts that there.
 #[unsafe(no_mangle)]
 pub extern "C" fn cimbaloty_poll_state_at(
     alloc: Global,

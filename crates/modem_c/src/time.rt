@@ -89,7 +89,7 @@ fn waiting_ticks(endpoint: &Endpoint, dlci: Dlci) -> Option<u64>
     endpoint.waiting_ticks(dlci)
 }
 
-/// Hands out how many ticks in a row have found the same command first in hand on a connection.
+/// Hands out how many ticks the oldest unanswered command of a connection has waited as the oldest.
 #[unsafe(no_mangle)]
 pub extern "C" fn cimbaloty_waiting_ticks(
     alloc: Global,

@@ -26,16 +26,17 @@ pub enum DataError {
     /// 6: the connection wasn't named as one that carries data.
     #[error("the connection is not one that carries data")]
     NotData,
-    /// 7: the connection carries a lane, whose opening hasn't ended.
+    /// 7: a lane is under way on the connection.
     #[error("data is under way on the connection")]
     UnderWay,
-    /// 8: data of the last opening wasn't read.
+    /// 8: data of the last lane wasn't read.
     #[error("data of the last opening was not read")]
     Unread,
     /// 9: the connection isn't open.
     #[error("the connection is not open")]
     NotOpen,
-    /// 10: lines come: no lane began, or its CONNECT line hasn't come.
+    /// 10: the connection carries lines: no lane is under way, or no octet came behind its CONNECT
+    /// line.
     #[error("the connection carries lines")]
     Lines,
 }

@@ -1,4 +1,5 @@
-//! Data on connections of the multiplexer, beside the AT commands on the others.
+//! Data on connections of the multiplexer, beside the AT commands on the others. A lane is a stretch of data on a
+//! connection: a call begins it, and it is over where the connection's opening ends, the line is lost, or a call ends it.
 //!
 //! # Layout
 //!

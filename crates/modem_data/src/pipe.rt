@@ -18,7 +18,7 @@ use mux_frame::{Dlci, FrameView, Kind};
 use std::alloc::{AllocError, Global};
 use std::marker::Model;
 
-/// A connection that carries data. A lane begins by a call, and is over where the connection's opening ends.
+/// A connection that carries data, one lane after the other.
 #[derive(Drop)]
 pub struct Pipe {
     watch: Watch,
@@ -67,8 +67,9 @@ impl Pipe {
         self.watch.dlci()
     }
 
-    /// A lane begins, of the opening that there is or else of the next: with data behind its next CONNECT line, or at once.
-    /// Refused with 7 UnderWay where one is under way, and else with 8 Unread where data of the last one wasn't read.
+    /// Begins a lane, in the opening that there is or else in the next. Data comes behind its next CONNECT line where `by_connect` is
+    /// set, else at once. Refused with 7 UnderWay where a lane is under way, and else with 8 Unread where data of the last one wasn't
+    /// read.
     #[tactic(auto, using(crate::proofs::PipeCalls::leads_began, crate::proofs::PipeCalls::a_lane_is, crate::proofs::PipeCalls::has_unread))]
     pub fn begin(&mut self, by_connect: bool) -> Result<(), DataError>
         ensures leads { OnOk result (Leads self.old self.new (Began self.old.watch.dlci by_connect)) }
@@ -88,7 +89,7 @@ impl Pipe {
         Ok(())
     }
 
-    /// The lane is over, from the next frame on: lines come and go again. What was given and hasn't left isn't sent.
+    /// Ends the lane, from the next frame on: lines come and go again. What was given and hasn't left isn't sent.
     #[tactic(auto, using(crate::proofs::PipeCalls::leads_ended))]
     pub fn lines(&mut self)
         ensures leads { Leads self.old self.new (EndedLane self.old.watch.dlci) }
@@ -97,7 +98,7 @@ impl Pipe {
         self.lane.end();
     }
 
-    /// Whether a lane of data is under way: a CONNECT line has ended, or data comes from the beginning on.
+    /// Whether data is under way: the lane's CONNECT line has ended, or its data came at once.
     #[tactic(auto, using(crate::proofs::PipeCalls::says_behind))]
     pub fn is_behind_lines(&self) -> bool
         ensures { SaysBehind self.now result }
@@ -105,8 +106,9 @@ impl Pipe {
         self.lane.is_behind_lines()
     }
 
-    /// A frame came from the line. Of information of a lane says how many of the first octets are lines, for the driver; any other
-    /// frame is the driver's. Refusal: no memory, which changes nothing. None is asked for where the data has room.
+    /// A frame came from the line. Of information on a lane, says how many of the first octets are lines, for the driver, and keeps the
+    /// data behind them. `None`: all of the frame is the driver's. Refusal: no memory, which changes nothing. None is asked for where the
+    /// data has room.
     pub fn came(&mut self, frame: FrameView<'_>) -> Result<Option<usize>, AllocError>
         ensures leads { OnOk result (Leads self.old self.new (Came (frame_of frame.entry))) }
         ensures hands { IfOk result (λ count. HandsOn self.old (frame_of frame.entry) count) }
@@ -172,7 +174,7 @@ impl Pipe {
         self.watch.went(frame);
     }
 
-    /// A frame that says something of the flow goes to the line.
+    /// A frame of flow control goes to the line.
     pub fn flowed(&mut self, frame: FrameView<'_>)
         ensures { self.new ≡ flowed_pipe (frame_of frame.entry) self.old }
     {
@@ -193,7 +195,8 @@ impl Pipe {
         self.watch.lost();
     }
 
-    /// Gives the first octets of data that wait, as many as there is room for, and says how many, and whether that was the end.
+    /// Gives the first octets of data that wait, as many as there is room for. Says how many, and whether a lane is over and read to its
+    /// end.
     #[tactic(auto, using(crate::proofs::PipeCalls::leads_read, crate::proofs::PipeCalls::says_over))]
     pub fn read(&mut self, room: &mut [u8]) -> Reading
         ensures count { result.count ≡ min (length self.old.lane.came) (length room.old) }
@@ -207,8 +210,8 @@ impl Pipe {
         Reading { count, is_over }
     }
 
-    /// Takes the first octets to be sent, behind those that were given before, as far as 4096 wait then, and says how many.
-    /// Refused with 9 NotOpen where the connection isn't open, and else with 10 Lines where it doesn't carry data.
+    /// Takes octets to be sent from the front of these, until 4096 wait, and says how many. Refused with 9 NotOpen where the connection
+    /// isn't open, and else with 10 Lines where it doesn't carry data.
     #[tactic(auto, using(crate::proofs::PipeCalls::leads_gave, crate::proofs::PipeCalls::is_shut, crate::proofs::PipeCalls::has_no_data))]
     pub fn give(&mut self, octets: &[u8]) -> Result<usize, DataError>
         ensures count { IfOk result (λ count. count ≡ min (length octets.now) (most_to_go - length self.old.lane.to_go)) }
@@ -235,8 +238,8 @@ impl Pipe {
         self.lane.to_go().len()
     }
 
-    /// What is due to be said of the flow: stop, where 8192 octets wait to be read, or go on, where fewer than 4096 do; but not
-    /// where the driver holds the connection.
+    /// What the other end is due to be told: to stop (`false`) where 8192 octets wait to be read, then to go on (`true`) where fewer than
+    /// 4096 do and the driver doesn't hold the connection.
     #[tactic(auto, using(crate::proofs::PipeCalls::says_flow, crate::proofs::PipeCalls::idle_flow, crate::proofs::PipeCalls::shut_flow))]
     pub fn flow(&self) -> Option<bool>
         ensures { SaysFlow self.now result }

@@ -73,8 +73,8 @@ impl Pipes {
         })
     }
 
-    /// A frame came from the line. Of information of a lane says how many of the first octets are lines, for the driver; any other
-    /// frame is the driver's. Refusal: no memory, which changes nothing.
+    /// A frame came from the line. Of information on a lane, says how many of the first octets are lines, for the driver, and keeps the
+    /// data behind them. `None`: all of the frame is the driver's. Refusal: no memory, which changes nothing.
     #[tactic(auto, using(crate::proofs::PipeSets::all_saw, crate::proofs::PipeSets::control_hands, crate::proofs::PipeSets::none_came, crate::proofs::PipeSets::none_hands, crate::proofs::PipeSets::one_info, crate::proofs::PipeSets::one_hand, crate::proofs::PipeSets::own_info))]
     pub fn came(&mut self, frame: FrameView<'_>) -> Result<Option<usize>, AllocError>
         ensures leads { OnOk result (AllLead self.old self.new (Came (frame_of frame.entry))) }
@@ -107,7 +107,7 @@ impl Pipes {
         lose_all(&mut self.each);
     }
 
-    /// A lane of a connection begins, as `Pipe::begin` says. Refused with 6 NotData where there is no pipe of it.
+    /// Begins a lane of a connection, as `Pipe::begin` does. Refused with 6 NotData where there is no pipe of it.
     #[tactic(auto, using(crate::proofs::PipeSetCalls::one_began, crate::proofs::PipeSetCalls::not_data, crate::proofs::PipeSetCalls::under_way_at, crate::proofs::PipeSetCalls::unread_at))]
     pub fn begin(&mut self, dlci: Dlci, by_connect: bool) -> Result<(), DataError>
         ensures began { OnOk result (AllLead self.old self.new (Began dlci.number by_connect)) }
@@ -125,7 +125,7 @@ impl Pipes {
         self.each[place].begin(by_connect)
     }
 
-    /// The lane of a connection is over, as `Pipe::lines` says. Refused with 6 NotData where there is no pipe of it.
+    /// Ends the lane of a connection, as `Pipe::lines` does. Refused with 6 NotData where there is no pipe of it.
     #[tactic(auto, using(crate::proofs::PipeSetCalls::one_ended, crate::proofs::PipeSetCalls::not_data))]
     pub fn lines(&mut self, dlci: Dlci) -> Result<(), DataError>
         ensures ended { OnOk result (AllLead self.old self.new (EndedLane dlci.number)) }
@@ -196,7 +196,7 @@ impl Pipes {
         Ok(self.each[place].to_go())
     }
 
-    /// What is to be said of the flow of the first connection of which there is something to say.
+    /// The first connection of which the other end is due to be told something, and what.
     #[tactic(auto, using(crate::proofs::PipeSetCalls::due_of, crate::proofs::PipeSetCalls::none_due))]
     pub fn due(&self) -> Option<Flow>
         ensures some { IfSome result (λ f. OfEachPast self.now (λ past. IsDue f.dlci.number past f.go)) }
@@ -205,7 +205,7 @@ impl Pipes {
         due_of(&self.each)
     }
 
-    /// The frame that says so goes to the line. Requires that it is to be said.
+    /// The frame that tells it goes to the line. Requires that it is due.
     #[tactic(auto, using(crate::proofs::PipeSetCalls::all_flowed))]
     pub fn flowed(&mut self, flow: Flow, frame: FrameView<'_>)
         requires due { OfEachPast self.old (λ past. IsDue flow.dlci.number past flow.go) }

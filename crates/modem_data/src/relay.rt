@@ -19,14 +19,13 @@ use mux_frame::{Deframer, Dlci, FrameView, Kind};
 use std::alloc::{AllocError, Global};
 use std::marker::Model;
 
-/// A relay: the frames of the line go on to the driver, and those of the driver to the line, but for data.
+/// A relay between a line and a driver: it passes the frames of each on to the other, but for data.
 ///
-/// - `new` names the connections that may carry data. `begin` begins a lane on one, from its opening on or behind the next CONNECT;
-///   `lines` ends it.
+/// - `new` names the connections that may carry data. `begin` begins a lane on one, at once or behind the next CONNECT; `lines` ends it.
 /// - Hand what the line gave to `from_line`. Give the driver what `for_driver` lends, and say by `handed` how much.
 /// - Where `wants_driver` says so, hand the driver's octets to `feed_driver`. While `ready` says so, write what `for_line` lends,
 ///   and say by `wrote` how much.
-/// - `give` takes data to be sent, `read` gives what came, and says where the lane has ended.
+/// - `give` takes data to be sent, `read` gives what came, and says where the lane is over.
 /// - `lost` says that the line failed: each lane is over, and what came stays readable.
 #[derive(Drop)]
 pub struct Relay {
@@ -60,14 +59,14 @@ impl Model for Relay {
 pub struct Input {
     /// So many were taken.
     pub taken: usize,
-    /// Memory was wanted: a frame is at hand that hasn't passed.
+    /// Memory was refused: a frame is at hand that hasn't passed.
     pub is_blocked: bool,
 }
 
 impl Relay {
-    /// Nothing has passed. These connections may carry data; no lane is under way. N1 is the most octets of information that a frame
-    /// may have. Refused with 2 BadN1 where N1 isn't 31 to 32767, else with 5 TooMany where there are more than 8 connections, else with
-    /// 3 ControlChannel where 0 is among them, else with 4 Twice where one is named twice, and with 1 NoMemory.
+    /// Nothing has passed. These connections may carry data; no lane is under way. N1 is the most octets of information that a frame may
+    /// have. Refused, in this order: 2 BadN1 where N1 isn't 31 to 32767; 5 TooMany where there are more than 8 connections; 3
+    /// ControlChannel where 0 is among them; 4 Twice where one is named twice; 1 NoMemory.
     #[tactic(auto, using(crate::proofs::Relays::begins))]
     pub fn new(alloc: Global, n1: u16, named: &[Dlci]) -> Result<Relay, DataError>
         ensures past { IfOk result (λ v. BeginsRelay n1 (numbers named.now) v) }
@@ -99,9 +98,9 @@ impl Relay {
         })
     }
 
-    /// A lane of a connection begins, of the opening that there is or else of the next: with data behind its next CONNECT line, or
-    /// at once. Refused with 6 NotData where the connection isn't one that may carry data, else with 7 UnderWay where a lane is under
-    /// way, and else with 8 Unread where data of the last one wasn't read.
+    /// Begins a lane of a connection, in the opening that there is or else in the next. Data comes behind its next CONNECT line where
+    /// `by_connect` is set, else at once. Refused, in this order: 6 NotData where `new` didn't name the connection; 7 UnderWay where a
+    /// lane is under way; 8 Unread where data of the last one wasn't read.
     pub fn begin(&mut self, dlci: Dlci, by_connect: bool) -> Result<(), DataError>
         ensures began { OnOk result (Hops self.old self.new (Passed (Began dlci.number by_connect))) }
         ensures not_data { result ≡ Err error.NotData → IsNotData self.old.pipes dlci.number }
@@ -114,8 +113,8 @@ impl Relay {
         self.pipes.begin(dlci, by_connect)
     }
 
-    /// The lane of a connection is over, if there is one, from the next frame on: lines come and go again. What was given and hasn't
-    /// left isn't sent; what came stays readable. Refused with 6 NotData where the connection isn't one that may carry data.
+    /// Ends the lane of a connection, if there is one. From the next frame on lines come and go again. What was given and hasn't left
+    /// isn't sent; what came stays readable. Refused with 6 NotData where `new` didn't name the connection.
     pub fn lines(&mut self, dlci: Dlci) -> Result<(), DataError>
         ensures ended { OnOk result (Hops self.old self.new (Passed (EndedLane dlci.number))) }
         ensures not_data { OnErr result ((result ≡ Err error.NotData) × IsNotData self.old.pipes dlci.number) }
@@ -124,7 +123,7 @@ impl Relay {
         self.pipes.lines(dlci)
     }
 
-    /// Whether data is under way on a connection: its CONNECT line has ended, or data comes from the beginning of the lane on.
+    /// Whether data is under way on a connection: the lane's CONNECT line has ended, or its data came at once.
     pub fn is_behind_lines(&self, dlci: Dlci) -> bool
         ensures { OfEachPast self.now.pipes (λ past. result ≡ is_behind_lines (carries dlci.number past)) }
     {
@@ -140,8 +139,8 @@ impl Relay {
         self.to_line.is_empty() && self.inner.peek().is_none()
     }
 
-    /// Gives the first octets of data that wait, as many as there is room for, and says how many, and whether that was the end of
-    /// the lane. Refused with 6 NotData where the connection isn't one that may carry data.
+    /// Gives the first octets of data that wait, as many as there is room for. Says how many, and whether the lane is over and read to
+    /// its end. Refused with 6 NotData where `new` didn't name the connection.
     pub fn read(&mut self, dlci: Dlci, room: &mut [u8]) -> Result<Reading, DataError>
         ensures count { IfOk result (λ r. OfEachPast self.old.pipes (λ past. r.count ≡ min (unread dlci.number past) (length room.old))) }
         ensures read { IfOk result (λ r. Hops self.old self.new (Passed (Read dlci.number (take r.count room.new)))) }
@@ -153,9 +152,8 @@ impl Relay {
         self.pipes.read(dlci, room)
     }
 
-    /// Takes the first octets to be sent as data, behind those that were given before, as far as 4096 wait then, and says how many.
-    /// Refused with 6 NotData where the connection isn't one that may carry data, else with 9 NotOpen where it isn't open, and else
-    /// with 10 Lines where it doesn't carry data.
+    /// Takes octets to be sent as data from the front of these, until 4096 wait, and says how many. Refused, in this order: 6 NotData
+    /// where `new` didn't name the connection; 9 NotOpen where it isn't open; 10 Lines where it doesn't carry data.
     pub fn give(&mut self, dlci: Dlci, octets: &[u8]) -> Result<usize, DataError>
         ensures count { IfOk result (λ count. OfEachPast self.old.pipes (λ past.
             count ≡ min (length octets.now) (most_to_go - (length (given dlci.number past) - length (left dlci.number past))))) }
@@ -170,7 +168,7 @@ impl Relay {
     }
 
     /// How many octets were given on a connection and haven't left; where its lane is over, these aren't sent. Refused with 6 NotData
-    /// where the connection isn't one that may carry data.
+    /// where `new` didn't name the connection.
     pub fn to_go(&self, dlci: Dlci) -> Result<usize, DataError>
         ensures count { IfOk result (λ count. OfEachPast self.now.pipes (λ past. count ≡ to_go dlci.number past)) }
         ensures not_data { OnErr result ((result ≡ Err error.NotData) × IsNotData self.now.pipes dlci.number) }
@@ -211,7 +209,7 @@ impl Relay {
         self.to_driver.as_slice()
     }
 
-    /// So many of the octets for the driver were given to it. Requires that there are as many.
+    /// Drops the first `count` octets for the driver, which took them. Requires that there are as many.
     pub fn handed(&mut self, count: usize)
         requires { count ≤ length self.old.to_driver }
         ensures hands { Hops self.old self.new (Handed (take count self.old.to_driver)) }
@@ -227,7 +225,7 @@ impl Relay {
         self.to_line.as_slice()
     }
 
-    /// So many of the octets for the line were given to it. Requires that there are as many.
+    /// Drops the first `count` octets for the line, which took them. Requires that there are as many.
     pub fn wrote(&mut self, count: usize)
         requires { count ≤ length self.old.to_line }
         ensures writes { Hops self.old self.new (Wrote (take count self.old.to_line)) }
@@ -354,7 +352,7 @@ impl Relay {
         true
     }
 
-    /// Makes the driver's next frame for the line, if one is at hand and no octets wait for the line. Says whether octets wait.
+    /// Readies the driver's next frame for the line, if one is at hand and no octets wait for the line. Says whether octets wait.
     #[tactic(auto, using(crate::proofs::Relays::driver_waits, crate::proofs::Relays::driver_goes, crate::proofs::Relays::driver_none))]
     pub fn ready_driver(&mut self) -> bool
         ensures one { DriverOut self.old self.new }
@@ -369,8 +367,8 @@ impl Relay {
         self.pass_driver()
     }
 
-    /// Makes the next frame for the line where no octets wait for it: the driver's, or else one that says something of the flow, or
-    /// one of data, of the connection whose turn it is. Says whether octets wait. Where none do, nothing may go to the line.
+    /// Readies the next frame for the line where no octets wait for it: the driver's, or else one of flow control, or else one of data,
+    /// of the connection whose turn it is. Says whether octets wait. Where none do, nothing may go to the line.
     #[tactic(auto, using(crate::proofs::Relays::out_waits, crate::proofs::Relays::out_goes, crate::proofs::Relays::out_flows, crate::proofs::Relays::out_leaves))]
     pub fn ready(&mut self) -> bool
         ensures one { OneOut self.old self.new }

@@ -15,7 +15,7 @@ use modem_data::Relay;
 use mux_frame::Dlci;
 use std::alloc::Global;
 
-/// A lane of a connection begins.
+/// Begins a lane of a connection.
 fn begin(relay: &mut Relay, dlci: u8, by_connect: bool) -> u8
     ensures ok { result ≡ OK → Hops relay.old relay.new (Passed (Began dlci by_connect)) }
     ensures bad { (result ≡ BAD_DLCI) ↔ (61 < dlci) }
@@ -35,7 +35,7 @@ fn begin(relay: &mut Relay, dlci: u8, by_connect: bool) -> u8
     }
 }
 
-/// A lane begins, with data behind the next CONNECT line, or at once.
+/// Begins a lane. Data comes behind the next CONNECT line where `by_connect` is set, else at once.
 #[unsafe(no_mangle)]
 pub extern "C" fn cimbaloty_data_begin(
     alloc: Global,
@@ -61,7 +61,7 @@ pub extern "C" fn cimbaloty_data_begin(
     answer
 }
 
-/// The lane of a connection is over.
+/// Ends the lane of a connection.
 fn end(relay: &mut Relay, dlci: u8) -> u8
     ensures ok { result ≡ OK → Hops relay.old relay.new (Passed (EndedLane dlci)) }
     ensures bad { (result ≡ BAD_DLCI) ↔ (61 < dlci) }
@@ -78,7 +78,7 @@ fn end(relay: &mut Relay, dlci: u8) -> u8
     OK
 }
 
-/// The lane of a connection is over, from the next frame on: lines come and go again.
+/// Ends the lane of a connection, from the next frame on: lines come and go again.
 #[unsafe(no_mangle)]
 pub extern "C" fn cimbaloty_data_lines(alloc: Global, d: &mut CimbalotyData, dlci: u8) -> u8
     ensures ok { result ≡ OK → Becomes d.old d.new (λ r s. Hops r s (Passed (EndedLane dlci))) }
@@ -197,7 +197,7 @@ fn give(relay: &mut Relay, dlci: u8, octets: &[u8], taken: &mut usize) -> u8
     }
 }
 
-/// Takes the first octets to be sent as data, as far as 4096 wait then.
+/// Takes octets to be sent as data from the front of these, until 4096 wait.
 #[unsafe(no_mangle)]
 pub extern "C" fn cimbaloty_data_give_at(
     alloc: Global,

@@ -38,8 +38,8 @@ pub extern "C" fn cimbaloty_data_from_line_at(
     if input.is_blocked { NO_MEMORY } else { OK }
 }
 
-/// Takes octets that the driver gave for the line, from the front of these, and says how many. It takes some where nothing waits for
-/// the line.
+/// Takes octets that the driver gave for the line, from the front of these, and says how many. It takes some where no frame of the
+/// driver's is at hand.
 #[unsafe(no_mangle)]
 pub extern "C" fn cimbaloty_data_from_driver_at(
     alloc: Global,
@@ -89,7 +89,7 @@ fn hand(relay: &mut Relay, count: usize)
     relay.handed(some);
 }
 
-/// So many of the octets that wait for the driver went to it: they wait no more.
+/// Drops the first `count` octets that wait for the driver, which took them, or all where fewer wait.
 #[unsafe(no_mangle)]
 pub extern "C" fn cimbaloty_data_handed(alloc: Global, d: &mut CimbalotyData, count: usize)
     ensures handed { relay_of d.old ≢ None → Becomes d.old d.new (λ r s.

@@ -37,8 +37,8 @@ pub enum Taken {
     RelayFirst,
 }
 
-/// Takes the next octet of the endpoint for the line, where nothing of the driver's waits at the relay. `Relay::ready` is for where
-/// there is nothing more, or the relay is first: so no data passes what the endpoint has queued.
+/// Takes the next octet of the endpoint for the line, where nothing of the driver's waits at the relay. Call `Relay::ready` after Nothing
+/// and RelayFirst alone: so no data overtakes what the endpoint has queued.
 #[tactic(auto, using(crate::proofs::Joins::takes_over))]
 pub fn take_over(relay: &mut Relay, endpoint: &mut Endpoint) -> Taken
     ensures one { result ≡ taken.One → TakesOver relay.old relay.new endpoint.old endpoint.new }
@@ -84,7 +84,8 @@ impl CommandRefused {
     }
 }
 
-/// Asks for a command line to be sent on a connection, as `Endpoint::command` does. Refused where data is under way on it.
+/// Asks for a command line to be sent on a connection, as `Endpoint::command` does. Refused with 3 CarriesData where data is under way on
+/// it.
 pub fn command(
     relay: &Relay,
     endpoint: &mut Endpoint,

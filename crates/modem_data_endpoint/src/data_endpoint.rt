@@ -26,7 +26,7 @@ impl Model for DataEndpoint {
 }
 
 impl DataEndpoint {
-    /// Of these two.
+    /// An endpoint behind a relay. The law (`laws::one_sequence`) speaks of two made with one N1.
     pub fn new(endpoint: Endpoint, relay: Relay) -> DataEndpoint
         ensures { result ≡ record { endpoint = endpoint; relay = relay } }
     {
@@ -44,10 +44,10 @@ impl DataEndpoint {
         take_in(&mut self.relay, &mut self.endpoint, octets)
     }
 
-    /// Writes the next octets for the line to the front of `room`, those of one frame at most, and says how many, and whether it goes
-    /// on: then call it again. Where it writes none and doesn't go on, nothing waits that may go. The endpoint's octets go first, and
-    /// data goes only where nothing of the endpoint's waits. What is written counts as sent: a caller that can't write it to its line
-    /// calls `line_lost`.
+    /// Writes the next octets for the line to the front of `room`, those of one frame at most. Says how many, and whether it goes on:
+    /// then call it again. Where it writes none and doesn't go on, nothing waits that may go. The endpoint's octets go first, and data
+    /// goes only where nothing of the endpoint's waits. What is written counts as sent: a caller that can't write it to its line calls
+    /// `line_lost`.
     pub fn poll_output(&mut self, room: &mut [u8]) -> Output
         ensures gives { CarriesOut self.old self.new (take result.count room.new) result.goes_on }
         ensures few { result.count ≤ length room.old }

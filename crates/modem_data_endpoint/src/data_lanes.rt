@@ -14,7 +14,7 @@ use modem_data::{DataError, Reading};
 use mux_frame::Dlci;
 
 impl DataEndpoint {
-    /// A lane of a connection begins, as `Relay::begin` says.
+    /// Begins a lane of a connection, as `Relay::begin` does.
     pub fn begin(&mut self, dlci: Dlci, by_connect: bool) -> Result<(), DataError>
         ensures began { OnOk result (Hops self.old.relay self.new.relay (Passed (Began dlci.number by_connect))) }
         ensures not_data { result ≡ Err error.NotData → IsNotData self.old.relay.pipes dlci.number }
@@ -27,7 +27,7 @@ impl DataEndpoint {
         self.relay.begin(dlci, by_connect)
     }
 
-    /// The lane of a connection is over, from the next frame on, as `Relay::lines` says.
+    /// Ends the lane of a connection, as `Relay::lines` does.
     pub fn lines(&mut self, dlci: Dlci) -> Result<(), DataError>
         ensures ended { OnOk result (Hops self.old.relay self.new.relay (Passed (EndedLane dlci.number))) }
         ensures not_data { OnErr result ((result ≡ Err error.NotData) × IsNotData self.old.relay.pipes dlci.number) }

@@ -77,7 +77,7 @@ impl DataEndpoint {
         self.endpoint.wants_tick()
     }
 
-    /// The line was lost: each lane is over, and everyone in hand is told LineLost, as `Endpoint::line_lost` says. Where memory is
+    /// The line was lost: each lane is over, and every request in hand is told LineLost, as `Endpoint::line_lost` says. Where memory is
     /// refused call it again.
     pub fn line_lost(&mut self) -> Result<(), SessionFault>
         ensures lanes { Hops self.old.relay self.new.relay (Passed Lost) }

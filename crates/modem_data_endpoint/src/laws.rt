@@ -6,9 +6,9 @@ ghost use Rattle.modem_data_endpoint.specs.Pairs.{PairLaw};
 use modem_driver::laws::endpoints;
 use mux_frame::laws::deframed;
 
-/// Of one sequence of calls of a relay and an endpoint behind it there is one history of the endpoint, as its own law says, over the
-/// line's frames but data: the frames that it got are the first of those, and all of them where none waits on the way. The frames
-/// of the driver's that went to the line are the first of those that the history gave on.
+/// Any sequence of calls of a relay and an endpoint behind it has one history of the endpoint, as the endpoint's own law says. The frames
+/// that it got are the first of the line's frames but data, and all of them where none waits on the way. The driver's frames that went to
+/// the line are the first of those that the history gave on.
 pub fn beside()
     ensures { DataLaw }
 {
@@ -16,7 +16,7 @@ pub fn beside()
     endpoints();
 }
 
-/// So it is of one sequence of calls of a `DataEndpoint`.
+/// The same of any sequence of calls of a `DataEndpoint`.
 #[tactic(auto, using(crate::proofs::Pairing::pair_law))]
 pub fn one_sequence()
     ensures { PairLaw }

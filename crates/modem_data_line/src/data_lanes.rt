@@ -18,7 +18,7 @@ use mux_frame::Dlci;
 use serial_line::SerialLine;
 
 impl<L: SerialLine> DataLine<L> {
-    /// A lane of a connection begins, as `Relay::begin` says.
+    /// Begins a lane of a connection, as `Relay::begin` does.
     pub fn begin(&mut self, dlci: Dlci, by_connect: bool) -> Result<(), DataError>
         ensures began { OnOk result (Hops self.old.relay self.new.relay (Passed (Began dlci.number by_connect))) }
         ensures not_data { result ≡ Err error.NotData → IsNotData self.old.relay.pipes dlci.number }
@@ -31,7 +31,7 @@ impl<L: SerialLine> DataLine<L> {
         self.relay.begin(dlci, by_connect)
     }
 
-    /// The lane of a connection is over, from the next frame on, as `Relay::lines` says.
+    /// Ends the lane of a connection, as `Relay::lines` does.
     pub fn lines(&mut self, dlci: Dlci) -> Result<(), DataError>
         ensures ended { OnOk result (Hops self.old.relay self.new.relay (Passed (EndedLane dlci.number))) }
         ensures not_data { OnErr result ((result ≡ Err error.NotData) × IsNotData self.old.relay.pipes dlci.number) }
@@ -84,8 +84,8 @@ impl<L: SerialLine> DataLine<L> {
         self.relay.to_go(dlci)
     }
 
-    /// Writes once what may go to the line, and says whether the line took octets. Where the driver rests, call it until it says no,
-    /// once data was given. The driver sees nothing of it.
+    /// Makes one write of what may go to the line, and says whether the line took octets. Once data was given while the driver rests,
+    /// call it until it says no. The driver sees nothing of it.
     pub fn flush(&mut self) -> bool
         ensures goes { LeadsBy L.received L.sent (may_go self.old.is_behind) self.old self.new }
         ensures beside { self.new ≡ record self.old { line = self.new.line; relay = self.new.relay; is_lost = self.new.is_lost } }

@@ -53,7 +53,7 @@ impl<L: SerialLine> Model for DataLine<L> {
 }
 
 impl<L: SerialLine> DataLine<L> {
-    /// This line and this relay, between which nothing has passed. Refused for memory, it hands both back.
+    /// This line and this relay, between which nothing has passed. Where memory is refused it hands both back.
     pub fn new(alloc: Global, line: L, relay: Relay) -> Result<DataLine<L>, (L, Relay)>
         ensures { MatchResult result (λ l. l ≡ new_data_line line relay) (λ back. (back.0 ≡ line) × (back.1 ≡ relay)) }
     {
@@ -75,7 +75,7 @@ impl<L: SerialLine> DataLine<L> {
         })
     }
 
-    /// The line itself and the relay. Octets that wait at the relay for the line or the driver are its own to give.
+    /// The line itself and the relay, which keeps the octets that wait there for the line or the driver.
     pub fn into_parts(self) -> (L, Relay)
         ensures line { result.0 ≡ self.line }
         ensures relay { result.1 ≡ self.relay }

@@ -142,11 +142,10 @@ impl Caller {
         (pass, outcomes, number)
     }
 
-    /// Submits a request, and gives its number: numbers rise by one from the caller's first. Rings the caller's bell, if it has
-    /// one.
+    /// Submits a request, and gives its number. Numbers rise by one from the caller's first. Rings the caller's bell, if it has one.
     ///
-    /// Refused, in this order: TooMany with 16 outcomes yet to take, Exhausted once the last number is used up, Full
-    /// with 64 requests queued. A refusal hands the ask back and uses up no number.
+    /// Refused, in this order: 2 TooMany with 16 outcomes yet to take, 3 Exhausted once the last number is used up, 1 Full with 64
+    /// requests queued. A refusal hands the ask back and uses up no number.
     pub fn submit<R: Wait>(&mut self, rt: &R, ask: Ask) -> Result<u64, (SubmitError, Ask)>
         ensures place { (self.new.place ≡ self.old.place) × (self.new.got ≡ self.old.got)
             × (self.new.seen ≡ self.old.seen) }

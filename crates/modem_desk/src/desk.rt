@@ -21,14 +21,14 @@ const CALLERS: u8 = 8;
 /// - A `Caller` submits requests, and takes one outcome for each. At 16 outcomes untaken it is refused until it takes one.
 /// - A `Listener` takes the lines of its kind.
 /// - The `DriverEnd` goes into a session (`modem_driver::Session`), or is used by a driver of your own: `next`, `tell`, `announce`.
-/// - `settle` takes the driver's end, all callers and the listeners, and says what each asked, took and didn't take.
+/// - `settle` takes the driver's end, all callers and the listeners, and gives what was still queued and what they didn't take.
 pub struct Desk;
 
 impl Desk {
     /// Opens a desk for so many callers, with a listener for each of these kinds, in their order. Each caller's first request has
     /// the number 1.
     ///
-    /// Refused with BadCount where callers aren't 1 to 8, or a kind is given twice.
+    /// Refused with 2 BadCount where callers aren't 1 to 8, or a kind is given twice; else only with 1 NoMemory.
     pub fn open(
         alloc: Global,
         callers: u8,
@@ -43,7 +43,7 @@ impl Desk {
 
     /// Opens a desk as `open` does, where each caller's first request has the number `first`.
     ///
-    /// Refused as `open` is, and with BadCount for a `first` of 0.
+    /// Refused as `open` is, and with 2 BadCount for a `first` of 0.
     pub fn open_from(
         alloc: Global,
         callers: u8,
@@ -57,9 +57,9 @@ impl Desk {
         open_all(alloc, callers, kinds, first, None)
     }
 
-    /// Opens a desk as `open_from` does, and gives each caller and listener a share of this bell. A caller rings it when it has
-    /// submitted a request or taken an outcome, a listener when it has taken a line. So a driver that waits on the bell wakes when
-    /// a request came, or when there is room at the desk again.
+    /// Opens a desk as `open_from` does, and gives each caller and listener a share of this bell. They ring it when they have submitted a
+    /// request, or taken an outcome or a line. So a driver that waits on the bell wakes when a request came, or when there is room at the
+    /// desk again.
     ///
     /// Refused as `open_from` is. No clause speaks of the bell.
     pub fn open_with_bell(

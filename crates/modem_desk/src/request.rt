@@ -95,7 +95,8 @@ pub enum Answer {
     ControlChannel,
     /// The line was lost.
     LineLost,
-    /// Too much is under way.
+    /// 128 requests are in hand, the control queue lacks room, a probe waits, or the connection is
+    /// being opened or closed.
     Busy,
 }
 

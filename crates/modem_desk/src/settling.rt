@@ -39,7 +39,7 @@ pub struct Settled {
 /// All ends of a desk that couldn't be settled, as they were.
 #[derive(Drop)]
 pub struct SettleRefused {
-    /// NoMemory.
+    /// It is always NoMemory.
     pub why: DeskError,
     pub driver: DriverEnd,
     pub callers: Vec<Caller>,
@@ -271,11 +271,10 @@ fn gather<R: Wait>(
     }
 }
 
-/// Ends a desk. Takes back the driver's end, each of its callers once and any of its listeners, and gives what was still queued and
-/// what still waited.
+/// Ends a desk. Takes back the driver's end, each of its callers once and any of its listeners, and gives what was still queued and what
+/// still waited.
 ///
-/// It is refused only for want of memory, and then hands all ends back as they were: it takes its memory before it takes anything
-/// out.
+/// Refused only where memory is. It then hands all ends back as they were, since it takes its memory before anything else.
 pub fn settle<R: Wait>(
     rt: &R,
     alloc: Global,

@@ -26,9 +26,9 @@ use std::marker::Model;
 /// - Begin with `new` or `with_dialect`, once the modem is in the multiplexer (`Entry`). `open` 0 first; the others once that is
 ///   told Opened.
 /// - `open`, `close`, `command`, `probe` and `stop` give the number of a request. A refused one has no number.
-/// - Hand what the line gave to `handle_input`, and write what `poll_output` gives. Blocked, write or free memory first, and then
-///   hand in the rest.
-/// - Behind each of these calls, poll: `poll_outcome` gives what a request of some number was told, `poll_unsolicited` a line.
+/// - Hand what the line gave to `handle_input`, and write what `poll_output` gives. Where the input is blocked, write or free memory
+///   first, and then hand in the rest.
+/// - After each of these calls, poll: `poll_outcome` gives an outcome with its request's number, `poll_unsolicited` an unsolicited line.
 /// - `tick` once in each T1 while `wants_tick` says so. `line_lost` says that the line failed: every request is told LineLost.
 /// - `finish` gives what is left, at any time.
 #[derive(Drop)]

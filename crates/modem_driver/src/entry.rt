@@ -29,9 +29,9 @@ pub enum EntryStep {
 /// that is a final code, however much comes before it. The caller decides when it has waited long enough, by a clock or
 /// a count of steps.
 ///
-/// The text is any octets, CR included: `AT+CMUX=0,0,5,127` and CR, say. An entry by `AT+CMUX=?` and CR can go before
-/// it, to ask for the ranges. Where nothing answers, a driver that was killed may have left the modem in the
-/// multiplexer. Then send `close_down` by an entry of its own, drop that once all is sent, and try again.
+/// The text is any octets, CR included: `AT+CMUX=0,0,5,127` and CR, say. An entry by `AT+CMUX=?` and CR can go before it, to ask for the
+/// ranges. Where nothing answers, a driver that was killed may have left the modem in the multiplexer, and in the middle of a frame. Then
+/// send N1 + 3 flags (F9) and `close_down` by an entry of its own, drop that once all is sent, and try again.
 ///
 /// Contracts see the text, how many of its octets were sent, and what is kept of the unfinished line.
 #[derive(Drop)]
@@ -72,8 +72,8 @@ impl<'a> Entry<'a> {
         self.written == self.text.len()
     }
 
-    /// Makes one call on the line: offers the rest of the text, or reads one octet once all is sent, and only then answers. Fails where
-    /// the line fails, and may then be called again.
+    /// Makes one call on the line: offers the rest of the text, or, once all is sent, reads one octet. Only such a read can end the
+    /// entry. Fails where the line fails, and may then be called again.
     pub fn step<L: SerialLine>(&mut self, line: &mut L) -> Result<EntryStep, LineFault>
         ensures text { self.new.text ≡ self.old.text }
         ensures goes { IfOk result (λ said.

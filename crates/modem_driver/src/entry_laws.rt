@@ -1,8 +1,8 @@
 //! Worked rows of an entry.
 ghost use Rattle.modem_driver.specs.EntryTryRows.{AsksRight, AsksWrong, ClosesRight, ClosesWrong};
 
-/// After an empty read patience is asked and told that nothing moved, after an octet that it moved; the definitions refuse an entry that
-/// doesn't ask or says otherwise. At N1 31 a multiplexer is closed down by 34 flags and a CLD frame, and not by the frame alone.
+/// Patience is asked after each step, and told whether it moved anything: not by an empty read, but by an octet. An entry that doesn't
+/// ask, or says otherwise, is refused. At N1 31 a multiplexer is closed down by 34 flags and a CLD frame, and not by the frame alone.
 #[tactic(auto, using(crate::proofs::rows::EntryTryRowFacts::asks_right, crate::proofs::rows::EntryTryRowFacts::asks_wrong, crate::proofs::rows::EntryTryRowFacts::closes_right, crate::proofs::rows::EntryTryRowFacts::closes_wrong))]
 pub fn entry_rows()
     ensures asks { AsksRight }

@@ -18,8 +18,8 @@ const RANGES: &[u8] = b"AT+CMUX=?\r";
 /// A flag (27.010, 5.2.6.1).
 const FLAG: &[u8] = &[0xF9];
 
-/// Decides how long an entry goes on. The entry asks it after each step, and no more once it has said no, until the wait is begun
-/// afresh. Where the step moved nothing it may wait: by a clock, a count, or a bell.
+/// Decides how long an entry goes on. The entry asks it after each step. Once it has said no, it isn't asked again until its wait is
+/// begun afresh. After a step that moved nothing it may wait: by a clock, a count, or a bell.
 ///
 /// Contracts see whether it is used up, how often it was asked, how often of these after a step that moved nothing, and how often its
 /// wait was begun afresh. The counts stop at `u64::MAX`.
@@ -36,8 +36,8 @@ pub trait Patience {
     /// How often its wait was begun afresh.
     ghost waits: { Self → ℕ };
 
-    /// Whether another step may be made, after one that moved an octet, or none. It may wait before it answers. The condition is
-    /// that it isn't used up.
+    /// Whether another step may be made, after one that moved an octet, or none. It may wait before it answers. Requires that it isn't
+    /// used up.
     fn goes_on(&mut self, moved: bool) -> bool
         requires { is_over self.old ≡ false }
         ensures over { result ≡ false → is_over self.new ≡ true }
@@ -341,12 +341,13 @@ fn try_thrice<L: SerialLine, P: Patience>(
     try_once(line, ranges, text, patience)
 }
 
-/// Enters the multiplexer with the caller's text: any octets, CR included, as `AT+CMUX=0,0,5,127` and CR. With `ranges`
-/// it asks `AT+CMUX=?` first, and goes on whatever is answered. However much comes before, it reads on to the first
-/// line that is a final code. Where nothing answers, a driver that was killed may have left the modem in the
-/// multiplexer, and in the middle of a frame. It then sends flags that end that frame, as many as N1 and 3, and a CLD frame,
-/// reads on for a short wait and tries again, three times in all. N1 is the most octets of information that a frame of that
-/// driver may have. Patience is asked after each step. It is renewed before each try and before the flags.
+/// Enters the multiplexer with the caller's text: any octets, CR included, as `AT+CMUX=0,0,5,127` and CR. With `ranges` it asks
+/// `AT+CMUX=?` first, and goes on whatever is answered. It reads on to the first line that is a final code, however much comes before.
+/// Patience is asked after each step. It is renewed before each try and before the flags.
+///
+/// Where nothing answers, a driver that was killed may have left the modem in the multiplexer, and in the middle of a frame. So it sends
+/// N1 + 3 flags, which end that frame, and a CLD frame, reads on for a short wait and tries again: three times in all. N1 is the most
+/// octets of information in a frame of that driver.
 ///
 /// Refusals: 1 Refused, where the code isn't `OK`; 2 NoAnswer, where patience was used up in the third try or with the flags and the
 /// CLD frame, or the line's count of calls is at `u64::MAX`; 3 Line, where the line failed.

@@ -333,8 +333,8 @@ impl Core {
         Ok(acts)
     }
 
-    /// Data of an open connection, without the first act, which is that the frame came, by a lane that is there to be its
-    /// fork. It makes no copy of the frame. Refusal: 1 NoMemory, which changes nothing.
+    /// As `got_data`, but without the act Got, and by a lane of the caller's to read on. It makes no copy of the frame.
+    /// Refusal: 1 NoMemory, which changes nothing.
     pub(crate) fn follow(
         &mut self,
         frame: FrameView<'_>,

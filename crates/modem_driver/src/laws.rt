@@ -90,11 +90,10 @@ pub fn endings()
     ensures going_on { IsNoGoing }
 {}
 
-/// The turns of a poll, over a line that is its own view. Whatever history the session had, each state on the way fits
-/// that history and what came since, and each turn is one in it. So a lost line gives Failed alone, and no loss is kept
-/// back or given as Stopped. Where octets wait, or all that came were fed, the line is called: a body that makes no
-/// turn, or ticks instead, makes no poll. No poll adds a tick to a history, and the desk is asked in vain at most 64
-/// times. Six bodies make no poll of a session that has just begun: no turn, a tick, a loss kept back or given as
+/// The turns of a poll, over a line that is its own view. Whatever history the session had, each state on the way fits that history and
+/// what came since, and each turn is one in it. So a lost line gives Failed alone: no loss is kept back or given as Stopped. Where octets
+/// wait, or all that came were fed, a poll calls the line, and a tick is no poll. No poll adds a tick to a history, and the desk is asked
+/// in vain at most 64 times. Six bodies make no poll of a session that has just begun: no turn, a tick, a loss kept back or given as
 /// Stopped, 65 turns, and a turn behind one that found nothing to do.
 #[tactic(auto, using(crate::proofs::sessions::polls::PollLaws::runs_in_histories, crate::proofs::sessions::polls::PollLaws::lost_fails, crate::proofs::sessions::polls::PollLaws::no_loss_is_kept_back, crate::proofs::sessions::polls::PollLaws::no_loss_is_stopped, crate::proofs::sessions::polls::PollLaws::calls_the_line, crate::proofs::sessions::polls::PollLaws::lost_gives_failed, crate::proofs::rows::PollRowFacts::is_lost_session, crate::proofs::rows::PollRowFacts::no_polls, crate::proofs::rows::LivePollRowFacts::reads_the_line, crate::proofs::rows::LivePollRowFacts::no_tick_is_a_poll, crate::proofs::rows::LivePollRowFacts::no_tick_in_a_poll, crate::proofs::rows::LivePollRowFacts::asks_per_turn, crate::proofs::rows::LivePollRowFacts::is_new_session, crate::proofs::rows::LivePollRowFacts::no_live_polls))]
 pub fn polls()
@@ -114,11 +113,11 @@ pub fn polls()
     ensures no_live_polls { AreNoLivePolls }
 {}
 
-/// Runs of an endpoint's calls, by the calls' clauses. The line gave and took just the octets of the calls. The desk's end
-/// took just their requests, and told and announced just what they gave. A history that fits before the calls goes on to one
-/// that fits after them. So from the beginning on one history tells all. It is lawful and of whole calls. Of the octets
-/// taken in just its frames were read. The octets given, and then those that wait, are the frames that it gives on. The
-/// outcomes given, and then those that wait, are its outcomes; likewise the lines of each kind: each once, in its order.
+/// Runs of an endpoint's calls, by the calls' clauses. The line gave and took just the octets of the calls. The desk's end took just
+/// their requests, and told and announced just what they gave. A history that fits before the calls goes on to one that fits after them.
+/// So from the beginning on one history tells all. It is lawful and of whole calls. Its frames got are just those read in the octets
+/// taken in. The octets given, and then those that wait, are the frames that it gives on. The outcomes given, and then those that wait,
+/// are its outcomes; likewise the lines of each kind: each once, in its order.
 #[tactic(auto, using(crate::proofs::endpoints::Law::one_history, crate::proofs::endpoints::Law::tells_all))]
 pub fn endpoints()
     ensures history { OneHistory }

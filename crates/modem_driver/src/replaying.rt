@@ -191,10 +191,10 @@ pub(crate) fn handle(
     }
 }
 
-/// Plays events through a core, each in its turn, and gives all acts in order: requests taken, frames got and sent,
-/// lines heard, outcomes told. One deframer reads them all: a frame that begins in one event may end in a later one.
-/// After each request, frame, tick and loss everything goes out that may. Refusals: 2 BadN1 where N1 isn't 31 to 32767
-/// (27.010, 5.7.2), 1 NoMemory. NoRoom doesn't come.
+/// Plays events through a core, each in its turn, and gives all acts in order: requests taken, frames got and sent, lines
+/// heard, outcomes told. One deframer reads them all: a frame that begins in one event may end in a later one. After each
+/// request, frame, tick and loss everything goes out that may. The acts are promised where no caller uses a number twice.
+/// Refusals: 2 BadN1 where N1 isn't 31 to 32767 (27.010, 5.7.2), 1 NoMemory. NoRoom doesn't come.
 pub fn replay(alloc: Global, n1: u16, events: &[Event]) -> Result<Vec<Act>, CoreError>
     ensures bad_n1 { IsErrOf result CoreError.BadN1 ↔ ((n1 < 31) ⊎ (32767 < n1)) }
     ensures others { result ≢ Err CoreError.NoRoom }

@@ -29,7 +29,8 @@ fn every_kind(alloc: Global) -> Result<Vec<UrcKind>, AllocError>
     Ok(kinds)
 }
 
-/// As `replay`, at a modem whose codes are those of this dialect, and with every kind of its own heard too.
+/// As `replay`, at a modem whose codes are those of this dialect. Every kind of its own is listened to
+/// as well.
 pub fn replay_with_dialect(
     alloc: Global,
     n1: u16,

@@ -9,8 +9,8 @@ ghost use Rattle.modem_ends.specs.OneModemRows.{RightAnswer, RightLine, WrongAns
 /// the order in which they were wholly sent. Each command told Done is among them, at its place, and is told what the
 /// modem's step gives there, run over all lines before it.
 ///
-/// It speaks of a modem at the standard's table (`Modem::new`). One with words, as `modemctl sim` runs, answers nothing to a line
-/// without `AT`, and repeats commands as it is told to; that each of its answers ends with its one final code isn't proved.
+/// It speaks of a modem that takes the standard's commands alone (`Modem::new`). One with words, as `modemctl sim` runs it, answers
+/// nothing to a line without `AT`, and repeats commands if told to. Nothing proves that each of its answers ends with its one final code.
 #[tactic(auto, using(crate::proofs::law_proofs::OneModem::reads_commands, crate::proofs::law_proofs::OneModem::tells_modem))]
 pub fn one_modem()
     ensures reads { (s : Setting) (e : End) (line : List EndAct) → ReadsCommands s e line }

@@ -29,12 +29,12 @@ ghost use Rattle.modem_history.specs.Hearing.{HearsAll, HearsInOrder};
 ghost use Rattle.modem_history.specs.TwoEnds.{ReadsInOrder};
 ghost use Rattle.modem_history.specs.Wholes.{AnswersOnce, BeginsInTurn, CallGoesOn, IsBeginning, LeavesOnce, NoneAfterLoss, StaysInStep, TellsAnswers, TellsOwn};
 
-/// What stands in a lawful history is the beginning of all that it called for. A call that does just what its first act
-/// calls for keeps a history lawful and complete. The octets that left a connection since it opened are a prefix of the
-/// command lines accepted on it since then, and nothing is sent once the line is lost. The commands that began since
-/// then are the accepted ones that are wholly sent, each begun where no window is open. Each outcome answers a request
-/// that was taken before it, and where no caller uses a number twice no request has two. Each answer that was told is
-/// that of the window of the last command, at the line that ended it.
+/// What stands in a lawful history is a prefix of all that it called for. A call that does just what its first act calls
+/// for keeps a history lawful and complete. The octets that left a connection since it opened are a prefix of the command
+/// lines accepted on it since then. Nothing is sent once the line is lost. The commands that began since it opened are
+/// the accepted ones that are wholly sent, each begun where no window is open. Each outcome answers a request that was
+/// taken before it. Where no caller uses a number twice no request has two. Each answer that was told is that of the
+/// window of the last command, at the line that ended it.
 #[tactic(auto, using(crate::proofs::law_proofs::WholeHistories::beginning, crate::proofs::law_proofs::WholeHistories::call_goes_on, crate::proofs::commands::SentPrefixes::leaves_once, crate::proofs::connections::SendingAfterLoss::none_after_loss, crate::proofs::commands::BegunCommands::begins_in_turn, crate::proofs::outcomes::OutcomeCounts::answers_once, crate::proofs::outcomes::WindowAnswers::tells_answers))]
 pub fn histories()
     ensures beginning { (s : Setting) (past : List Act) → Lawful s past → IsBeginning s past }
@@ -55,20 +55,20 @@ pub fn commands()
     ensures own { (s : Setting) (past : List Act) → Lawful s past → TellsOwn s past }
 {}
 
-/// In every lawful history, what was heard on a connection is the beginning of what its lines announce to a listener,
-/// over all its openings in turn. They announce the lines placed on it that are part of no answer and no echo, each
-/// once and in order, if their kind is listened to. The rest is owed; where nothing is owed, all of it was heard.
+/// In every lawful history, what was heard on a connection is a prefix of the lines to be heard on it, over all its
+/// openings in turn. These are the lines placed on it that are of a listened kind, in no answer and no echo, each once
+/// and in order. The rest is owed. Where nothing is owed, all of it was heard.
 #[tactic(auto, using(crate::proofs::lines::HeardLines::hears_in_order, crate::proofs::lines::HeardLines::hears_all))]
 pub fn hearings()
     ensures order { (s : Setting) (past : List Act) → Lawful s past → HearsInOrder s past }
     ensures all { (s : Setting) (past : List Act) → Lawful s past → HearsAll s past }
 {}
 
-/// At either end of the line: among the lines of all connections, in the order in which they end, those of one connection
-/// are the lines of its information over all its openings in turn. What is placed on it since it opened, and in each
-/// opening before, are the lines that came and the commands that are wholly sent. The calls of a station's user change
-/// nothing of it. A history's own places are these, read off its frames and the commands that it accepted, in each
-/// opening. Over all openings they have all lines.
+/// At either end of the line the lines of all connections stand in the order in which they end. Those of one connection
+/// are the lines of its information, over all its openings in turn. What is placed on it in an opening are the lines that
+/// came in it and the commands that are wholly sent. The calls of a station's user change nothing of it. A history's own
+/// places are these, read off its frames and the commands that it accepted in each opening. Over all openings they have
+/// all lines.
 #[tactic(auto, using(crate::proofs::lines::LinePlaces::has_all_lines, crate::proofs::commands::CommandPlaces::places_all, crate::proofs::lines::PlacingOverOpenings::places_each, crate::proofs::connections::PastsWithoutCalls::needs_no_calls, crate::proofs::lines::MarkPlaces::are_marks_placed, crate::proofs::lines::PlacingOverOpenings::are_all_marks_placed, crate::proofs::lines::MarkPlaces::have_marks_all_lines))]
 pub fn connections()
     ensures lines { (r : Role) (past : List WireAct) → HasAllLines r past }
@@ -88,18 +88,18 @@ pub fn readings()
     ensures commands { (s : Setting) (past : List Act) → Lawful s past → ReadsAccepted s past }
 {}
 
-/// Let a responder have got the first of the frames that an initiator sent, which asked for each connection at most once.
-/// Then the lines that the responder reads, over all connections, are commands that the initiator was given, each on its
-/// connection, in the order in which they were wholly sent.
+/// Let the frames that a responder got be the first of those that an initiator sent. Let the initiator have asked for
+/// each connection at most once. Then the lines that the responder reads, over all connections, are commands that the
+/// initiator was given, each on its connection, in the order in which they were wholly sent.
 #[tactic(auto, using(crate::proofs::commands::SentCommands::reads_in_order))]
 pub fn two_ends()
     ensures order { (s : Setting) (past : List Act) (responder : List WireAct)
         → ReadsInOrder s past responder }
 {}
 
-/// Worked histories, computed by the definitions: those of a right driver are kept, and those that a bad one would
-/// make are refused, lack something, or leave a command waiting that could leave. Of two commands with the same text
-/// the answer of the first is not the second's own.
+/// Worked histories, computed by the definitions. Those of a right driver are accepted. Those of a wrong one are refused,
+/// lack something, or leave a command waiting that could leave. Of two commands with the same text the answer of the
+/// first is not the second's own.
 #[tactic(auto, using(crate::proofs::rows::HistoryRowFacts::all_good, crate::proofs::rows::HistoryRowFacts::all_refused, crate::proofs::rows::HistoryRowFacts::all_incomplete, crate::proofs::rows::HistoryRowFacts::all_unquiet, crate::proofs::rows::HistoryRowFacts::not_its_own))]
 pub fn worked_examples()
     ensures good { AllAre IsGood good_rows }

@@ -1,5 +1,5 @@
-//! What happened on the line between a driver and its modem, told of the frames that a capture has, and what was wrong there. `Watcher`
-//! takes the frames of both ways in the order in which they passed, and judges each by the tables of 3GPP TS 27.010 (5.4).
+//! What happened on the line between a driver and its modem, told from the frames of a capture, and what was wrong there. `Watcher` takes
+//! the frames of both ways in the order in which they passed, and judges each by the tables of 3GPP TS 27.010 (5.4).
 //!
 //! # Layout
 //!

@@ -178,7 +178,7 @@ impl Talk {
         }
     }
 
-    /// Octets go this way: tells the lines that end in them, behind what was told. After want of memory nothing is said of it.
+    /// Takes octets of this way, and tells the lines that end in them, behind what was told. Where memory is refused nothing is promised.
     pub fn hear(
         &mut self,
         dialect: &Dialect,

@@ -17,8 +17,8 @@ use mux_frame::{Dlci, FrameView, Kind};
 use std::alloc::{AllocError, Global};
 use std::marker::Model;
 
-/// Tells the lines of each connection, once each: commands, and lines of the modem with what they are. Those of connections of data
-/// aren't lines.
+/// Tells the lines of each connection, once each: commands, and lines of the modem with what they are. Octets of data connections aren't
+/// lines.
 #[derive(Drop)]
 pub struct Talks {
     dialect: Dialect,
@@ -144,7 +144,7 @@ impl Talks {
     }
 
     /// Takes a frame that passed, which answers one of this kind (`Watcher::answered`): tells the lines that end in it, behind what was
-    /// told. After want of memory nothing is said of it.
+    /// told. Where memory is refused nothing is promised.
     pub fn pass(
         &mut self,
         stamp: Stamp,

@@ -229,8 +229,8 @@ impl Watcher {
         }
     }
 
-    /// What one end asked, by frames that go this way, and what waits for its answer, the newest first. Those that aren't excused were
-    /// never answered.
+    /// The frames of this way that ask and wait for their answer, the newest first. At the end, those that aren't excused were never
+    /// answered.
     pub fn asks(&self, direction: Direction) -> &[Ask]
         ensures { (line : List Caught) → WatchFits self.now line → result.now ≡ waiting (sender direction) line }
     {
@@ -240,7 +240,7 @@ impl Watcher {
         }
     }
 
-    /// What a frame that goes this way answers, of what waits: the newest that it can answer.
+    /// The waiting frame that a frame of this way answers: the newest that it can answer.
     pub fn answered(&self, direction: Direction, frame: FrameView<'_>) -> Option<&Ask>
         ensures { (line : List Caught) → WatchFits self.now line → option_copied result
             ≡ answered_by (frame_of frame.entry) (waiting (other (sender direction)) line) }

@@ -26,7 +26,7 @@ const UNSOLICITED: [StandardLine; 6] = [
     StandardLine::Ciev,
 ];
 
-/// What a rule has a line in common with, though it is of the other sort.
+/// What has a line in common with a rule, though it is of the other sort.
 #[derive(Clone, Copy, Debug)]
 pub enum Clash {
     /// The rule of this line of the text, counted from 1.

@@ -32,7 +32,7 @@ pub enum DialectRefusal {
     Refused(u64, DialectError),
     /// The rule of this line, counted from 1, is refused as Ambiguous. It has a line in common with this.
     Clashes(u64, Option<Clash>),
-    /// A growth was refused.
+    /// Memory was refused.
     NoMemory,
 }
 

@@ -6,7 +6,7 @@ ghost use Rattle.modem_texts.specs.Writing.{IsBegun};
 use crate::writing::{put_line, say_line};
 use std::io::Write;
 
-/// The first part of a line, read from its front, that isn't as it must be.
+/// What has to stand at the first wrong part of a line, read from its front.
 #[derive(Clone, Copy, Debug)]
 pub enum LineFault {
     /// The word that an event begins with.

@@ -6,7 +6,7 @@ ghost use Rattle.modem_texts.specs.LineFaults.{behind_word, first_word};
 
 use memchr::{memchr, memrchr};
 
-/// What stands before the first of these octets, and what behind it.
+/// The text before the first of these octets, and that behind it. `None` without one.
 #[tactic(auto, using(crate::proofs::CutTexts::lacking, crate::proofs::CutTexts::cut_at))]
 pub fn split_once(text: &[u8], octet: u8) -> Option<(&[u8], &[u8])>
     ensures { MatchOption result (LacksByte octet text.now)
@@ -16,7 +16,7 @@ pub fn split_once(text: &[u8], octet: u8) -> Option<(&[u8], &[u8])>
     Some((&text[..place], &text[place + 1..]))
 }
 
-/// What stands before the last of these octets, and what behind it.
+/// The text before the last of these octets, and that behind it. `None` without one.
 #[tactic(auto, using(crate::proofs::CutTexts::lacking_last, crate::proofs::CutTexts::cut_last))]
 pub fn split_last(text: &[u8], octet: u8) -> Option<(&[u8], &[u8])>
     ensures { MatchOption result (LacksByte octet text.now)
@@ -45,7 +45,7 @@ pub fn ended_line(text: &[u8]) -> Option<(&[u8], &[u8])>
     Some((line.strip_suffix(b"\r").unwrap_or(line), rest))
 }
 
-/// The first line of a text, without its end, and the text behind it.
+/// The first line of a text, without its end, and the text behind it. `None` of an empty text.
 pub fn next_line(text: &[u8]) -> Option<(&[u8], &[u8])>
     ensures cut { MatchOption result (text.now ≡ [])
         (λ parts. input_lines text.now ≡ parts.0.now ∷ input_lines parts.1.now) }

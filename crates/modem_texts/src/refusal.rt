@@ -16,7 +16,7 @@ use std::alloc::{AllocError, AllocFailed};
 pub enum Refusal {
     /// It is bad, and this part of it is the first that isn't as it must be.
     Bad(LineFault),
-    /// A growth was refused.
+    /// Memory was refused.
     NoMemory,
 }
 

@@ -9,7 +9,7 @@ use modem_desk::{Answer, Urc};
 use std::alloc::{AllocError, Global};
 use std::fmt::Write;
 
-/// Octets as text, those outside 20 to 7E hex as `\x` and two digits.
+/// Appends octets as text, those outside 20 to 7E hex as `\x` and two digits.
 pub fn push_line(alloc: Global, line: &[u8], text: &mut String) -> Result<(), AllocError>
     ensures { OnOk result (string_bytes text.new ≡ string_bytes text.old ++ line_text line.now) }
 {
@@ -25,7 +25,7 @@ pub fn push_line(alloc: Global, line: &[u8], text: &mut String) -> Result<(), Al
     Ok(())
 }
 
-/// The lines of an answer, each behind `| `.
+/// Appends the lines of an answer, each behind `| `.
 pub fn push_lines(alloc: Global, lines: &[AnswerLine], text: &mut String) -> Result<(), AllocError>
     ensures { OnOk result
         (string_bytes text.new ≡ string_bytes text.old ++ flat_map answer_line_text lines.now) }
@@ -74,7 +74,8 @@ fn urc_word(kind: UrcKind) -> &'static str
     }
 }
 
-/// What the line at this place of a caller or a connection was told: `WHOSE PLACE ANSWER`, and the lines of the answer.
+/// Appends what the line at this place of a caller or a connection was told: `WHOSE PLACE ANSWER`, and the lines of the
+/// answer.
 pub fn push_told(
     alloc: Global,
     whose: u8,
@@ -92,7 +93,7 @@ pub fn push_told(
     }
 }
 
-/// A line that was heard: `heard KIND D TEXT`.
+/// Appends a line that was heard: `heard KIND D TEXT`.
 pub fn push_heard(alloc: Global, urc: &Urc, text: &mut String) -> Result<(), AllocError>
     ensures { OnOk result (string_bytes text.new ≡ string_bytes text.old ++ heard_text urc.now) }
 {

@@ -36,7 +36,7 @@ pub fn connection_of(word: &[u8]) -> Result<Dlci, Refusal>
     dlci_of(word).ok_or(Refusal::Bad(LineFault::Connection))
 }
 
-/// A connection that the words end with.
+/// The connection that these words are, the last of a line. Others are refused as bad.
 pub fn last_connection(words: &[u8]) -> Result<Dlci, Refusal>
     ensures says { MatchResult result
         (λ dlci. words.now ≡ number_text dlci.number)

@@ -26,8 +26,8 @@ impl From<AllocError> for CaptureFault {
     }
 }
 
-/// Writes what passes on a line to a file: a packet for each frame, as soon as its closing flag has passed, and a packet, marked, for
-/// octets that read as no frame, once they are known to. Only flags outside packets are left out.
+/// Writes what passes on a line to a file. A frame becomes a packet as soon as its closing flag has passed. Octets that read as no frame
+/// become a marked packet once that is known. Only flags outside packets are left out.
 ///
 /// After a write that failed it writes nothing more.
 #[derive(Drop)]
@@ -90,7 +90,7 @@ fn pass<C: Write>(
 }
 
 impl<C: Write> Capture<C> {
-    /// Begins a capture of a line on which a frame may have this much information: writes the header of a file.
+    /// Begins a capture: writes the header of a file. N1 is the most octets of information that a frame may have.
     pub fn with_n1(alloc: Global, output: C, n1: u16) -> Result<Capture<C>, CaptureFault>
     where
         C: Drop,
@@ -111,7 +111,7 @@ impl<C: Write> Capture<C> {
         })
     }
 
-    /// Begins a capture of a line on which a frame may have as much information as its length can tell.
+    /// As `with_n1`, at the greatest N1, 32767.
     pub fn begin(alloc: Global, output: C) -> Result<Capture<C>, CaptureFault>
     where
         C: Drop,
@@ -155,8 +155,8 @@ impl<C: Write> Capture<C> {
         }
     }
 
-    /// Takes octets that passed at this time, and writes a packet for each frame that ends in them, and for octets that are known by
-    /// them to be none. Once a packet can't be written, the capture has failed, and nothing more is written.
+    /// Takes octets that passed at this time, and writes the packets that they complete. Once a packet can't be written or memory is
+    /// refused, the capture has failed, and nothing more is written.
     pub fn take(&mut self, stamp: Stamp, direction: Direction, octets: &[u8])
         ensures captures { self.new.failed ≡ false
             → Captures self.old self.new (record { stamp = stamp; direction = direction; octets = octets.now }) }

@@ -119,7 +119,7 @@ fn front_of(alloc: Global, n1: u16, text: &[u8], seen: usize) -> Result<Front, A
     Ok(Front::Begins)
 }
 
-/// The first frame of a text, of which so many octets at the front are known to be able to become one.
+/// Finds the first frame of a text. The first `seen` octets are known to hold no frame yet, and to be able to become one.
 pub fn first_frame<'a>(
     alloc: Global,
     n1: u16,

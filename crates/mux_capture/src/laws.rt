@@ -2,8 +2,8 @@
 ghost use Rattle.mux_capture.specs.FirstFrame.{FirstIsRead, FirstStays, OneFirst};
 ghost use Rattle.mux_capture.specs.Passing.{CatchesAll, CatchesFrames};
 
-/// A text has at most one first frame, and the text tells what stands behind it: so it is the same however the octets came. Reading goes
-/// on from its closing flag. More octets change neither the frame nor where it ends.
+/// A text has at most one first frame, and one rest behind it: so both are the same however the octets came. Reading goes on from the
+/// frame's closing flag. More octets change neither the frame nor where it ends.
 #[tactic(auto, using(crate::proofs::FirstLaws::one_first, crate::proofs::FirstLaws::first_is_read, crate::proofs::FirstLaws::first_stays))]
 pub fn first_frames()
     ensures one { OneFirst }

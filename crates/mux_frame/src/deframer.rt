@@ -76,7 +76,8 @@ impl Deframer {
         })
     }
 
-    /// Takes octets from the front of `octets`, as many as there is room for, and says how many.
+    /// Takes octets from the front of `octets`, as many as there is room for, and says how many. Takes none only where a whole frame
+    /// waits, or `octets` is empty.
     pub fn feed(&mut self, octets: &[u8]) -> usize
         ensures count { result ≡
             min (length octets.now) (ring_room self.old.n1 - length self.old.undecided) }

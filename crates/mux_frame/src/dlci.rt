@@ -27,7 +27,7 @@ impl Dlci {
         }
     }
 
-    /// Its number.
+    /// Its number, 0 to 61.
     pub fn number(self) -> u8
         ensures number { result ≡ self.number }
         ensures in_range { result < 62 }

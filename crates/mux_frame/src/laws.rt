@@ -54,12 +54,12 @@ pub fn read_plain(
     Ok((frames, Vec::new(alloc)))
 }
 
-/// Octets spell one frame, and no spelling is the beginning of another.
+/// Octets spell at most one frame, and no spelling is a prefix of another.
 pub fn one_spelling()
     ensures { OneSpelling }
 {}
 
-/// A frame that has a spelling has the one that is written, and no other is shorter.
+/// No spelling of a frame is shorter than the one that is written.
 pub fn spells_shortest()
     ensures { SpellsShortest }
 {}
@@ -84,7 +84,7 @@ pub fn reads_spelled()
     ensures { ReadsSpelled }
 {}
 
-/// The frames read in a beginning of the octets are the first of those read in all octets.
+/// The frames read in a prefix of the octets are the first of those read in all octets.
 pub fn reads_beginning()
     ensures { ReadsBeginning }
 {}

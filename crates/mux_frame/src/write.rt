@@ -47,10 +47,10 @@ fn header_octets(frame: &FrameView<'_>) -> ArrayVec<u8, 4>
     octets
 }
 
-/// Appends the frame between two flags, its length in the shortest form. Refused with 1 TooLong
-/// where the information is longer than N1 or than 32767, or where a kind other than UIH has any;
-/// and with 2 NoMemory, but never where `out` has room for the information and seven octets more. A
-/// refusal leaves `out` as it was.
+/// Appends the frame between two flags, its length in the shortest form. Refused with 1 TooLong where
+/// the information is longer than N1 or than 32767, or where a kind other than UIH has any. Refused
+/// with 2 NoMemory only where `out` lacks room for the information and seven octets more. A refusal
+/// leaves `out` as it was.
 pub fn write_frame(frame: FrameView<'_>, n1: u16, out: &mut Vec<u8>) -> Result<(), FrameError>
     ensures written { OnOk result
         (out.new.items ≡ out.old.items ++ spelled (frame_of frame.entry)) }

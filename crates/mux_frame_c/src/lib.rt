@@ -13,9 +13,8 @@ use counts::count_octets;
 use mux_frame::FrameError;
 use std::alloc::Global;
 
-/// Reads octets as frames, as they would come in pieces of 4096, and counts what was read. It
-/// answers 0 where that is done, and else leaves the counts as they were: 3 where N1 isn't 31 to
-/// 32767, checked first; 2 where there is no memory.
+/// Reads octets as frames, in pieces of 4096, and counts what it read. It answers 0. A refusal leaves
+/// the counts as they were: 3, checked first, where N1 isn't 31 to 32767; 2 where memory is refused.
 #[unsafe(no_mangle)]
 pub extern "C" fn mux_frame_c_count(
     alloc: Global,

@@ -242,8 +242,8 @@ impl Station {
         self.ask_stop()
     }
 
-    /// Tells the other end whether it may send on a connection, or for 0 on all. Refusals, in this order: 1 NotOpen where the
-    /// connection or 0 isn't Opened; 7 NoRoom.
+    /// Tells the other end whether it may send: queues an MSC for a connection, and FCon or FCoff for 0, which stands for all. Refusals,
+    /// in this order: 1 NotOpen where the connection or 0 isn't Opened; 7 NoRoom.
     pub fn flow(&mut self, dlci: Dlci, go: bool) -> Result<(), StationError>
         ensures refusal { result_err result ≡ refused_in self.old (Flow dlci.number go) }
         ensures past { OnOk result (StationHandles self.old self.new (Called (Flow dlci.number go))) }

@@ -23,8 +23,8 @@ pub fn openings()
     ensures places { (r : Role) (d : ℕ) (past : List Act) → IsOpenByPlaces r d past }
 {}
 
-/// An act that is followed by all that it calls for keeps a past lawful and complete. Nothing is sent once the line is lost. What
-/// leaves a connection is the beginning of what was offered on it.
+/// An act that is followed by all that it calls for keeps a past lawful and complete. Nothing is sent once the line is lost. What left a
+/// connection since it opened is a prefix of what was offered on it.
 #[tactic(auto, using(crate::proofs::law_proofs::OwedFrames::answers_keep, crate::proofs::law_proofs::OwedFrames::none_after_loss, crate::proofs::law_proofs::OwedFrames::gives_beginning))]
 pub fn sendings()
     ensures answers { (s : StationSetting) (past : List Act) (a : Act) → AnswersKeep s past a }
@@ -54,15 +54,15 @@ pub fn calls()
     ensures { (r : Role) (d : ℕ) (past : List Act) → LeavesNoTrace r d past }
 {}
 
-/// What a station gives up at a tick, and whose data it gives next, is what each past that it fits says.
+/// What a station gives up at a tick, and whose data it sends next, follows from any past that it fits.
 #[tactic(auto, using(crate::proofs::ticks::GivenUpOfPasts::sees_the_tick, crate::proofs::turns::TurnsOfPasts::sees_the_turn))]
 pub fn turns()
     ensures ticks { (v : Station) (past : List Act) → SeesTheTick v past }
     ensures sender { (v : Station) (past : List Act) → SeesTheTurn v past }
 {}
 
-/// After `next_frame` a station fits each past that it fitted, with what was given on, and a lawful and complete past stays so.
-/// The law takes a station because a station's numbers are in their ranges.
+/// After `next_frame` a station fits each past that it fitted, followed by what it gave on. A lawful and complete past stays so. The law
+/// takes a station because a station's numbers are in their ranges.
 #[tactic(auto, using(crate::proofs::turns::FramesGivenOn::gives_on))]
 pub fn givings(station: &crate::Station)
     ensures { GivesOn station.now }

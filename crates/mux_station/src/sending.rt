@@ -139,7 +139,7 @@ impl Station {
         self.control.len()
     }
 
-    /// The frame at a place of the control queue, counted from its front. The queue stays as it is.
+    /// The frame at place `i` of the control queue, from 0 at its front; `None` behind its end. The queue stays as it is.
     pub fn queued(&mut self, i: usize) -> Option<FrameView<'_>>
         ensures frame { option_map frame_of result ≡ slice_get self.old.queue i }
         ensures* after { sem 𝓛 (Rests the_row self.entry (λ new. new ≡ self.old)) }

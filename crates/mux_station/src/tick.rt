@@ -154,8 +154,9 @@ impl Station {
         noticed
     }
 
-    /// One T1 has passed. A SABM or DISC that wasn't answered is queued again, three times; at the
-    /// fourth tick what waits is given up. A connection whose frame has no room stays as it is.
+    /// One T1 has passed. An unanswered SABM or DISC is queued again at the first three ticks. At the
+    /// fourth what waits is given up, and the answer lists it. A connection whose frame has no room
+    /// stays as it is.
     pub fn tick(&mut self) -> Noticed
         ensures past { StationHandles self.old self.new Tick }
         ensures noticed { map up_of result.items ≡ noticed self.old }

@@ -12,9 +12,8 @@ use crate::tape::Tape;
 use std::alloc::Global;
 use std::marker::Model;
 
-/// A line in memory, for tests. What its reads give is put in, and what its writes took can be looked at. A list for reads and one
-/// for writes say, call by call, how many octets go through, or that the call fails. The line keeps all octets, at most `room` each
-/// way.
+/// A line in memory, for tests. You put in what its reads give, and look at what its writes took. A list for reads and one for writes
+/// say, call by call, how many octets go through, or that the call fails. The line keeps all octets, at most `room` each way.
 #[derive(Drop)]
 pub struct CutLine {
     input: Tape,
@@ -89,7 +88,7 @@ impl CutLine {
         count
     }
 
-    /// Gives the next octets that were sent, and says how many.
+    /// Puts the next octets that were sent at the front of the buffer, and says how many.
     pub fn take(&mut self, buffer: &mut [u8]) -> usize
         ensures value { result ≡ min (length buffer.old) (length (unmoved self.old)) }
         ensures octets { buffer.new ≡ take result (unmoved self.old) ++ drop result buffer.old }

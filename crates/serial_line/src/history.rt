@@ -35,7 +35,7 @@ impl History {
         }
     }
 
-    /// These pass next.
+    /// Appends these octets.
     pub fn push(&mut self, octets: &[u8])
         ensures { self.new ≡ self.old ++ octets.now }
     {

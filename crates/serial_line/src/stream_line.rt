@@ -28,8 +28,8 @@ pub enum ZeroRead {
 }
 
 /// A line over a reader and a writer. Each call makes one call of the reader or of the writer. Where that answers `Interrupted`,
-/// `WouldBlock` or `TimedOut`, nothing can be moved now, and it isn't called again before the next call; any other error is a fault. The
-/// writer is never flushed: one that keeps octets back isn't for a line.
+/// `WouldBlock` or `TimedOut`, the call moves 0 octets; any other error is a fault. The writer is never flushed: one that keeps octets
+/// back isn't for a line.
 ///
 /// Contracts see the octets and counts of a line; what the reader is still to give and what the writer holds, where those are
 /// known; what an empty read means; and how many calls the reader or the writer refused for now. That count stops at

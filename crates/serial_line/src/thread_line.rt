@@ -75,8 +75,8 @@ impl ThreadLine {
         Ok((near, far))
     }
 
-    /// How many octets that this end sent the other end hasn't received yet, for a thread that holds both ends. What the other end
-    /// received is a beginning of what this end sent.
+    /// For a thread that holds both ends: how many octets this end has sent that the other end hasn't received. What the other end
+    /// received is a prefix of what this end sent. Requires the two ends of one line.
     pub fn under_way(&mut self, other: &mut ThreadLine) -> usize
         requires { AreEnds self.old other.old }
         ensures value { result ≡ length other.new.seen }

@@ -123,7 +123,7 @@ fn push_connections(talks: &Talks, tallies: &[Tally], text: &mut String) -> Resu
 
 impl Teller {
     /// Writes what is to be said at the end of the line: the frames that were never answered, the commands without an answer, and what
-    /// was counted of each connection. After want of memory nothing is said.
+    /// was counted of each connection. Where memory is refused nothing is promised.
     pub fn close(&mut self) -> Result<(), AllocError>
         ensures { OnOk result (Closes self.old self.new) }
     {

@@ -1,4 +1,4 @@
-//! Prints what happened on the line between a driver and its modem, of a capture's frames: a line for each event in the order of time,
+//! Prints what happened on the line between a driver and its modem, from a capture's frames: a line for each event in the order of time,
 //! a line for each complaint, and at the end what was counted of each connection.
 #![tactic(auto)]
 

@@ -92,8 +92,8 @@ impl Teller {
         self.take_frames(stamp, direction, octets, frames.as_slice())
     }
 
-    /// Takes a packet: damage, or the frames that its octets are read as by themselves; where they are read as none they are damage too.
-    /// After want of memory nothing is said.
+    /// Takes a packet. Octets of damage are told as damage. Those of a frame are told by the frames that they are read as by themselves,
+    /// or as damage where there is none. Where memory is refused nothing is promised.
     #[tactic(auto, using(crate::proofs::Shown::damage_packet))]
     pub fn take_packet(
         &mut self,
@@ -111,7 +111,7 @@ impl Teller {
         }
     }
 
-    /// Writes the text so far.
+    /// Writes the text so far, and forgets it. Fails where the writer does.
     pub fn write<W: Write>(&mut self, output: &mut W) -> Result<(), ShowFault>
         ensures writes { OnOk result (Writes self.old self.new (W.contents output.old) (W.contents output.new)) }
         ensures all { OnOk result (Appends (W.contents output.old) (W.contents output.new) self.old.text) }
@@ -125,7 +125,7 @@ impl Teller {
         Ok(())
     }
 
-    /// Writes the text so far, where there is much.
+    /// As `write`, but only where 32768 octets of text wait.
     pub fn write_much<W: Write>(&mut self, output: &mut W) -> Result<(), ShowFault>
         ensures writes { OnOk result (Writes self.old self.new (W.contents output.old) (W.contents output.new)) }
         ensures others { result ≢ Err ShowFault.NoCapture }

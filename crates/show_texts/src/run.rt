@@ -132,7 +132,7 @@ pub(crate) fn give_up<E: Write>(faults: &mut E, fault: ShowFault) -> u8
 ///
 /// The status is 0, or 3 where there is a complaint and the options are strict. It is 2 where the input doesn't begin with a header of a
 /// capture, and then nothing is written. It is 1 where the reader or the writer fails, memory is refused, or a packet is cut short or of
-/// another form; then a beginning may be written. At 1 and 2 it says on `faults` why.
+/// another form; then a part may be written. At 1 and 2 it says on `faults` why.
 pub fn show_run<I: Read, W: Write, E: Write>(
     alloc: Global,
     input: &mut I,

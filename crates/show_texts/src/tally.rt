@@ -12,7 +12,7 @@ use mux_frame::Dlci;
 use std::alloc::AllocError;
 use std::fmt::Write;
 
-/// What is counted of a connection. Each count stays at the last number of 64 bits.
+/// What is counted of a connection. Each count stops at `u64::MAX`.
 #[derive(Clone, Copy)]
 pub struct Tally {
     /// When its last command passed.
@@ -30,7 +30,7 @@ pub struct Tally {
 }
 
 impl Tally {
-    /// Of a connection of which nothing came.
+    /// That of a connection on which nothing passed.
     pub const NONE: Tally = Tally {
         asked: None,
         commands: 0,

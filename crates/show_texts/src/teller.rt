@@ -21,8 +21,8 @@ use mux_frame::{Dlci, FrameView, Kind};
 use std::alloc::{AllocError, Global};
 use std::marker::Model;
 
-/// Tells what happened on a line: takes the frames that passed, and the octets that no frame is read in, in their order, and writes a
-/// text of lines. What it keeps grows with the frames that ask and wait for an answer, and with the text until that is taken.
+/// Tells what happened on a line. It takes the frames that passed, and octets that read as no frame, in their order, and writes a text of
+/// lines. What it keeps grows with the frames that ask and wait for an answer, and with the text until that is taken.
 #[derive(Drop)]
 pub struct Teller {
     pub(crate) alloc: Global,
@@ -110,7 +110,8 @@ impl Teller {
         })
     }
 
-    /// Takes a frame that passed, and writes what happened with it and what is wrong with it. After want of memory nothing is said.
+    /// Takes a frame that passed, and writes what happened with it and what is wrong with it. Where memory is refused nothing is
+    /// promised.
     pub fn take_frame(
         &mut self,
         stamp: Stamp,

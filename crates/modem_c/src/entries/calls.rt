@@ -101,7 +101,8 @@ pub extern "C" fn cimbaloty_enter_input_at(
     said
 }
 
-/// For how many milliseconds to wait for what comes; 0 where there is no entry.
+/// For how many milliseconds to wait for what comes: 1000 after the text, 300 after what closes down, 0 where there is no
+/// entry.
 #[unsafe(no_mangle)]
 pub extern "C" fn cimbaloty_enter_wait(alloc: Global, e: &mut CimbalotyEntry) -> u32
     ensures value { (s : EntryState) → entry_of e.old ≡ Some s → result ≡ wait_for s }
@@ -116,7 +117,7 @@ pub extern "C" fn cimbaloty_enter_wait(alloc: Global, e: &mut CimbalotyEntry) ->
     wait
 }
 
-/// The time for what is under way is over. Where nothing answered for the last time, the entry ends.
+/// The time for the part under way is over, and the next part begins. After the last try the entry ends.
 #[unsafe(no_mangle)]
 pub extern "C" fn cimbaloty_enter_time_over(alloc: Global, e: &mut CimbalotyEntry) -> u8
     ensures goes { result ≡ OK → EntersOn e.old e.new (λ s t. t ≡ next_part s) }

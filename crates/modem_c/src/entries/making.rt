@@ -83,7 +83,8 @@ fn refusal_number(why: TextError) -> u8
     }
 }
 
-/// Begins an entry where there is none.
+/// Begins an entry where there is none, by this command line without its CR, which may be sent `left`
+/// times more. N1 is that of a driver that may have left the modem in the multiplexer.
 #[unsafe(no_mangle)]
 pub extern "C" fn cimbaloty_enter_begin_at(
     alloc: Global,

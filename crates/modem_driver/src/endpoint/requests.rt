@@ -51,11 +51,9 @@ impl Endpoint {
         self.next == u64::MAX || self.machine.is_full()
     }
 
-    /// Asks for a connection to be opened, and says the request's number. What comes of it is an
-    /// outcome of that number. It handles the frames at hand first. Refusals, after which nothing but the
-    /// frames at hand has changed and the number is still the next: 2 Full where 128 requests are in
-    /// hand or told and not polled, or all numbers are used up; 1 NoMemory, where it isn't full, at data of an open
-    /// connection, which stays at hand.
+    /// Asks for a connection to be opened, and gives the request's number; the outcome has that number. It handles the frames at hand
+    /// first. A refusal changes nothing else and uses up no number. Refusals: 2 Full where 128 requests are in hand or told and not
+    /// polled, or all numbers are used up; else 1 NoMemory, for data of an open connection, which stays at hand.
     pub fn open(&mut self, dlci: Dlci) -> Result<u64, RequestError>
         ensures takes { IfOk result (λ n. Numbers self.old self.new (Ask.OpenChannel dlci) n) }
         ensures refused { OnErr result (Refuses self.old self.new) }
@@ -68,7 +66,7 @@ impl Endpoint {
         }
     }
 
-    /// Asks for a connection to be closed, and says the request's number. Otherwise as `open`.
+    /// Asks for a connection to be closed, and gives the request's number. Otherwise as `open`.
     pub fn close(&mut self, dlci: Dlci) -> Result<u64, RequestError>
         ensures takes { IfOk result (λ n. Numbers self.old self.new (Ask.CloseChannel dlci) n) }
         ensures refused { OnErr result (Refuses self.old self.new) }
@@ -81,8 +79,8 @@ impl Endpoint {
         }
     }
 
-    /// Asks for a command line to be sent on a connection and its answer read, and says the request's
-    /// number. Refusals as those of `open`, which hand back what it asks for.
+    /// Asks for a command line to be sent on a connection and its answer read, and gives the request's number. Refusals as those of
+    /// `open`, which hand back what it asks for.
     pub fn command(&mut self, dlci: Dlci, line: CommandLine) -> Result<u64, RequestRefused>
         ensures takes { IfOk result (λ n. Numbers self.old self.new (Ask.Command dlci line) n) }
         ensures refused { OnErr result (Refuses self.old self.new) }
@@ -93,8 +91,8 @@ impl Endpoint {
         self.request(Ask::Command(dlci, line))
     }
 
-    /// Asks for octets to be sent back by the other end, and says the request's number. Refusals as
-    /// those of `open`, which hand back what it asks for.
+    /// Asks for octets to be sent back by the other end, and gives the request's number. Refusals as those of `open`, which hand back
+    /// what it asks for.
     pub fn probe(&mut self, octets: ProbeData) -> Result<u64, RequestRefused>
         ensures takes { IfOk result (λ n. Numbers self.old self.new (Ask.Probe octets) n) }
         ensures refused { OnErr result (Refuses self.old self.new) }
@@ -105,7 +103,7 @@ impl Endpoint {
         self.request(Ask::Probe(octets))
     }
 
-    /// Asks for the multiplexer to be ended, and says the request's number. Otherwise as `open`.
+    /// Asks for the multiplexer to be ended, and gives the request's number. Otherwise as `open`.
     pub fn stop(&mut self) -> Result<u64, RequestError>
         ensures takes { IfOk result (λ n. Numbers self.old self.new Ask.Stop n) }
         ensures refused { OnErr result (Refuses self.old self.new) }

@@ -8,7 +8,7 @@ use crate::machine::Machine;
 use modem_desk::{Ask, DriverEnd};
 use std::sync::Wait;
 
-/// What a request asks for has its form: its type says so.
+/// Shows the prover that a command line and a probe keep their limits.
 fn know_form(ask: &Ask)
     ensures { IsFormedAsk ask.now }
 {

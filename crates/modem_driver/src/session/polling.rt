@@ -139,11 +139,11 @@ impl<L: SerialLine, R: Wait + Drop> Session<L, R> {
     }
 }
 
-/// A poll makes at most 64 turns, up to the first that doesn't answer Moved. It is done with Stopped as soon
-/// as a Stop was answered by Stopped or NoAnswer, all output is written, which is all frames sent, and no
-/// outcome waits for its caller; and with each fault of a turn. Else it yields. A poll after an end makes no
-/// turn and gives the same end, whatever happened in between; after 1 NoMemory, which is no end, a poll goes
-/// on. After a fault, call `turn` to place what still waits, or take it from `finish`.
+/// A poll makes at most 64 turns, up to the first that doesn't answer Moved. It is done with Stopped as soon as a Stop
+/// was answered by Stopped or NoAnswer, all frames sent are written, and no outcome waits for its caller. It is done with
+/// each fault of a turn. Else it yields. A poll after an end makes no turn and gives the same end, whatever happened in
+/// between; 1 NoMemory is no end, and the next poll goes on. After a fault, call `turn` to place what still waits, or
+/// take it from `finish`.
 impl<L: SerialLine + Drop, R: Wait + Drop> Future for Session<L, R> {
     ghost use Rattle.modem_driver.specs.SessionStates.{line_by};
     ghost use Rattle.modem_driver.specs.Polls.{Gives};

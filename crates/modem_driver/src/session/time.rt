@@ -23,11 +23,10 @@ impl<L: SerialLine, R: Wait + Drop> Session<L, R> {
     {
         self.machine.wants_tick()
     }
-    /// How many ticks in a row have found the same command first in hand on this connection, by every history that the session
-    /// fits: for so many ticks its answer hasn't ended. `None` where no command of the connection is in hand. Commands behind
-    /// the first aren't counted. The count stops at `u64::MAX`. No command is given up by itself: a caller that finds the count
-    /// too high can close the connection. A session whose requests in hand are commands alone wants no tick (see `wants_tick`),
-    /// and counts those that it is given.
+    /// How many ticks the oldest unanswered command of this connection has waited as the oldest, by every history that the session fits.
+    /// `None` where no command of the connection is in hand. Ticks before it was the oldest don't count. The count stops at `u64::MAX`.
+    /// No command is given up by itself: a caller that finds the count too high can close the connection. `wants_tick` doesn't ask for
+    /// ticks for commands, but all that are given count.
     #[tactic(auto, using(crate::proofs::sessions::steps::WaitedTicks::session_shows))]
     pub fn waiting_ticks(&self, dlci: Dlci) -> Option<u64>
         ensures { (b : Beginning) (past : List Act)

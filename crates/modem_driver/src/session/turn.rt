@@ -19,7 +19,7 @@ pub enum Turn {
     Moved,
     /// Nothing was done: octets wait for the line, which took none.
     WriterFull,
-    /// Nothing was done: an outcome waits for a place with this caller, the least of such callers.
+    /// Nothing was done: outcomes wait for a place, and of their callers this one has the lowest number.
     Waiting(u8),
     /// Nothing was done: a line waits for a place with the listener of this kind. It was heard before
     /// all others that wait.
