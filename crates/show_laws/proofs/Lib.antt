@@ -1,0 +1,3 @@
+pub mod lines
+pub mod counts
+pub mod asks
