@@ -1,3 +1,4 @@
 pub mod lines
 pub mod counts
 pub mod asks
+pub mod sizes

@@ -1,11 +1,32 @@
 -- What is never wrong with a frame of a lawful line.
-use Rattle.std.specs.Prelude.{ℕ, List}
+use Rattle.std.specs.Prelude.{◌≡◌, ℕ, ◌≤◌, nat_le, Bool, true, List, length}
+use Rattle.std.specs.List.{list_all}
 use Rattle.mux_capture.specs.declared.packet.Stamp.{Stamp}
+use Rattle.modem_desk.specs.declared.request.Ask.{Ask}
+use Rattle.modem_desk.specs.declared.request.Ask.TheVariants.{Probe}
+use Rattle.modem_history.specs.Acts as driver
 use Rattle.modem_history.specs.Calls.{Setting}
-use Rattle.modem_show.specs.declared.rule.Rule.TheVariants.{Unasked}
-use Rattle.show_laws.specs.Lines.{IsLawfulLine, LineAct, NoneBreaks, captured}
+use Rattle.modem_history.specs.Wholes.{taken_requests}
+use Rattle.modem_show.specs.declared.rule.Rule.TheVariants.{Unasked, TooLong}
+use Rattle.show_laws.specs.Lines.{IsLawfulLine, LineAct, NoneBreaks, captured, driver_past}
 
 -- each answer answers something that waits for it, whatever N1 the line is judged by
 unfoldable pub AnswersAsks : Setting → ℕ → List LineAct → Type 0
 AnswersAsks s n1 line =
     IsLawfulLine s n1 line → (stamps : ℕ → Stamp) (most : ℕ) → NoneBreaks Unasked most (captured stamps line)
+
+-- ## Information
+
+-- each probe that was taken has at most 16 octets
+abbrev pub is_short_ask : Ask → Bool
+is_short_ask (Probe octets) = nat_le (length octets) 16
+is_short_ask _ = true
+
+abbrev pub TakesShortProbes : List driver.Act → Type 0
+TakesShortProbes past = list_all (λ q. is_short_ask q.ask) (taken_requests past) ≡ true
+
+-- no frame has more information than this, where neither end has a greater N1, and a probe fits
+unfoldable pub FitsN1 : Setting → ℕ → List LineAct → Type 0
+FitsN1 s n1 line =
+    IsLawfulLine s n1 line → TakesShortProbes (driver_past line)
+    → (stamps : ℕ → Stamp) (most : ℕ) → 18 ≤ most → s.n1 ≤ most → n1 ≤ most → NoneBreaks TooLong most (captured stamps line)

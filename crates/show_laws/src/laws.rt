@@ -2,11 +2,18 @@
 ghost use Rattle.std.specs.Prelude.{ℕ, List};
 ghost use Rattle.modem_history.specs.Calls.{Setting};
 ghost use Rattle.show_laws.specs.Lines.{LineAct};
-ghost use Rattle.show_laws.specs.Laws.{AnswersAsks};
+ghost use Rattle.show_laws.specs.Laws.{AnswersAsks, FitsN1};
 
 /// No frame between a driver that keeps its laws and a modem that keeps the responder's tables is judged an answer that nothing waits
 /// for.
 #[tactic(auto, using(crate::proofs::asks::NoneUnasked::answers_asks))]
 pub fn answers()
     ensures { (s : Setting) (n1 : ℕ) (line : List LineAct) → AnswersAsks s n1 line }
+{}
+
+/// No frame of such a line is judged to have more information than N1 allows, where neither end has a greater N1 and no probe has more
+/// than 16 octets.
+#[tactic(auto, using(crate::proofs::sizes::NoneTooLong::fits_n1))]
+pub fn sizes()
+    ensures { (s : Setting) (n1 : ℕ) (line : List LineAct) → FitsN1 s n1 line }
 {}
