@@ -2,3 +2,4 @@ pub mod lines
 pub mod counts
 pub mod asks
 pub mod sizes
+pub mod texts

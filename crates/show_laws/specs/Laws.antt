@@ -1,14 +1,17 @@
 -- What is never wrong with a frame of a lawful line.
-use Rattle.std.specs.Prelude.{◌≡◌, ℕ, ◌≤◌, nat_le, Bool, true, List, length}
+use Rattle.std.specs.Prelude.{◌≡◌, ℕ, ◌≤◌, nat_le, Bool, true, List, [], ◌∷◌, length}
 use Rattle.std.specs.List.{list_all}
 use Rattle.mux_capture.specs.declared.packet.Stamp.{Stamp}
+use Rattle.mux_station.specs.Acts as station
 use Rattle.modem_desk.specs.declared.request.Ask.{Ask}
 use Rattle.modem_desk.specs.declared.request.Ask.TheVariants.{Probe}
 use Rattle.modem_history.specs.Acts as driver
 use Rattle.modem_history.specs.Calls.{Setting}
+use Rattle.modem_history.specs.TwoEnds.{TakesCommandLines}
 use Rattle.modem_history.specs.Wholes.{taken_requests}
-use Rattle.modem_show.specs.declared.rule.Rule.TheVariants.{Unasked, TooLong}
-use Rattle.show_laws.specs.Lines.{IsLawfulLine, LineAct, NoneBreaks, captured, driver_past}
+use Rattle.modem_show.specs.declared.rule.Rule.TheVariants.{Unasked, TooLong, Astray}
+use Rattle.modem_show.specs.Judging.{is_text}
+use Rattle.show_laws.specs.Lines.{IsLawfulLine, LineAct, NoneBreaks, captured, driver_past, modem_past}
 
 -- each answer answers something that waits for it, whatever N1 the line is judged by
 unfoldable pub AnswersAsks : Setting → ℕ → List LineAct → Type 0
@@ -30,3 +33,17 @@ unfoldable pub FitsN1 : Setting → ℕ → List LineAct → Type 0
 FitsN1 s n1 line =
     IsLawfulLine s n1 line → TakesShortProbes (driver_past line)
     → (stamps : ℕ → Stamp) (most : ℕ) → 18 ≤ most → s.n1 ≤ most → n1 ≤ most → NoneBreaks TooLong most (captured stamps line)
+
+-- ## Text
+
+-- the octets of each offer are those of lines
+abbrev pub OffersText : List station.Act → Type 0
+OffersText [] = Unit {0}
+OffersText (station.Called (station.Offer d octets) ∷ past) = (is_text octets ≡ true) × OffersText past
+OffersText (_ ∷ past) = OffersText past
+
+-- no data is a control message, where the driver is given command lines and the modem's user offers lines
+unfoldable pub CarriesText : Setting → ℕ → List LineAct → Type 0
+CarriesText s n1 line =
+    IsLawfulLine s n1 line → TakesCommandLines (driver_past line) → OffersText (modem_past line)
+    → (stamps : ℕ → Stamp) (most : ℕ) → NoneBreaks Astray most (captured stamps line)

@@ -2,7 +2,7 @@
 ghost use Rattle.std.specs.Prelude.{ℕ, List};
 ghost use Rattle.modem_history.specs.Calls.{Setting};
 ghost use Rattle.show_laws.specs.Lines.{LineAct};
-ghost use Rattle.show_laws.specs.Laws.{AnswersAsks, FitsN1};
+ghost use Rattle.show_laws.specs.Laws.{AnswersAsks, CarriesText, FitsN1};
 
 /// No frame between a driver that keeps its laws and a modem that keeps the responder's tables is judged an answer that nothing waits
 /// for.
@@ -16,4 +16,11 @@ pub fn answers()
 #[tactic(auto, using(crate::proofs::sizes::NoneTooLong::fits_n1))]
 pub fn sizes()
     ensures { (s : Setting) (n1 : ℕ) (line : List LineAct) → FitsN1 s n1 line }
+{}
+
+/// No data of such a line is judged a control message, where the driver is given command lines, and the modem's user offers printable
+/// octets, CR and LF alone.
+#[tactic(auto, using(crate::proofs::texts::NoneAstray::carries_text))]
+pub fn texts()
+    ensures { (s : Setting) (n1 : ℕ) (line : List LineAct) → CarriesText s n1 line }
 {}
