@@ -3,3 +3,4 @@ pub mod counts
 pub mod asks
 pub mod sizes
 pub mod texts
+pub mod openings

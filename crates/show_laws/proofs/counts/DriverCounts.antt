@@ -28,7 +28,7 @@ TakesProbes P (Took q ∷ past) = AsksProbe P q.ask × TakesProbes P past
 TakesProbes P (_ ∷ past) = TakesProbes P past
 
 -- the frames of acts, the first of which comes first
-abbrev frames_in : List Act → List Frame
+abbrev pub frames_in : List Act → List Frame
 frames_in [] = []
 frames_in (Sent f ∷ acts) = f ∷ frames_in acts
 frames_in (_ ∷ acts) = frames_in acts
@@ -46,10 +46,10 @@ in_both (Held d ∷ xs) ys = in_both xs ys
 in_both (Freed d ∷ xs) ys = in_both xs ys
 in_both (Given ∷ xs) ys = in_both xs ys
 
-abbrev sends : (Frame → Bool) → List Act → ℕ
+abbrev pub sends : (Frame → Bool) → List Act → ℕ
 sends u acts = many u (frames_in acts)
 
-sends_both : (u : Frame → Bool) (xs ys : List Act) → sends u (xs ++ ys) ≡ sends u xs + sends u ys
+pub sends_both : (u : Frame → Bool) (xs ys : List Act) → sends u (xs ++ ys) ≡ sends u xs + sends u ys
 sends_both u xs ys = ap (many u) (in_both xs ys) ∙ many_both u (frames_in xs) (frames_in ys)
 
 sends_mapped : (u : Frame → Bool) (fs : List Frame) → sends u (map Sent fs) ≡ many u fs
@@ -72,7 +72,7 @@ sends_none u (Held d ∷ acts) h = never h
 sends_none u (Freed d ∷ acts) h = never h
 sends_none u (Given ∷ acts) h = never h
 
-unsent_none : (u : Frame → Bool) (acts : List Act) → sends u (unsent acts) ≤ 0
+pub unsent_none : (u : Frame → Bool) (acts : List Act) → sends u (unsent acts) ≤ 0
 unsent_none u [] = omega arith
 unsent_none u (Sent f ∷ acts) = unsent_none u acts
 unsent_none u (Told o ∷ acts) = unsent_none u acts
@@ -85,7 +85,7 @@ unsent_none u (Held d ∷ acts) = unsent_none u acts
 unsent_none u (Freed d ∷ acts) = unsent_none u acts
 unsent_none u (Given ∷ acts) = unsent_none u acts
 
-dropped : (u : Frame → Bool) (acts : List Act) → sends u (drop 1 acts) ≤ sends u acts
+pub dropped : (u : Frame → Bool) (acts : List Act) → sends u (drop 1 acts) ≤ sends u acts
 dropped u [] = omega arith
 dropped u (Sent f ∷ acts) = omega arith
 dropped u (Told o ∷ acts) = omega arith
@@ -99,7 +99,7 @@ dropped u (Freed d ∷ acts) = omega arith
 dropped u (Given ∷ acts) = omega arith
 
 -- of what an act calls for, the frames are those by its table
-called : (u : Frame → Bool) (n : ℕ) (s : Setting) (v : HistoryView) (a : Act) → many u (frames_by s v a) ≤ n → sends u (calls_seeing s v a) ≤ n
+pub called : (u : Frame → Bool) (n : ℕ) (s : Setting) (v : HistoryView) (a : Act) → many u (frames_by s v a) ≤ n → sends u (calls_seeing s v a) ≤ n
 called u n s v a h =
     let sent = map Sent (frames s v a) in
     let now = states_now s v (a ∷ sent) in
@@ -110,7 +110,7 @@ called u n s v a h =
     let none = sends_none u said (spoken s v a now) in
     omega (arith, parts, first, few, none)
 
-asked : (P : List ℕ → Type 0) (most : ℕ) (r : Role) (u t : Frame → Bool) → Balanced P most r u t → (a : Ask) → AsksProbe P a → many u (asking r a) ≤ 0
+pub asked : (P : List ℕ → Type 0) (most : ℕ) (r : Role) (u t : Frame → Bool) → Balanced P most r u t → (a : Ask) → AsksProbe P a → many u (asking r a) ≤ 0
 asked P most r u t b (OpenChannel d) h = none_one u (written r Sabm d.number []) (b.sabm d.number)
 asked P most r u t b (CloseChannel d) h = none_one u (written r Disc d.number []) (b.disc d.number)
 asked P most r u t b (Command d line) h = omega arith

@@ -28,7 +28,7 @@ probe_short s v octets h = by_length (nat_le (length octets) 16) (if not (is_ope
     by_length true o p h = refl
     by_length false o p h = cc
 
-asked : (P : List ℕ → Type 0) (s : StationSetting) (u t : Frame → Bool) → Balanced P s.n1 s.role u t → (v : StationView) (c : Call) (b : Bool) → is_none (refused s v c) ≡ b → many u (if b then frames_asked s.role c else []) ≤ 0
+pub asked : (P : List ℕ → Type 0) (s : StationSetting) (u t : Frame → Bool) → Balanced P s.n1 s.role u t → (v : StationView) (c : Call) (b : Bool) → is_none (refused s v c) ≡ b → many u (if b then frames_asked s.role c else []) ≤ 0
 asked P s u t k v c false e = omega arith
 asked P s u t k v (Open d) true e = none_one u (written s.role Sabm d []) (k.sabm d)
 asked P s u t k v (Close d) true e = none_one u (written s.role Disc d []) (k.disc d)
@@ -40,7 +40,7 @@ asked P s u t k v (Flow d go) true e =
     (none_one u (msc_frame s.role d (if go then ready else held_up)) (k.command msc ((4 * d + 3) ∷ (if go then ready else held_up) ∷ []) refl (omega arith)))
 asked P s u t k v (Offer d octets) true e = omega arith
 
-called : (u : Frame → Bool) (n : ℕ) (s : StationSetting) (past : List Act) (a : Act) → many u (frames_seeing s (station_view s past) a) ≤ n → many u (called_frames s past a) ≤ n
+pub called : (u : Frame → Bool) (n : ℕ) (s : StationSetting) (past : List Act) (a : Act) → many u (frames_seeing s (station_view s past) a) ≤ n → many u (called_frames s past a) ≤ n
 called u n s past a h = few_if u n (list_any is_loss past) [] (frames_seeing s (station_view s past) a) (omega arith) h
 
 -- what was sent, and what is owed, is no more than what came

@@ -1,0 +1,6 @@
+-- Whether a connection is open, by what passed and by what its end did.
+pub mod ModeAnswers
+pub mod UaBehindSabm
+pub mod QuietFrames
+pub mod DriverFollows
+pub mod DriverOpen
