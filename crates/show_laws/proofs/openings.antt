@@ -4,3 +4,4 @@ pub mod UaBehindSabm
 pub mod QuietFrames
 pub mod DriverFollows
 pub mod DriverOpen
+pub mod NoneUnopened

@@ -2,7 +2,7 @@
 ghost use Rattle.std.specs.Prelude.{ℕ, List};
 ghost use Rattle.modem_history.specs.Calls.{Setting};
 ghost use Rattle.show_laws.specs.Lines.{LineAct};
-ghost use Rattle.show_laws.specs.Laws.{AnswersAsks, CarriesText, FitsN1};
+ghost use Rattle.show_laws.specs.Laws.{AnswersAsks, CarriesText, FitsN1, SendsWhileOpen};
 
 /// No frame between a driver that keeps its laws and a modem that keeps the responder's tables is judged an answer that nothing waits
 /// for.
@@ -23,4 +23,11 @@ pub fn sizes()
 #[tactic(auto, using(crate::proofs::texts::NoneAstray::carries_text))]
 pub fn texts()
     ensures { (s : Setting) (n1 : ℕ) (line : List LineAct) → CarriesText s n1 line }
+{}
+
+/// No data of the driver is judged to be on a connection that isn't open, where the driver asks for each connection once at most and the
+/// modem sends no CLD.
+#[tactic(auto, using(crate::proofs::openings::NoneUnopened::sends_while_open))]
+pub fn openings()
+    ensures { (s : Setting) (n1 : ℕ) (line : List LineAct) → SendsWhileOpen s n1 line }
 {}

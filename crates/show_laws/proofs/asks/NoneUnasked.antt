@@ -39,14 +39,14 @@ use Rattle.show_laws.proofs.lines.EveryFrame.{every, lawful_before}
 
 -- ## Shapes
 
-any_asked : (a : Ask) → AsksProbe AnyProbe a
+pub any_asked : (a : Ask) → AsksProbe AnyProbe a
 any_asked (OpenChannel d) = tt
 any_asked (CloseChannel d) = tt
 any_asked (Command d line) = tt
 any_asked (Probe octets) = tt
 any_asked Stop = tt
 
-any_probes : (past : List driver.Act) → TakesProbes AnyProbe past
+pub any_probes : (past : List driver.Act) → TakesProbes AnyProbe past
 any_probes [] = tt
 any_probes (driver.Took q ∷ past) = (any_asked q.ask, any_probes past)
 any_probes (driver.Got f ∷ past) = any_probes past

@@ -26,7 +26,7 @@ abbrev pub frames_to : Role → List Caught → List Frame
 frames_to r [] = []
 frames_to r (c ∷ line) = if is_from r c then frames_to r line else c.frame ∷ frames_to r line
 
-excused_many : (t : Frame → Bool) (f : Frame) (asks : List Ask) → many_asks t (map (excused_by f) asks) ≡ many_asks t asks
+pub excused_many : (t : Frame → Bool) (f : Frame) (asks : List Ask) → many_asks t (map (excused_by f) asks) ≡ many_asks t asks
 excused_many t f [] = refl
 excused_many t f (a ∷ asks) = ap (λ (n : ℕ). unit (t a.frame) + n) (excused_many t f asks)
 
