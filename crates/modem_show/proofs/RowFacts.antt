@@ -34,6 +34,7 @@ are_judged = record {
   one_more = refl;
   close_as_data = refl;
   close_in_text = refl;
+  test_in_command = refl;
 }
 
 pub are_answered : AreAnswered
@@ -45,6 +46,8 @@ are_answered = record {
   opening = refl;
   sent_again = refl;
   dropped = refl;
+  behind_down = refl;
+  awaited = refl;
   down = refl;
 }
 

@@ -9,7 +9,7 @@ use Rattle.mux_capture.specs.declared.packet.Stamp.{Stamp}
 use Rattle.mux_capture.specs.Passing.{Caught}
 use Rattle.mux_station.specs.declared.role.Role.{Role}
 use Rattle.mux_station.specs.Written.{is_kind}
-use Rattle.mux_station.specs.Messages.{Message, message_in, is_command, response_of, nsc, cld, brings_command}
+use Rattle.mux_station.specs.Messages.{Message, message_in, is_command, response_of, nsc, cld, brings_command, brings_response}
 use Rattle.mux_station.specs.Opening.{is_mode_frame_on}
 use Rattle.mux_station.specs.Tables.{is_supported}
 use Rattle.modem_show.specs.Ways.{is_from, other, sender}
@@ -73,11 +73,12 @@ is_again a = is_mode_command a.frame && a.is_excused
 abbrev pub is_in_doubt : ℕ → List Ask → Bool
 is_in_doubt d asks = list_any (λ a. is_again a && (a.frame.dlci == d)) asks
 
--- 0 is closed or opened anew by this frame, so that the messages before it needn't be answered any more; one that is closed down by
--- a CLD has that answered
+-- 0 is closed or opened anew by this frame, so that the messages before it needn't be answered any more. An end that has sent a CLD
+-- answers nothing but a CLD, so what comes to it drops at the response. One that is closed down by a CLD has that answered.
 abbrev pub drops : Frame → Frame → Bool
 drops g f =
-    is_kind f.kind Uih && (is_mode_frame_on 0 g || (brings_command cld g && not (brings_command cld f)))
+    is_kind f.kind Uih
+    && (is_mode_frame_on 0 g || ((brings_command cld g || brings_response cld g) && not (brings_command cld f)))
 
 -- after g no answer to f has to come
 abbrev pub excuses : Frame → Frame → Bool

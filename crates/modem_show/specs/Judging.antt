@@ -1,5 +1,6 @@
 -- What is wrong with a frame, behind the frames that passed before it.
 use Rattle.std.specs.Prelude.{◌≡◌, ℕ, ◌+◌, ◌==◌, ◌&&◌, ◌||◌, not, nat_lt, is_none, Bool, false, List, [], ◌∷◌, length, filter, Option, None, Some}
+use Rattle.std.specs.List.{list_all}
 use Rattle.mux_frame.specs.Frames.{Frame}
 use Rattle.mux_capture.specs.Passing.{Caught}
 use Rattle.mux_station.specs.declared.role.Role.{Role}
@@ -9,6 +10,8 @@ use Rattle.mux_station.specs.Messages.{Message, message_of}
 use Rattle.mux_station.specs.Tables.{is_supported}
 use Rattle.mux_station.specs.Opening.{is_open}
 use Rattle.mux_station.specs.Stopping.{is_stopped}
+use Rattle.at_text.specs.Commands.{is_printable}
+use Rattle.at_text.specs.Lines.{is_line_end}
 use Rattle.modem_show.specs.declared.faults.Faults.{Faults}
 use Rattle.modem_show.specs.Ways.{sender, other}
 use Rattle.modem_show.specs.Asking.{Ask, is_answer, is_in_doubt, answered_by, waiting}
@@ -41,9 +44,13 @@ abbrev pub is_message : List ℕ → Option Message → Bool
 is_message info None = false
 is_message info (Some m) = is_supported m.octet && (length info == length m.value + 2)
 
--- a control message on a connection of data
+-- octets of lines: printable ones, CR and LF
+abbrev pub is_text : List ℕ → Bool
+is_text octets = list_all (λ c. is_printable c || is_line_end c) octets
+
+-- a control message on a connection of data, which a part of a line isn't
 abbrev pub is_astray : Frame → Bool
-is_astray f = is_data_frame f && is_message f.info (message_of f.info)
+is_astray f = is_data_frame f && (is_message f.info (message_of f.info) && not (is_text f.info))
 
 -- all that is wrong with it
 abbrev pub faults_of : ℕ → List Caught → Caught → Faults

@@ -135,6 +135,8 @@ pub record AreJudged : Type 0 where
   -- CLD on 1, and its octets in a longer text
   pub close_as_data : EndsWith astray opened_1 (out Uih 1 (0xc3 ∷ 1 ∷ []))
   pub close_in_text : EndsWith sound opened_1 (out Uih 1 (0xc3 ∷ 1 ∷ 13 ∷ []))
+  -- the end of a long command that spells a whole Test
+  pub test_in_command : EndsWith sound opened_1 (out Uih 1 (0x23 ∷ 0x21 ∷ (replicate 15 65 ++ 13 ∷ [])))
 
 -- ## Answers that never came
 
@@ -165,4 +167,9 @@ pub record AreAnswered : Type 0 where
   pub sent_again : of_driver (out Sabm 0 [] ∷ out Sabm 0 [] ∷ back Ua 0 [] ∷ []) ≡ []
   -- an MSC on its way as 0 is closed down; the close down itself
   pub dropped : of_modem (opened_1 ++ (back Uih 0 go ∷ out Uih 0 (0xc3 ∷ 1 ∷ []) ∷ [])) ≡ []
+  -- an MSC that passes behind the close down, which the driver doesn't answer any more; before the response it is still awaited
+  pub behind_down :
+      of_modem (opened_1 ++ (out Uih 0 (0xc3 ∷ 1 ∷ []) ∷ back Uih 0 go ∷ back Uih 0 (0xc1 ∷ 1 ∷ []) ∷ [])) ≡ []
+  pub awaited :
+      of_modem (opened_1 ++ (out Uih 0 (0xc3 ∷ 1 ∷ []) ∷ back Uih 0 go ∷ [])) ≡ written Responder Uih 0 go ∷ []
   pub down : of_driver (opened_1 ++ out Uih 0 (0xc3 ∷ 1 ∷ []) ∷ []) ≡ written Initiator Uih 0 (0xc3 ∷ 1 ∷ []) ∷ []

@@ -3,7 +3,7 @@ ghost use Rattle.std.specs.Prelude.{◌≡◌, false, IfOk};
 ghost use Rattle.mux_frame.specs.Frames.{frame_of};
 ghost use Rattle.modem_show.specs.Asking.{answers, drops, excuses, excused_by, is_again, is_ask, is_answer, is_mode_command, is_mode_answer};
 
-use crate::message::{both_respond, closes_down, is_kind, is_mode_frame_on, message_in};
+use crate::message::{answers_close_down, both_respond, closes_down, is_kind, is_mode_frame_on, message_in};
 use mux_capture::Stamp;
 use mux_frame::{FrameBuf, FrameView, Kind};
 use std::alloc::{AllocError, Global};
@@ -52,12 +52,14 @@ pub(crate) fn answers(asked: FrameView<'_>, frame: FrameView<'_>) -> bool
         || both_respond(message_in(asked), message_in(frame))
 }
 
-/// Whether 0 is closed or opened anew by the first frame, so that the second, a message, needn't be answered any more.
+/// Whether 0 is closed or opened anew by the first frame, as by a CLD or its response, so that the second, a message, needn't be
+/// answered any more.
 fn drops(frame: FrameView<'_>, asked: FrameView<'_>) -> bool
     ensures { result ≡ drops (frame_of frame.entry) (frame_of asked.entry) }
 {
     is_kind(asked.kind, Kind::Uih)
-        && (is_mode_frame_on(0, frame) || (closes_down(frame) && !closes_down(asked)))
+        && (is_mode_frame_on(0, frame)
+            || ((closes_down(frame) || answers_close_down(frame)) && !closes_down(asked)))
 }
 
 /// Whether no answer to the second frame has to come after the first.

@@ -9,7 +9,7 @@ ghost use Rattle.mux_station.specs.Tables.{is_supported};
 ghost use Rattle.modem_show.specs.Messages.{message_read};
 ghost use Rattle.modem_show.specs.Asking.{message_asks, message_answers, names, responds, both_respond};
 ghost use Rattle.modem_show.specs.Ends.{says_at};
-ghost use Rattle.modem_show.specs.Judging.{is_message};
+ghost use Rattle.modem_show.specs.Judging.{is_message, is_text};
 
 use mux_frame::{FrameView, Kind};
 use mux_station::written::{CLD, FCOFF, FCON, MSC, MSC_RESPONSE, NSC, NSC_RESPONSE, TEST};
@@ -138,6 +138,15 @@ pub(crate) fn answers_close_down(frame: FrameView<'_>) -> bool
         Some(message) => u16::from(message.octet) + 2 == u16::from(CLD),
         None => false,
     }
+}
+
+/// Whether octets are those of lines: printable ones, CR and LF.
+pub(crate) fn is_text(octets: &[u8]) -> bool
+    ensures { result ≡ is_text octets.now }
+{
+    octets
+        .iter()
+        .all(|octet| (0x20..=0x7E).contains(octet) || *octet == 13 || *octet == 10)
 }
 
 /// Whether information is one whole control message, of a supported type.

@@ -18,7 +18,7 @@ use crate::asks::{answered, is_in_doubt, pass_all, take_answered};
 use crate::deed::Deed;
 use crate::end::End;
 use crate::faults::Faults;
-use crate::message::{is_data_frame, is_kind, is_message};
+use crate::message::{is_data_frame, is_kind, is_message, is_text};
 use mux_capture::{Direction, Stamp};
 use mux_frame::{Dlci, FrameView, Kind};
 use mux_station::Role;
@@ -61,7 +61,7 @@ impl Side {
             unopened: is_data && !(self.end.is_open(frame.dlci) || in_doubt),
             unstopped: is_data && self.end.is_stopped(frame.dlci),
             too_long: frame.info.len() > usize::from(n1),
-            astray: is_data && is_message(frame.info),
+            astray: is_data && is_message(frame.info) && !is_text(frame.info),
         }
     }
 

@@ -1,0 +1,6 @@
+pub mod lines
+pub mod counts
+pub mod asks
+pub mod sizes
+pub mod texts
+pub mod openings

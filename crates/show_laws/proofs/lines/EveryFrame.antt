@@ -1,0 +1,100 @@
+-- What holds of each frame of a line, by what holds at each of its points.
+use Rattle.std.specs.Prelude.{◌≡◌, ℕ, true, false, List, [], ◌∷◌, length, refl}
+use Rattle.mux_frame.specs.Frames.{Frame}
+use Rattle.mux_capture.specs.Passing.{is_same}
+use Rattle.mux_capture.specs.declared.packet.Direction.{Direction}
+use Rattle.mux_capture.specs.declared.packet.Direction.TheVariants.{ToModem, FromModem}
+use Rattle.mux_capture.specs.declared.packet.Stamp.{Stamp}
+use Rattle.mux_station.specs.Acts as station
+use Rattle.mux_station.specs.Sending.{StationLawful}
+use Rattle.modem_history.specs.Acts as driver
+use Rattle.modem_history.specs.Calls.{Setting}
+use Rattle.modem_history.specs.Lawful.{Lawful}
+use Rattle.modem_show.specs.declared.rule.Rule.{Rule}
+use Rattle.modem_show.specs.Judging.{faults_of}
+use Rattle.modem_show.specs.Rules.{breaks}
+use Rattle.modem_show.specs.Ways.{caught}
+use Rattle.show_laws.specs.Lines.{AtDriver, AtModem, IsLawfulLine, LineAct, NoneBreaks, NoneBreaksIn, captured, driver_past, modem_past, responding}
+use Rattle.show_laws.proofs.lines.JudgedFrames.{one_more, one_more_in}
+
+-- ## Each point of the line
+
+-- the modem's laws held before its last act
+station_before : (n1 : ℕ) (a : station.Act) (past : List station.Act) → StationLawful (responding n1) (a ∷ past) → StationLawful (responding n1) past
+unfolding StationLawful
+station_before n1 (station.Called c) past l = l
+station_before n1 (station.Got f) past l = l
+station_before n1 (station.Sent f) past l = l.1
+station_before n1 station.Tick past l = l
+station_before n1 station.Lost past l = l
+station_before n1 station.Given past l = l
+
+driver_before : (s : Setting) (a : driver.Act) (past : List driver.Act) → Lawful s (a ∷ past) → Lawful s past
+unfolding Lawful
+driver_before s a past l = l.1
+
+pub lawful_before : (s : Setting) (n1 : ℕ) (x : LineAct) (line : List LineAct) → IsLawfulLine s n1 (x ∷ line) → IsLawfulLine s n1 line
+lawful_before s n1 (AtDriver a) line h = record {
+  is_initiator = h.is_initiator;
+  driver_lawful = driver_before s a (driver_past line) h.driver_lawful;
+  modem_lawful = h.modem_lawful;
+  one_line = h.one_line.1;
+}
+lawful_before s n1 (AtModem a) line h = record {
+  is_initiator = h.is_initiator;
+  driver_lawful = h.driver_lawful;
+  modem_lawful = station_before n1 a (modem_past line) h.modem_lawful;
+  one_line = h.one_line.1;
+}
+
+-- ## All frames
+
+-- no frame breaks the rule, where none does at the point at which it is sent
+pub every : (P : List LineAct → Type 0) → ((x : LineAct) (line : List LineAct) → P (x ∷ line) → P line) → (rule : Rule) (most : ℕ) (stamps : ℕ → Stamp)
+    → ((f : Frame) (line : List LineAct) → P (AtDriver (driver.Sent f) ∷ line) → breaks (faults_of most (captured stamps line) (caught (stamps (length (captured stamps line))) ToModem f)) rule ≡ false)
+    → ((f : Frame) (line : List LineAct) → P (AtModem (station.Sent f) ∷ line) → breaks (faults_of most (captured stamps line) (caught (stamps (length (captured stamps line))) FromModem f)) rule ≡ false)
+    → (line : List LineAct) → P line → NoneBreaks rule most (captured stamps line)
+every P before rule most stamps d m [] h = refl
+every P before rule most stamps d m (AtDriver (driver.Sent f) ∷ line) h =
+    one_more rule most (caught (stamps (length (captured stamps line))) ToModem f) (captured stamps line) (every P before rule most stamps d m line (before (AtDriver (driver.Sent f)) line h)) (d f line h)
+every P before rule most stamps d m (AtDriver (driver.Took q) ∷ line) h = every P before rule most stamps d m line (before (AtDriver (driver.Took q)) line h)
+every P before rule most stamps d m (AtDriver (driver.Got f) ∷ line) h = every P before rule most stamps d m line (before (AtDriver (driver.Got f)) line h)
+every P before rule most stamps d m (AtDriver (driver.Told o) ∷ line) h = every P before rule most stamps d m line (before (AtDriver (driver.Told o)) line h)
+every P before rule most stamps d m (AtDriver (driver.Heard k e l) ∷ line) h = every P before rule most stamps d m line (before (AtDriver (driver.Heard k e l)) line h)
+every P before rule most stamps d m (AtDriver driver.Tick ∷ line) h = every P before rule most stamps d m line (before (AtDriver driver.Tick) line h)
+every P before rule most stamps d m (AtDriver driver.Lost ∷ line) h = every P before rule most stamps d m line (before (AtDriver driver.Lost) line h)
+every P before rule most stamps d m (AtDriver (driver.Held e) ∷ line) h = every P before rule most stamps d m line (before (AtDriver (driver.Held e)) line h)
+every P before rule most stamps d m (AtDriver (driver.Freed e) ∷ line) h = every P before rule most stamps d m line (before (AtDriver (driver.Freed e)) line h)
+every P before rule most stamps d m (AtDriver driver.Given ∷ line) h = every P before rule most stamps d m line (before (AtDriver driver.Given) line h)
+every P before rule most stamps d m (AtModem (station.Sent f) ∷ line) h =
+    one_more rule most (caught (stamps (length (captured stamps line))) FromModem f) (captured stamps line) (every P before rule most stamps d m line (before (AtModem (station.Sent f)) line h)) (m f line h)
+every P before rule most stamps d m (AtModem (station.Called c) ∷ line) h = every P before rule most stamps d m line (before (AtModem (station.Called c)) line h)
+every P before rule most stamps d m (AtModem (station.Got f) ∷ line) h = every P before rule most stamps d m line (before (AtModem (station.Got f)) line h)
+every P before rule most stamps d m (AtModem station.Tick ∷ line) h = every P before rule most stamps d m line (before (AtModem station.Tick) line h)
+every P before rule most stamps d m (AtModem station.Lost ∷ line) h = every P before rule most stamps d m line (before (AtModem station.Lost) line h)
+every P before rule most stamps d m (AtModem station.Given ∷ line) h = every P before rule most stamps d m line (before (AtModem station.Given) line h)
+
+-- no frame that goes this way does
+pub every_in : (P : List LineAct → Type 0) → ((x : LineAct) (line : List LineAct) → P (x ∷ line) → P line) → (way : Direction) (rule : Rule) (most : ℕ) (stamps : ℕ → Stamp)
+    → ((f : Frame) (line : List LineAct) → P (AtDriver (driver.Sent f) ∷ line) → is_same ToModem way ≡ true → breaks (faults_of most (captured stamps line) (caught (stamps (length (captured stamps line))) ToModem f)) rule ≡ false)
+    → ((f : Frame) (line : List LineAct) → P (AtModem (station.Sent f) ∷ line) → is_same FromModem way ≡ true → breaks (faults_of most (captured stamps line) (caught (stamps (length (captured stamps line))) FromModem f)) rule ≡ false)
+    → (line : List LineAct) → P line → NoneBreaksIn way rule most (captured stamps line)
+every_in P before way rule most stamps d m [] h = refl
+every_in P before way rule most stamps d m (AtDriver (driver.Sent f) ∷ line) h =
+    one_more_in way rule most (caught (stamps (length (captured stamps line))) ToModem f) (captured stamps line) (every_in P before way rule most stamps d m line (before (AtDriver (driver.Sent f)) line h)) (d f line h)
+every_in P before way rule most stamps d m (AtDriver (driver.Took q) ∷ line) h = every_in P before way rule most stamps d m line (before (AtDriver (driver.Took q)) line h)
+every_in P before way rule most stamps d m (AtDriver (driver.Got f) ∷ line) h = every_in P before way rule most stamps d m line (before (AtDriver (driver.Got f)) line h)
+every_in P before way rule most stamps d m (AtDriver (driver.Told o) ∷ line) h = every_in P before way rule most stamps d m line (before (AtDriver (driver.Told o)) line h)
+every_in P before way rule most stamps d m (AtDriver (driver.Heard k e l) ∷ line) h = every_in P before way rule most stamps d m line (before (AtDriver (driver.Heard k e l)) line h)
+every_in P before way rule most stamps d m (AtDriver driver.Tick ∷ line) h = every_in P before way rule most stamps d m line (before (AtDriver driver.Tick) line h)
+every_in P before way rule most stamps d m (AtDriver driver.Lost ∷ line) h = every_in P before way rule most stamps d m line (before (AtDriver driver.Lost) line h)
+every_in P before way rule most stamps d m (AtDriver (driver.Held e) ∷ line) h = every_in P before way rule most stamps d m line (before (AtDriver (driver.Held e)) line h)
+every_in P before way rule most stamps d m (AtDriver (driver.Freed e) ∷ line) h = every_in P before way rule most stamps d m line (before (AtDriver (driver.Freed e)) line h)
+every_in P before way rule most stamps d m (AtDriver driver.Given ∷ line) h = every_in P before way rule most stamps d m line (before (AtDriver driver.Given) line h)
+every_in P before way rule most stamps d m (AtModem (station.Sent f) ∷ line) h =
+    one_more_in way rule most (caught (stamps (length (captured stamps line))) FromModem f) (captured stamps line) (every_in P before way rule most stamps d m line (before (AtModem (station.Sent f)) line h)) (m f line h)
+every_in P before way rule most stamps d m (AtModem (station.Called c) ∷ line) h = every_in P before way rule most stamps d m line (before (AtModem (station.Called c)) line h)
+every_in P before way rule most stamps d m (AtModem (station.Got f) ∷ line) h = every_in P before way rule most stamps d m line (before (AtModem (station.Got f)) line h)
+every_in P before way rule most stamps d m (AtModem station.Tick ∷ line) h = every_in P before way rule most stamps d m line (before (AtModem station.Tick) line h)
+every_in P before way rule most stamps d m (AtModem station.Lost ∷ line) h = every_in P before way rule most stamps d m line (before (AtModem station.Lost) line h)
+every_in P before way rule most stamps d m (AtModem station.Given ∷ line) h = every_in P before way rule most stamps d m line (before (AtModem station.Given) line h)

@@ -1,0 +1,7 @@
+-- Whether a connection is open, by what passed and by what its end did.
+pub mod ModeAnswers
+pub mod UaBehindSabm
+pub mod QuietFrames
+pub mod DriverFollows
+pub mod DriverOpen
+pub mod NoneUnopened

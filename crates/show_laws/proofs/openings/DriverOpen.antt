@@ -1,0 +1,378 @@
+-- The driver sends data where what passed says that the connection is open.
+use Rattle.std.specs.Prelude.{◌≡◌, ℕ, ◌+◌, ◌==◌, ◌≤◌, ◌&&◌, ◌||◌, not, Bool, true, false, List, [], ◌∷◌, ◌++◌, drop, filter, length, map, suc, unwrap_or, Option, Some, None, refl, is_none, if◌then◌else◌}
+use Rattle.std.specs.List.{find, list_any, position_or_len, remove}
+use Rattle.std.proofs.Common.{ap, arith, sym, ◌∙◌, subst, eqb-true}
+use Rattle.std.proofs.lemmas.Bool.{and_from, and_parts, or_parts}
+use Rattle.mux_frame.specs.Frames.{Frame}
+use Rattle.mux_frame.specs.declared.frame.Kind.{Kind}
+use Rattle.mux_frame.specs.declared.frame.Kind.TheVariants.{Sabm, Ua, Dm, Disc, Uih}
+use Rattle.mux_capture.specs.Passing.{Caught}
+use Rattle.mux_capture.specs.declared.packet.Stamp.{Stamp}
+use Rattle.mux_station.specs.declared.role.Role.{Role}
+use Rattle.mux_station.specs.declared.role.Role.TheVariants.{Initiator, Responder}
+use Rattle.mux_station.specs.Acts as station
+use Rattle.mux_station.specs.Messages.{Message, cld, brings_command, message_in}
+use Rattle.mux_station.specs.Opening.{ends, is_mode_frame_on}
+use Rattle.mux_station.specs.Tables.{held_up, ready}
+use Rattle.mux_station.specs.Written.{is_data_frame, is_kind, is_on}
+use Rattle.modem_history.specs.Acts as driver
+use Rattle.modem_history.specs.Acts.{Act, Took, Got, Sent, Told, Heard, Tick, Lost, Held, Freed, Given, wire}
+use Rattle.modem_history.specs.Calls.{Setting, asking, at_once, calls_behind, frames_by, seen_behind}
+use Rattle.modem_history.specs.Lawful.{Gated, IsNext, Lawful, When, owed, owes_frame, unsent}
+use Rattle.modem_history.specs.TwoEnds.{AsksOnce, frames_got, frames_sent}
+use Rattle.modem_history.proofs.commands.FramesOnLine.{asked_first, asks_fewer}
+use Rattle.modem_show.specs.Asking.{Ask, answered_by, answers, asked_with, excused_by, both_respond, is_again, is_ask, is_mode_answer, is_mode_command, unanswered_by, waiting}
+use Rattle.modem_show.specs.Ends.{handled, own}
+use Rattle.modem_show.specs.Ways.{is_from}
+use Rattle.show_laws.specs.Lines.{AtDriver, AtModem, IsLawfulLine, LineAct, captured, driver_past, modem_past, responding}
+use Rattle.show_laws.specs.Laws.{NeverClosesDown}
+use Rattle.show_laws.proofs.asks.AnswerShapes.{message_no_mode, or_elim}
+use Rattle.show_laws.proofs.asks.AnswersCalled.{AnyProbe}
+use Rattle.show_laws.proofs.asks.NoneUnasked.{any_asked}
+use Rattle.show_laws.proofs.asks.WaitingAsks.{excused_many, frames_of, many_asks}
+use Rattle.show_laws.proofs.counts.ManyFrames.{few_if, many, none_one, unit}
+use Rattle.show_laws.proofs.counts.BalancedTables.{Balanced, none_of_flow, none_of_tick}
+use Rattle.show_laws.proofs.counts.DriverCounts.{asked, called, dropped, sends, sends_both, unsent_none}
+use Rattle.show_laws.proofs.lines.CapturedFrames.{both_ways, came_few, shows}
+use Rattle.show_laws.proofs.lines.EveryFrame.{lawful_before}
+use Rattle.show_laws.proofs.openings.ModeAnswers.{ending_balanced, is_ending, sabm_never}
+use Rattle.show_laws.proofs.openings.UaBehindSabm.{ua_behind}
+use Rattle.show_laws.proofs.openings.QuietFrames.{Quiet, asked_at, is_ender, open_at, quiet_asked, quiet_open, zero_at}
+use Rattle.show_laws.proofs.openings.DriverFollows.{Follows, Ready, fewer_step, got_step, passed_step, sent_step}
+
+-- ## What waits was sent
+
+asked_most : (t : Frame → Bool) (stamp : Stamp) (f : Frame) (asks : List Ask) → many_asks t (asked_with stamp f ++ asks) ≤ unit (t f) + many_asks t asks
+asked_most t stamp f asks = by_test (is_ask f)
+  where
+    by_test : (b : Bool) → many_asks t ((if b then record { stamp = stamp; frame = f; is_excused = false } ∷ [] else []) ++ asks) ≤ unit (t f) + many_asks t asks
+    by_test true = omega arith
+    by_test false = omega arith
+
+removed_fewer : (t p : Frame → Bool) (asks : List Ask) → many_asks t (remove asks (position_or_len (λ a. p a.frame) asks)) ≤ many_asks t asks
+removed_fewer t p [] = omega arith
+removed_fewer t p (a ∷ asks) = by_test (p a.frame) (removed_fewer t p asks)
+  where
+    by_test : (b : Bool) → many_asks t (remove asks (position_or_len (λ a. p a.frame) asks)) ≤ many_asks t asks
+        → many_asks t (remove (a ∷ asks) (if not b then 1 + position_or_len (λ a. p a.frame) asks else 0)) ≤ many_asks t (a ∷ asks)
+    by_test true k = omega arith
+    by_test false k =
+        let n = position_or_len (λ a. p a.frame) asks in
+        let next : many_asks t (remove (a ∷ asks) (1 + n)) ≡ unit (t a.frame) + many_asks t (remove asks n) = let one : 1 + n ≡ suc n = omega arith in ap (λ m. many_asks t (remove (a ∷ asks) m)) one in
+        omega (arith, k, next)
+
+waiting_few : (t : Frame → Bool) (r : Role) (line : List Caught) → many_asks t (waiting r line) ≤ many t (frames_of r line)
+waiting_few t r [] = omega arith
+waiting_few t r (c ∷ line) = by_way (is_from r c) (waiting_few t r line)
+  where
+    by_way : (b : Bool) → many_asks t (waiting r line) ≤ many t (frames_of r line)
+        → many_asks t (map (excused_by c.frame) (if b then asked_with c.stamp c.frame ++ waiting r line else unanswered_by c.frame (waiting r line))) ≤ many t (if b then c.frame ∷ frames_of r line else frames_of r line)
+    by_way true k =
+        let e = excused_many t c.frame (asked_with c.stamp c.frame ++ waiting r line) in
+        let x = asked_most t c.stamp c.frame (waiting r line) in
+        omega (arith, e, x, k)
+    by_way false k =
+        let e = excused_many t c.frame (unanswered_by c.frame (waiting r line)) in
+        let x = removed_fewer t (λ f. answers f c.frame) (waiting r line) in
+        omega (arith, e, x, k)
+
+found_one : (t p : Frame → Bool) (asks : List Ask) (a : Ask) → find (λ x. p x.frame) asks ≡ Some a → many_asks t asks ≤ 0 → (p a.frame ≡ true) × (t a.frame ≡ false)
+found_one t p [] a e none = cc
+found_one t p (x ∷ asks) a e none = by_test (p x.frame) refl e (λ k. found_one t p asks a k (omega (arith, none)))
+  where
+    off : t x.frame ≡ false
+    off = by_off (t x.frame) refl
+      where
+        by_off : (b : Bool) → t x.frame ≡ b → b ≡ false
+        by_off false e = refl
+        by_off true e = let y : unit (t x.frame) ≡ 1 = ap unit e in absurd (omega (arith, y, none))
+
+    by_test : (b : Bool) → p x.frame ≡ b → (if b then Some x else find (λ x. p x.frame) asks) ≡ Some a → (find (λ x. p x.frame) asks ≡ Some a → (p a.frame ≡ true) × (t a.frame ≡ false)) → (p a.frame ≡ true) × (t a.frame ≡ false)
+    by_test true h k rest = let same : x ≡ a = ap (λ (o : Option Ask). unwrap_or o x) k in (subst (λ (y : Ask). p y.frame ≡ true) same h, subst (λ (y : Ask). t y.frame ≡ false) same off)
+    by_test false h k rest = rest k
+
+-- ## What is answered is quiet
+
+off_and : (a x : Bool) → x ≡ false → (a && x) ≡ false
+off_and true x h = h
+off_and false x h = refl
+
+off_four : (a b c e : Bool) → a ≡ false → b ≡ false → c ≡ false → e ≡ false → (a || (b || (c || e))) ≡ false
+off_four true b c e g h i j = cc
+off_four false true c e g h i j = cc
+off_four false false true e g h i j = cc
+off_four false false false e g h i j = j
+
+off_place : (a b c e x : Bool) → x ≡ false → ((a && x) || ((b && x) || ((c && x) || (e && x)))) ≡ false
+off_place a b c e x h = off_four (a && x) (b && x) (c && x) (e && x) (off_and a x h) (off_and b x h) (off_and c x h) (off_and e x h)
+
+off_kinds : (a b c e x : Bool) → (a || e) ≡ false → (b || c) ≡ false → ((a && x) || ((b && x) || ((c && x) || (e && x)))) ≡ false
+off_kinds true b c e x h k = cc
+off_kinds false b c true x h k = cc
+off_kinds false true c false x h k = cc
+off_kinds false false true false x h k = cc
+off_kinds false false false false x h k = refl
+
+quiet_one : (d : ℕ) (f g : Frame) → answers f g ≡ true → is_ending d g ≡ false → brings_command cld f ≡ false → Quiet d f
+quiet_one d f g h e no_cld =
+    or_elim ((is_mode_command f && is_mode_answer g) && (f.dlci == g.dlci)) (both_respond (message_in f) (message_in g)) h
+    (λ k.
+      let p = and_parts (is_mode_command f && is_mode_answer g) (f.dlci == g.dlci) k in
+      let q = and_parts (is_mode_command f) (is_mode_answer g) p.0 in
+      let same = eqb-true f.dlci g.dlci p.1 in
+      let away = or_parts (g.dlci == d) (g.dlci == 0) (sym (ap (λ (b : Bool). b && ((g.dlci == d) || (g.dlci == 0))) q.1) ∙ e) in
+      record { mode = at d (ap (λ n. n == d) same ∙ away.0); mode_of_zero = at 0 (ap (λ n. n == 0) same ∙ away.1); no_cld = no_cld })
+    (λ k. by_message (message_in f) refl k)
+  where
+    at : (n : ℕ) → (f.dlci == n) ≡ false → is_mode_frame_on n f ≡ false
+    at n h = off_place (is_kind f.kind Sabm) (is_kind f.kind Ua) (is_kind f.kind Dm) (is_kind f.kind Disc) (f.dlci == n) h
+
+    by_message : (o : Option Message) → message_in f ≡ o → both_respond o (message_in g) ≡ true → Quiet d f
+    by_message None m k = cc
+    by_message (Some m) is k =
+        let n = message_no_mode f m is in
+        record {
+          mode = off_kinds (is_kind f.kind Sabm) (is_kind f.kind Ua) (is_kind f.kind Dm) (is_kind f.kind Disc) (f.dlci == d) n.0 n.1;
+          mode_of_zero = off_kinds (is_kind f.kind Sabm) (is_kind f.kind Ua) (is_kind f.kind Dm) (is_kind f.kind Disc) (f.dlci == 0) n.0 n.1;
+          no_cld = no_cld;
+        }
+
+quiet_handled : (d : ℕ) (g : Frame) (asks : List Ask) (q : List station.Act) (o : Option Ask) → answered_by g asks ≡ o → many_asks (brings_command cld) asks ≤ 0 → is_ending d g ≡ false
+    → (open_at d (handled o ++ q) ≡ open_at d q) × (asked_at d (handled o ++ q) ≡ asked_at d q)
+quiet_handled d g asks q None e none ending = (refl, refl)
+quiet_handled d g asks q (Some a) e none ending =
+    let p = found_one (brings_command cld) (λ f. answers f g) asks a e none in
+    by_again (is_again a) (quiet_one d a.frame g p.0 ending p.1)
+  where
+    by_again : (b : Bool) → Quiet d a.frame → (open_at d ((if b then [] else station.Got a.frame ∷ []) ++ q) ≡ open_at d q) × (asked_at d ((if b then [] else station.Got a.frame ∷ []) ++ q) ≡ asked_at d q)
+    by_again true h = (refl, refl)
+    by_again false h = (quiet_open d a.frame q h, quiet_asked d a.frame q h)
+
+-- ## The line
+
+-- while nothing but requests, ticks and the like happen no frame is owed
+none_owed : (u : Frame → Bool) (owing : List Act) → owes_frame owing ≡ false → sends u owing ≤ 0
+none_owed u [] h = omega arith
+none_owed u (Sent f ∷ owing) h = cc
+none_owed u (Took q ∷ owing) h = none_owed u owing h
+none_owed u (Got f ∷ owing) h = none_owed u owing h
+none_owed u (Told o ∷ owing) h = none_owed u owing h
+none_owed u (Heard k d l ∷ owing) h = none_owed u owing h
+none_owed u (Tick ∷ owing) h = none_owed u owing h
+none_owed u (Lost ∷ owing) h = none_owed u owing h
+none_owed u (Held d ∷ owing) h = none_owed u owing h
+none_owed u (Freed d ∷ owing) h = none_owed u owing h
+none_owed u (Given ∷ owing) h = none_owed u owing h
+
+none_filtered : (t : Frame → Bool) (fs : List Frame) → filter t fs ≡ [] → many t fs ≤ 0
+none_filtered t [] h = omega arith
+none_filtered t (f ∷ fs) h = by_test (t f) refl h (none_filtered t fs)
+  where
+    by_test : (b : Bool) → t f ≡ b → (if b then f ∷ filter t fs else filter t fs) ≡ [] → (filter t fs ≡ [] → many t fs ≤ 0) → unit (t f) + many t fs ≤ 0
+    by_test true e h rest = cc
+    by_test false e h rest = let x : unit (t f) ≡ 0 = ap unit e in let y = rest h in omega (arith, x, y)
+
+-- a lawful line on which each connection is asked for once, and the modem doesn't close down
+pub record IsOnceLine (s : Setting) (n1 : ℕ) (line : List LineAct) : Type 0 where
+  pub lawful : IsLawfulLine s n1 line
+  pub once : AsksOnce (wire (driver_past line))
+  pub stays : NeverClosesDown (modem_past line)
+
+once_before : (a : Act) (past : List Act) → AsksOnce (wire (a ∷ past)) → AsksOnce (wire past)
+once_before (Sent f) past h = λ d. asks_fewer d f (frames_sent (wire past)) (h d)
+once_before (Took q) past h = h
+once_before (Got f) past h = h
+once_before (Told o) past h = h
+once_before (Heard k d l) past h = h
+once_before Tick past h = h
+once_before Lost past h = h
+once_before (Held d) past h = h
+once_before (Freed d) past h = h
+once_before Given past h = h
+
+stays_before : (a : station.Act) (past : List station.Act) → NeverClosesDown (a ∷ past) → NeverClosesDown past
+stays_before (station.Sent f) past h = (or_parts (brings_command cld f) (list_any (brings_command cld) (frames_sent past)) h).1
+stays_before (station.Called c) past h = h
+stays_before (station.Got f) past h = h
+stays_before station.Tick past h = h
+stays_before station.Lost past h = h
+stays_before station.Given past h = h
+
+pub once_line_before : (s : Setting) (n1 : ℕ) (x : LineAct) (line : List LineAct) → IsOnceLine s n1 (x ∷ line) → IsOnceLine s n1 line
+once_line_before s n1 (AtDriver a) line h = record { lawful = lawful_before s n1 (AtDriver a) line h.lawful; once = once_before a (driver_past line) h.once; stays = h.stays }
+once_line_before s n1 (AtModem a) line h = record { lawful = lawful_before s n1 (AtModem a) line h.lawful; once = h.once; stays = stays_before a (modem_past line) h.stays }
+
+abbrev pub seen_by : (ℕ → Stamp) → List LineAct → List station.Act
+seen_by stamps line = own Initiator (captured stamps line)
+
+abbrev pub ending_owed : Setting → ℕ → List Act → ℕ
+ending_owed s d past = sends (is_ending d) (owed s past)
+
+abbrev pub sabms_owed : Setting → ℕ → List Act → ℕ
+sabms_owed s d past = sends (is_on Sabm d) (owed s past)
+
+abbrev pub uas_sent : ℕ → List LineAct → ℕ
+uas_sent d line = many (is_on Ua d) (frames_sent (modem_past line))
+
+abbrev pub uas_got : ℕ → List Act → ℕ
+uas_got d past = many (is_on Ua d) (frames_got (wire past))
+
+abbrev pub FollowsAt : Setting → ℕ → (ℕ → Stamp) → List LineAct → Type 0
+FollowsAt s d stamps line =
+    Follows d (wire (driver_past line)) (seen_by stamps line) (ending_owed s d (driver_past line)) (sabms_owed s d (driver_past line)) (uas_sent d line) (uas_got d (driver_past line))
+
+-- none of the modem's frames that wait is a CLD
+none_cld : (fs : List Frame) → list_any (brings_command cld) fs ≡ false → many (brings_command cld) fs ≤ 0
+none_cld [] h = omega arith
+none_cld (f ∷ fs) h =
+    let p = or_parts (brings_command cld f) (list_any (brings_command cld) fs) h in
+    let x : unit (brings_command cld f) ≡ 0 = ap unit p.0 in
+    let y = none_cld fs p.1 in
+    omega (arith, x, y)
+
+-- a SABM is sent where no UA on its connection is under way
+level : (s : Setting) (n1 d : ℕ) (f : Frame) (line : List LineAct) → IsOnceLine s n1 (AtDriver (Sent f) ∷ line) → is_on Sabm d f ≡ true → uas_sent d line ≤ uas_got d (driver_past line)
+level s n1 d f line h is =
+    let first = none_filtered (is_on Sabm d) (frames_sent (wire (driver_past line))) (asked_first d f (frames_sent (wire (driver_past line))) (h.once d) is) in
+    let came = came_few (is_on Sabm d) (wire (driver_past line)) (modem_past line) (both_ways line h.lawful.one_line.1).at_modem in
+    let none = ua_behind n1 d (modem_past line) h.lawful.modem_lawful (omega (arith, first, came)) in
+    omega (arith, none)
+
+sent_counts : (s : Setting) (d : ℕ) (u t : Frame → Bool) (past : List Act) (f : Frame) (b : Bool) → is_data_frame f ≡ b → (b ≡ true → u f ≡ false) → When (not b) (IsNext (owed s past) (Sent f))
+    → sends u (if b then owed s past else drop 1 (owed s past)) + unit (u f) ≤ sends u (owed s past)
+sent_counts s d u t past f true is plain n = let e : unit (u f) ≡ 0 = ap unit (plain refl) in omega (arith, e)
+sent_counts s d u t past f false is plain n =
+    let e : sends u (owed s past) ≡ unit (u f) + sends u n.later = ap (sends u) n.is_next in
+    let k : sends u (drop 1 (owed s past)) ≡ sends u n.later = ap (λ (xs : List Act). sends u (drop 1 xs)) n.is_next in
+    omega (arith, e, k)
+
+data_no_sabm : (k : Kind) (x : Bool) → is_kind k Uih ≡ true → (is_kind k Sabm && x) ≡ false
+data_no_sabm Uih x h = refl
+data_no_sabm Sabm x h = cc
+data_no_sabm Ua x h = cc
+data_no_sabm Dm x h = cc
+data_no_sabm Disc x h = cc
+
+data_no_ending : (k : Kind) (x : Bool) → is_kind k Uih ≡ true → ((is_kind k Ua || is_kind k Dm) && x) ≡ false
+data_no_ending Uih x h = refl
+data_no_ending Sabm x h = cc
+data_no_ending Ua x h = cc
+data_no_ending Dm x h = cc
+data_no_ending Disc x h = cc
+
+driver_sent : (s : Setting) (n1 d : ℕ) (stamps : ℕ → Stamp) (f : Frame) (line : List LineAct) → IsOnceLine s n1 (AtDriver (Sent f) ∷ line) → FollowsAt s d stamps line → FollowsAt s d stamps (AtDriver (Sent f) ∷ line)
+unfolding Lawful
+driver_sent s n1 d stamps f line h k =
+    let past = driver_past line in
+    let q = seen_by stamps line in
+    let waits = waiting Responder (captured stamps line) in
+    let kind = λ (is : is_data_frame f ≡ true). (and_parts (is_kind f.kind Uih) (not (f.dlci == 0)) is).0 in
+    let owing = h.lawful.driver_lawful.0.controlled in
+    let few = waiting_few (brings_command cld) Responder (captured stamps line) in
+    let same : many (brings_command cld) (frames_of Responder (captured stamps line)) ≡ many (brings_command cld) (frames_sent (modem_past line)) = ap (many (brings_command cld)) (shows stamps line).modem_frames in
+    let none = none_cld (frames_sent (modem_past line)) h.stays in
+    sent_step d (wire past) q (handled (answered_by f waits) ++ q) (ending_owed s d past) (ending_owed s d (Sent f ∷ past)) (sabms_owed s d past) (sabms_owed s d (Sent f ∷ past)) (uas_sent d line) (uas_got d past) f k
+    (sent_counts s d (is_ending d) (is_ending d) past f (is_data_frame f) refl (λ is. data_no_ending f.kind ((f.dlci == d) || (f.dlci == 0)) (kind is)) owing)
+    (sent_counts s d (is_on Sabm d) (is_on Sabm d) past f (is_data_frame f) refl (λ is. data_no_sabm f.kind (f.dlci == d) (kind is)) owing)
+    (level s n1 d f line h)
+    (λ ending. quiet_handled d f waits q (answered_by f waits) refl (omega (arith, few, same, none)) ending)
+
+one_ender : (b : Bool) → 1 ≤ unit b → b ≡ true
+one_ender true h = refl
+one_ender false h = absurd (omega (arith, h))
+
+driver_got : (s : Setting) (n1 d : ℕ) (stamps : ℕ → Stamp) (f : Frame) (line : List LineAct) → IsOnceLine s n1 (AtDriver (Got f) ∷ line) → FollowsAt s d stamps line → FollowsAt s d stamps (AtDriver (Got f) ∷ line)
+unfolding Lawful
+driver_got s n1 d stamps f line h k =
+    let past = driver_past line in
+    let owing = owed s past in
+    let v = seen_behind s past owing in
+    let prompt = h.lawful.driver_lawful.0.prompt in
+    let came = came_few (is_on Ua d) (modem_past line) (wire (Got f ∷ past)) (both_ways (AtDriver (Got f) ∷ line) h.lawful.one_line).at_driver in
+    let parts = sends_both (is_ending d) owing (calls_behind s past owing (Got f)) in
+    let before = none_owed (is_ending d) owing prompt in
+    let few = called (is_ending d) (unit (is_ender d f)) s v (Got f) ((ending_balanced s.n1 s.role d).frame v.state f) in
+    let sabm_parts = sends_both (is_on Sabm d) owing (calls_behind s past owing (Got f)) in
+    let sabm_before = none_owed (is_on Sabm d) owing prompt in
+    let sabm_few = called (is_on Sabm d) 0 s v (Got f) (sabm_never d s.role v.state f) in
+    got_step d (wire past) (seen_by stamps line) (ending_owed s d past) (ending_owed s d (Got f ∷ past)) (sabms_owed s d past) (sabms_owed s d (Got f ∷ past)) (uas_sent d line) (uas_got d past) f k
+    came (λ some. one_ender (is_ender d f) (omega (arith, some, parts, before, few))) (omega (arith, sabm_parts, sabm_before, sabm_few))
+
+-- an act that calls for no such answer
+driver_calls : (s : Setting) (d : ℕ) (stamps : ℕ → Stamp) (a : Act) (line : List LineAct) → many (is_ending d) (frames_by s (seen_behind s (driver_past line) (owed s (driver_past line))) a) ≤ 0 → owes_frame (owed s (driver_past line)) ≡ false
+    → sends (is_ending d) (owed s (driver_past line) ++ calls_behind s (driver_past line) (owed s (driver_past line)) a) ≤ 0
+driver_calls s d stamps a line none prompt =
+    let past = driver_past line in
+    let owing = owed s past in
+    let parts = sends_both (is_ending d) owing (calls_behind s past owing a) in
+    let before = none_owed (is_ending d) owing prompt in
+    let few = called (is_ending d) 0 s (seen_behind s past owing) a none in
+    omega (arith, parts, before, few)
+
+pub follows : (s : Setting) (n1 d : ℕ) (stamps : ℕ → Stamp) (line : List LineAct) → IsOnceLine s n1 line → FollowsAt s d stamps line
+unfolding Lawful
+follows s n1 d stamps [] h = record { opens = λ k. k; asks = λ k. cc; owes = λ k. absurd (omega (arith, k)); free = λ k. omega arith }
+follows s n1 d stamps (AtDriver (Sent f) ∷ line) h = driver_sent s n1 d stamps f line h (follows s n1 d stamps line (once_line_before s n1 (AtDriver (Sent f)) line h))
+follows s n1 d stamps (AtDriver (Got f) ∷ line) h = driver_got s n1 d stamps f line h (follows s n1 d stamps line (once_line_before s n1 (AtDriver (Got f)) line h))
+follows s n1 d stamps (AtDriver (Took q) ∷ line) h =
+    let past = driver_past line in
+    let v = seen_behind s past (owed s past) in
+    let none = driver_calls s d stamps (Took q) line (few_if (is_ending d) 0 (is_none (at_once s v q)) (asking s.role q.ask) [] (asked AnyProbe s.n1 s.role (is_ending d) (is_ender d) (ending_balanced s.n1 s.role d) q.ask (any_asked q.ask)) (omega arith)) h.lawful.driver_lawful.0.prompt in
+    fewer_step d (wire past) (wire past) (seen_by stamps line) (ending_owed s d past) (ending_owed s d (Took q ∷ past)) (sabms_owed s d past) (sabms_owed s d (Took q ∷ past)) (uas_sent d line) (uas_got d past)
+    (follows s n1 d stamps line (once_line_before s n1 (AtDriver (Took q)) line h)) (λ k. k) (λ k. k) (λ k. absurd (omega (arith, k, none))) (λ k. absurd (omega (arith, k, none)))
+follows s n1 d stamps (AtDriver Tick ∷ line) h =
+    let past = driver_past line in
+    let v = seen_behind s past (owed s past) in
+    let none = driver_calls s d stamps Tick line (none_of_tick AnyProbe s.n1 s.role (is_ending d) (is_ender d) (ending_balanced s.n1 s.role d) s.n1 v.state v.queued 0 62) h.lawful.driver_lawful.0.prompt in
+    fewer_step d (wire past) (wire (Tick ∷ past)) (seen_by stamps line) (ending_owed s d past) (ending_owed s d (Tick ∷ past)) (sabms_owed s d past) (sabms_owed s d (Tick ∷ past)) (uas_sent d line) (uas_got d past)
+    (follows s n1 d stamps line (once_line_before s n1 (AtDriver Tick) line h))
+    (λ k. (and_parts (open_at d (wire past)) (not (ends (zero_at d (wire past)) d station.Tick)) k).0) (λ k. (and_parts (asked_at d (wire past)) (not (ends (zero_at d (wire past)) d station.Tick)) k).0)
+    (λ k. absurd (omega (arith, k, none))) (λ k. absurd (omega (arith, k, none)))
+follows s n1 d stamps (AtDriver (Held e) ∷ line) h =
+    let past = driver_past line in
+    let v = seen_behind s past (owed s past) in
+    let none = driver_calls s d stamps (Held e) line (none_of_flow AnyProbe s.n1 s.role (is_ending d) (is_ender d) (ending_balanced s.n1 s.role d) v.state e held_up) h.lawful.driver_lawful.0.prompt in
+    fewer_step d (wire past) (wire past) (seen_by stamps line) (ending_owed s d past) (ending_owed s d (Held e ∷ past)) (sabms_owed s d past) (sabms_owed s d (Held e ∷ past)) (uas_sent d line) (uas_got d past)
+    (follows s n1 d stamps line (once_line_before s n1 (AtDriver (Held e)) line h)) (λ k. k) (λ k. k) (λ k. absurd (omega (arith, k, none))) (λ k. absurd (omega (arith, k, none)))
+follows s n1 d stamps (AtDriver (Freed e) ∷ line) h =
+    let past = driver_past line in
+    let v = seen_behind s past (owed s past) in
+    let none = driver_calls s d stamps (Freed e) line (none_of_flow AnyProbe s.n1 s.role (is_ending d) (is_ender d) (ending_balanced s.n1 s.role d) v.state e ready) h.lawful.driver_lawful.0.prompt in
+    fewer_step d (wire past) (wire past) (seen_by stamps line) (ending_owed s d past) (ending_owed s d (Freed e ∷ past)) (sabms_owed s d past) (sabms_owed s d (Freed e ∷ past)) (uas_sent d line) (uas_got d past)
+    (follows s n1 d stamps line (once_line_before s n1 (AtDriver (Freed e)) line h)) (λ k. k) (λ k. k) (λ k. absurd (omega (arith, k, none))) (λ k. absurd (omega (arith, k, none)))
+follows s n1 d stamps (AtDriver (Told o) ∷ line) h =
+    let past = driver_past line in
+    let x = dropped (is_ending d) (owed s past) in
+    let y = dropped (is_on Sabm d) (owed s past) in
+    fewer_step d (wire past) (wire past) (seen_by stamps line) (ending_owed s d past) (ending_owed s d (Told o ∷ past)) (sabms_owed s d past) (sabms_owed s d (Told o ∷ past)) (uas_sent d line) (uas_got d past)
+    (follows s n1 d stamps line (once_line_before s n1 (AtDriver (Told o)) line h)) (λ k. k) (λ k. k) (λ k. omega (arith, k, x)) (λ k. omega (arith, y))
+follows s n1 d stamps (AtDriver (Heard u e l) ∷ line) h =
+    let past = driver_past line in
+    let x = dropped (is_ending d) (owed s past) in
+    let y = dropped (is_on Sabm d) (owed s past) in
+    fewer_step d (wire past) (wire past) (seen_by stamps line) (ending_owed s d past) (ending_owed s d (Heard u e l ∷ past)) (sabms_owed s d past) (sabms_owed s d (Heard u e l ∷ past)) (uas_sent d line) (uas_got d past)
+    (follows s n1 d stamps line (once_line_before s n1 (AtDriver (Heard u e l)) line h)) (λ k. k) (λ k. k) (λ k. omega (arith, k, x)) (λ k. omega (arith, y))
+follows s n1 d stamps (AtDriver Given ∷ line) h =
+    let past = driver_past line in
+    fewer_step d (wire past) (wire (Given ∷ past)) (seen_by stamps line) (ending_owed s d past) (ending_owed s d (Given ∷ past)) (sabms_owed s d past) (sabms_owed s d (Given ∷ past)) (uas_sent d line) (uas_got d past)
+    (follows s n1 d stamps line (once_line_before s n1 (AtDriver Given) line h))
+    (λ k. (and_parts (open_at d (wire past)) (not (ends (zero_at d (wire past)) d station.Given)) k).0) (λ k. (and_parts (asked_at d (wire past)) (not (ends (zero_at d (wire past)) d station.Given)) k).0)
+    (λ k. k) (λ k. omega arith)
+follows s n1 d stamps (AtDriver Lost ∷ line) h =
+    let past = driver_past line in
+    let parts = sends_both (is_ending d) (unsent (owed s past)) (calls_behind s past (owed s past) Lost) in
+    let none = unsent_none (is_ending d) (owed s past) in
+    let none_called = called (is_ending d) 0 s (seen_behind s past (owed s past)) Lost (omega arith) in
+    fewer_step d (wire past) (wire (Lost ∷ past)) (seen_by stamps line) (ending_owed s d past) (ending_owed s d (Lost ∷ past)) (sabms_owed s d past) (sabms_owed s d (Lost ∷ past)) (uas_sent d line) (uas_got d past)
+    (follows s n1 d stamps line (once_line_before s n1 (AtDriver Lost) line h))
+    (λ k. (and_parts (open_at d (wire past)) (not (ends (zero_at d (wire past)) d station.Lost)) k).0) (λ k. (and_parts (asked_at d (wire past)) (not (ends (zero_at d (wire past)) d station.Lost)) k).0)
+    (λ k. absurd (omega (arith, k, parts, none, none_called))) (λ k. absurd (omega (arith, k, parts, none, none_called)))
+follows s n1 d stamps (AtModem (station.Sent f) ∷ line) h =
+    passed_step d (wire (driver_past line)) (seen_by stamps line) (ending_owed s d (driver_past line)) (sabms_owed s d (driver_past line)) (uas_sent d line) (uas_got d (driver_past line)) f
+    (follows s n1 d stamps line (once_line_before s n1 (AtModem (station.Sent f)) line h))
+    (or_parts (brings_command cld f) (list_any (brings_command cld) (frames_sent (modem_past line))) h.stays).0
+follows s n1 d stamps (AtModem (station.Called c) ∷ line) h = follows s n1 d stamps line (once_line_before s n1 (AtModem (station.Called c)) line h)
+follows s n1 d stamps (AtModem (station.Got f) ∷ line) h = follows s n1 d stamps line (once_line_before s n1 (AtModem (station.Got f)) line h)
+follows s n1 d stamps (AtModem station.Tick ∷ line) h = follows s n1 d stamps line (once_line_before s n1 (AtModem station.Tick) line h)
+follows s n1 d stamps (AtModem station.Lost ∷ line) h = follows s n1 d stamps line (once_line_before s n1 (AtModem station.Lost) line h)
+follows s n1 d stamps (AtModem station.Given ∷ line) h = follows s n1 d stamps line (once_line_before s n1 (AtModem station.Given) line h)

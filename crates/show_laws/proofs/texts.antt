@@ -1,0 +1,3 @@
+-- Data of a lawful line is text.
+pub mod TextsSent
+pub mod NoneAstray

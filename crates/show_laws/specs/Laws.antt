@@ -1,0 +1,65 @@
+-- What is never wrong with a frame of a lawful line.
+use Rattle.std.specs.Prelude.{◌≡◌, ℕ, ◌≤◌, nat_le, Bool, true, false, List, [], ◌∷◌, length}
+use Rattle.std.specs.List.{list_all, list_any}
+use Rattle.mux_capture.specs.declared.packet.Direction.TheVariants.{ToModem}
+use Rattle.mux_capture.specs.declared.packet.Stamp.{Stamp}
+use Rattle.mux_station.specs.Acts as station
+use Rattle.mux_station.specs.Messages.{cld, brings_command}
+use Rattle.modem_desk.specs.declared.request.Ask.{Ask}
+use Rattle.modem_desk.specs.declared.request.Ask.TheVariants.{Probe}
+use Rattle.modem_history.specs.Acts as driver
+use Rattle.modem_history.specs.Acts.{wire}
+use Rattle.modem_history.specs.Calls.{Setting}
+use Rattle.modem_history.specs.TwoEnds.{AsksOnce, TakesCommandLines, frames_sent}
+use Rattle.modem_history.specs.Wholes.{taken_requests}
+use Rattle.modem_show.specs.declared.rule.Rule.TheVariants.{Unasked, Unopened, TooLong, Astray}
+use Rattle.modem_show.specs.Judging.{is_text}
+use Rattle.show_laws.specs.Lines.{IsLawfulLine, LineAct, NoneBreaks, NoneBreaksIn, captured, driver_past, modem_past}
+
+-- each answer answers something that waits for it, whatever N1 the line is judged by
+unfoldable pub AnswersAsks : Setting → ℕ → List LineAct → Type 0
+AnswersAsks s n1 line =
+    IsLawfulLine s n1 line → (stamps : ℕ → Stamp) (most : ℕ) → NoneBreaks Unasked most (captured stamps line)
+
+-- ## Information
+
+-- each probe that was taken has at most 16 octets
+abbrev pub is_short_ask : Ask → Bool
+is_short_ask (Probe octets) = nat_le (length octets) 16
+is_short_ask _ = true
+
+abbrev pub TakesShortProbes : List driver.Act → Type 0
+TakesShortProbes past = list_all (λ q. is_short_ask q.ask) (taken_requests past) ≡ true
+
+-- no frame has more information than this, where neither end has a greater N1, and a probe fits
+unfoldable pub FitsN1 : Setting → ℕ → List LineAct → Type 0
+FitsN1 s n1 line =
+    IsLawfulLine s n1 line → TakesShortProbes (driver_past line)
+    → (stamps : ℕ → Stamp) (most : ℕ) → 18 ≤ most → s.n1 ≤ most → n1 ≤ most → NoneBreaks TooLong most (captured stamps line)
+
+-- ## Text
+
+-- the octets of each offer are those of lines
+abbrev pub OffersText : List station.Act → Type 0
+OffersText [] = Unit {0}
+OffersText (station.Called (station.Offer d octets) ∷ past) = (is_text octets ≡ true) × OffersText past
+OffersText (_ ∷ past) = OffersText past
+
+-- no data is a control message, where the driver is given command lines and the modem's user offers lines
+unfoldable pub CarriesText : Setting → ℕ → List LineAct → Type 0
+CarriesText s n1 line =
+    IsLawfulLine s n1 line → TakesCommandLines (driver_past line) → OffersText (modem_past line)
+    → (stamps : ℕ → Stamp) (most : ℕ) → NoneBreaks Astray most (captured stamps line)
+
+-- ## Openings
+
+-- no CLD was sent
+abbrev pub NeverClosesDown : List station.Act → Type 0
+NeverClosesDown past = list_any (brings_command cld) (frames_sent past) ≡ false
+
+-- The driver sends no data on a connection that isn't open, where it asks for each connection once at most, and the modem sends no
+-- CLD.
+unfoldable pub SendsWhileOpen : Setting → ℕ → List LineAct → Type 0
+SendsWhileOpen s n1 line =
+    IsLawfulLine s n1 line → AsksOnce (wire (driver_past line)) → NeverClosesDown (modem_past line)
+    → (stamps : ℕ → Stamp) (most : ℕ) → NoneBreaksIn ToModem Unopened most (captured stamps line)

@@ -1,0 +1,33 @@
+//! Laws of what is judged of a lawful line, as contracts of functions that do nothing.
+ghost use Rattle.std.specs.Prelude.{ℕ, List};
+ghost use Rattle.modem_history.specs.Calls.{Setting};
+ghost use Rattle.show_laws.specs.Lines.{LineAct};
+ghost use Rattle.show_laws.specs.Laws.{AnswersAsks, CarriesText, FitsN1, SendsWhileOpen};
+
+/// No frame between a driver that keeps its laws and a modem that keeps the responder's tables is judged an answer that nothing waits
+/// for.
+#[tactic(auto, using(crate::proofs::asks::NoneUnasked::answers_asks))]
+pub fn answers()
+    ensures { (s : Setting) (n1 : ℕ) (line : List LineAct) → AnswersAsks s n1 line }
+{}
+
+/// No frame of such a line is judged to have more information than N1 allows, where neither end has a greater N1 and no probe has more
+/// than 16 octets.
+#[tactic(auto, using(crate::proofs::sizes::NoneTooLong::fits_n1))]
+pub fn sizes()
+    ensures { (s : Setting) (n1 : ℕ) (line : List LineAct) → FitsN1 s n1 line }
+{}
+
+/// No data of such a line is judged a control message, where the driver is given command lines, and the modem's user offers printable
+/// octets, CR and LF alone.
+#[tactic(auto, using(crate::proofs::texts::NoneAstray::carries_text))]
+pub fn texts()
+    ensures { (s : Setting) (n1 : ℕ) (line : List LineAct) → CarriesText s n1 line }
+{}
+
+/// No data of the driver is judged to be on a connection that isn't open, where the driver asks for each connection once at most and the
+/// modem sends no CLD.
+#[tactic(auto, using(crate::proofs::openings::NoneUnopened::sends_while_open))]
+pub fn openings()
+    ensures { (s : Setting) (n1 : ℕ) (line : List LineAct) → SendsWhileOpen s n1 line }
+{}
