@@ -11,10 +11,9 @@ use Rattle.at_cmds.specs.declared.command.Pdp.{Pdp}
 use Rattle.at_cmds.specs.declared.command.OperChoice.{OperChoice}
 use Rattle.at_cmds.specs.declared.command.OperChoice.TheVariants.{Automatic, Deregister, Manual}
 use Rattle.at_cmds.specs.Cme.{cme_text}
-use Rattle.at_cmds.specs.Commands.{pdp_text}
-use Rattle.at_cmds.specs.Forms.{in_quotes}
 use Rattle.modem_sim.specs.declared.contexts.PdpContext.{PdpContext}
 use Rattle.modem_sim.specs.declared.modem.ModemStart.{ModemStart}
+use Rattle.modem_sim.specs.declared.own_answers.OwnLine.{OwnLine}
 use Rattle.modem_sim.specs.declared.state.Lock.{Lock}
 use Rattle.modem_sim.specs.declared.state.Lock.TheVariants.{Ready, NeedPin, NeedPuk}
 use Rattle.modem_sim.specs.declared.state.ModemState.{ModemState}
@@ -28,6 +27,7 @@ use Rattle.modem_sim.specs.declared.words.Word.TheVariants.{Reset, Echo, Identit
 use Rattle.modem_sim.specs.CommandLines.{commands_in}
 use Rattle.modem_sim.specs.Contexts.{active_after, is_defined, names, with_context}
 use Rattle.modem_sim.specs.SettingTexts.{activity_text, address_text, charset_text, context_forms, form_texts, lock_text, named_oper_text, numbers_text}
+use Rattle.modem_sim.specs.OwnAnswers.{own_lines, said_later, said_now}
 use Rattle.modem_sim.specs.Reading.{is_attention, command_of}
 use Rattle.modem_sim.specs.StateTexts.{attached_text, cell_text, context_text, oper_text, pin_text, reg_text, signal_text, whole_context_text}
 use Rattle.modem_sim.specs.Words.{word_of}
@@ -50,6 +50,8 @@ started start = record {
   ber = start.ber;
   active = [];
   words = None;
+  own = [];
+  late = [];
 }
 
 -- what a modem with words starts with: the functions are all on, reports off, the operator is told by its number, in IRA; a PUK
@@ -465,11 +467,28 @@ abbrev pub worded_step : ModemState → List ℕ → Step
 worded_step s line =
     if is_too_long line then refused_by s (line_commands line) else worded_by s (line_commands line)
 
+-- what a modem with words says of its own, now and later, to a line that isn't too long
+abbrev pub own_answer : ModemState → List ℕ → Option (List OwnLine)
+own_answer s line = if is_too_long line then None else own_lines s.own line
+
+-- an answer of its own is all that is said, and nothing is done; behind it come the lines of earlier ones that waited for this line
+abbrev pub own_said : List OwnLine → ModemState → Step
+own_said lines s = record { state = record s { late = said_later (s.late ++ lines) }; answer = said_now lines ++ said_now s.late }
+
+-- lines that waited for this one come behind its answer
+abbrev pub with_late : List OwnLine → Step → Step
+with_late late t = record { state = record t.state { late = said_later late }; answer = t.answer ++ said_now late }
+
+-- where it has no answer of its own, the tables are looked into
+abbrev pub own_step : Option (List OwnLine) → ModemState → List ℕ → Step
+own_step (Some lines) s line = own_said lines s
+own_step None s line = with_late s.late (worded_step s line)
+
 -- ## Both
 
 abbrev pub step_as : Option Words → ModemState → List ℕ → Step
 step_as None s line = standard_step s line
-step_as (Some w) s line = worded_step s line
+step_as (Some w) s line = own_step (own_answer s line) s line
 
 -- what a line does
 abbrev pub step : ModemState → List ℕ → Step

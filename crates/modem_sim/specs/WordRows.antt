@@ -1,9 +1,11 @@
 -- Worked examples of a modem with words, by hand from V.250 and 27.007.
-use Rattle.std.specs.Prelude.{◌≡◌, ℕ, true, false, List, [], ◌∷◌, ◌++◌, Some, None, codes}
+use Rattle.std.specs.Prelude.{◌≡◌, ℕ, true, false, List, [], ◌∷◌, ◌++◌, map, Some, None, codes}
 use Rattle.modem_sim.specs.CommandLines.{commands_in}
 use Rattle.modem_sim.specs.Pieces.{framed, pieces_octets, replies}
+use Rattle.modem_sim.specs.declared.own_answers.OwnAnswer.{OwnAnswer}
+use Rattle.modem_sim.specs.declared.own_answers.OwnLine.{OwnLine}
 use Rattle.modem_sim.specs.Rows.{answers_to, locked, ok, unlocked}
-use Rattle.modem_sim.specs.Steps.{started_with_words}
+use Rattle.modem_sim.specs.Steps.{line_of, started_with_words}
 
 -- a line of three commands, with a blank between them and octets before AT; digits belong to the command of one sign before them
 abbrev pub DividedLine : Type 0
@@ -218,3 +220,56 @@ abbrev pub EchoOff : Type 0
 EchoOff =
     pieces_octets (replies false (started_with_words unlocked true) (codes "ATE0" ∷ codes "AT" ∷ []))
     ≡ codes "ATE0" ++ 0xd ∷ framed (codes "OK") ++ framed (codes "OK")
+
+-- answers of one's own: a line said so many command lines later; to a line and to lines that begin so
+abbrev pub later_line : ℕ → List ℕ → OwnLine
+later_line n text = record { after = n; line = line_of text }
+
+abbrev pub to_line : (command : List ℕ) (lines : List (List ℕ)) → OwnAnswer
+to_line command lines = record { command = command; is_prefix = false; lines = map (later_line 0) lines }
+
+abbrev pub to_beginning : (command : List ℕ) (lines : List (List ℕ)) → OwnAnswer
+to_beginning command lines = record (to_line command lines) { is_prefix = true }
+
+-- The first that takes a line counts, in either case of letters; one without lines is silence, and one can have lines behind its code.
+-- They come before the tables, which are looked into for other lines; nothing is done of what they take.
+abbrev pub OwnAnswered : Type 0
+OwnAnswered =
+    answers_to
+    (record (started_with_words unlocked false) {
+      own =
+          to_line (codes "AT+QGPS?") (codes "+QGPS: 0" ∷ codes "OK" ∷ []) ∷ to_line (codes "AT+MUTE") []
+          ∷ to_line (codes "AT+CMEE=2") (codes "OK" ∷ codes "+QIND: 1" ∷ []) ∷ to_beginning (codes "AT+Q") (codes "NO CARRIER" ∷ []) ∷ [];
+    })
+    (codes "AT+QGPS?" ∷ codes "at+qgps?" ∷ codes "AT+QGPS?;+CSQ" ∷ codes "AT+MUTE" ∷ codes "AT+MUTED" ∷ codes "AT+CMEE=2"
+    ∷ codes "AT+CMEE?" ∷ codes "AT+Q" ∷ codes "AT+CSQ" ∷ [])
+    ≡ (codes "+QGPS: 0" ∷ ok)
+    ∷ (codes "+QGPS: 0" ∷ ok)
+    ∷ (codes "NO CARRIER" ∷ [])
+    ∷ []
+    ∷ (codes "ERROR" ∷ [])
+    ∷ (codes "OK" ∷ codes "+QIND: 1" ∷ [])
+    ∷ (codes "+CMEE: 0" ∷ ok)
+    ∷ (codes "NO CARRIER" ∷ [])
+    ∷ (codes "+CSQ: 18,99" ∷ ok)
+    ∷ []
+
+-- Lines come later, behind the answer to the last command line that they wait for, wherever that is looked up; those of an earlier
+-- answer come first.
+abbrev pub OwnLater : Type 0
+OwnLater =
+    answers_to
+    (record (started_with_words unlocked false) {
+      own =
+          record (to_line (codes "AT+QGPS=1") []) {
+            lines = later_line 0 (codes "OK") ∷ later_line 2 (codes "+QGPSURC: 1") ∷ later_line 1 (codes "+QIND: 1") ∷ [];
+          }
+          ∷ [];
+    })
+    (codes "AT+QGPS=1" ∷ codes "AT+QGPS=1" ∷ codes "AT+CSQ" ∷ codes "AT" ∷ codes "AT" ∷ [])
+    ≡ ok
+    ∷ (codes "OK" ∷ codes "+QIND: 1" ∷ [])
+    ∷ (codes "+CSQ: 18,99" ∷ codes "OK" ∷ codes "+QGPSURC: 1" ∷ codes "+QIND: 1" ∷ [])
+    ∷ (codes "OK" ∷ codes "+QGPSURC: 1" ∷ [])
+    ∷ ok
+    ∷ []

@@ -28,8 +28,8 @@ fn has_line_end(text: &[u8]) -> bool
     false
 }
 
-/// Whether this can be a line.
-fn is_line(text: &[u8]) -> bool
+/// Whether this can be a line: it has 1 to 512 octets, and no CR or LF.
+pub fn is_line(text: &[u8]) -> bool
     ensures { result ≡ is_line text.now }
 {
     !text.is_empty() && text.len() <= LONGEST && !has_line_end(text)

@@ -9,7 +9,7 @@ ghost use Rattle.modem_sim.specs.SettingLaws.{KeepsAttached, KeepsContext, Keeps
 ghost use Rattle.modem_sim.specs.PinLaws.{FollowsNetworkAlways, IsReadyAlways, KeepsPin};
 ghost use Rattle.modem_sim.specs.Rows.{PinEntered, ThreeWrongPins, ErrorInWords, NetworkLeft};
 ghost use Rattle.modem_sim.specs.WordLaws.{AnswersAsStandard};
-ghost use Rattle.modem_sim.specs.WordRows.{BareLines, ChangeAnnounced, ClientAsks, ClientBegins, ContextsActivated, ContextsRefused, DividedLine, EchoOff, OperatorNamed, PinAnnounced, PinLocks, PukEntered, QuotedLine, RadioOff, TenWrongPuks, ValuesAsked};
+ghost use Rattle.modem_sim.specs.WordRows.{BareLines, ChangeAnnounced, ClientAsks, ClientBegins, ContextsActivated, ContextsRefused, DividedLine, EchoOff, OperatorNamed, OwnAnswered, OwnLater, PinAnnounced, PinLocks, PukEntered, QuotedLine, RadioOff, TenWrongPuks, ValuesAsked};
 ghost use Rattle.modem_sim.specs.Acts.{Act, End};
 ghost use Rattle.modem_sim.specs.Histories.{SimLawful, LeavesInPieces, SaysReplies, DoesInOrder};
 ghost use Rattle.modem_sim.specs.Replied.{AnswersInLines, SendsReplies};
@@ -67,7 +67,8 @@ pub fn worked_examples()
 {}
 
 /// To a command of the first table, but `AT+CGDCONT?`, a modem with words answers as one without them, while it tells the operator by
-/// its number and all its functions are on. Behind the answer it announces a change of registration.
+/// its number and all its functions are on, has no answer of its own, and no line of an earlier one waits. Behind the answer it
+/// announces a change of registration.
 #[tactic(auto, using(crate::proofs::law_proofs::WordedModems::answers_as_standard))]
 pub fn words()
     ensures { AnswersAsStandard }
@@ -88,8 +89,8 @@ pub fn worked_words()
 {}
 
 /// Worked examples of a modem with words: packet contexts that become active and inactive, PUKs, what clients ask, the radio switched
-/// off, and the values that commands take.
-#[tactic(auto, using(crate::proofs::rows::WordRowFacts::contexts_activated, crate::proofs::rows::WordRowFacts::contexts_refused, crate::proofs::rows::WordRowFacts::puk_entered, crate::proofs::rows::WordRowFacts::ten_wrong_puks, crate::proofs::rows::WordRowFacts::client_asks, crate::proofs::rows::WordRowFacts::pin_locks, crate::proofs::rows::WordRowFacts::radio_off, crate::proofs::rows::WordRowFacts::values_asked))]
+/// off, the values that commands take, and answers of one's own.
+#[tactic(auto, using(crate::proofs::rows::WordRowFacts::contexts_activated, crate::proofs::rows::WordRowFacts::contexts_refused, crate::proofs::rows::WordRowFacts::puk_entered, crate::proofs::rows::WordRowFacts::ten_wrong_puks, crate::proofs::rows::WordRowFacts::client_asks, crate::proofs::rows::WordRowFacts::pin_locks, crate::proofs::rows::WordRowFacts::radio_off, crate::proofs::rows::WordRowFacts::values_asked, crate::proofs::rows::WordRowFacts::own_answered, crate::proofs::rows::WordRowFacts::own_later))]
 pub fn worked_settings()
     ensures activated { ContextsActivated }
     ensures refused { ContextsRefused }
@@ -99,6 +100,8 @@ pub fn worked_settings()
     ensures locks { PinLocks }
     ensures radio { RadioOff }
     ensures values { ValuesAsked }
+    ensures own { OwnAnswered }
+    ensures later { OwnLater }
 {}
 
 /// The octets that left a simulated modem on a connection since it opened are the beginning of what is said there, piece

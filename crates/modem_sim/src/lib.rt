@@ -5,7 +5,7 @@
 //! # Layout
 //!
 //! - `modem`, `state`, `contexts`, `answers`: the standard's commands. `wording`, `words`, `command_lines`, `activity`, `values`: the second
-//!   table.
+//!   table. `own_answers`: answers of one's own, before both.
 //! - `sim`, `polling`, `error`: a modem at its line. `sim_machine`, `going`: its turns. `sim_core`, `channel`, `replying`, `handing`: its end
 //!   without the line. `script`, `doing`: what it does of its own accord.
 //! - `laws`.
@@ -22,6 +22,7 @@ mod going;
 mod handing;
 pub mod laws;
 mod modem;
+mod own_answers;
 mod polling;
 mod replying;
 mod script;
@@ -34,8 +35,10 @@ mod wording;
 mod words;
 
 pub use command_lines::commands_in;
+pub use doing::is_line;
 pub use error::SimError;
 pub use modem::{Modem, ModemStart};
+pub use own_answers::{OwnAnswer, OwnAnswers, OwnLine, OwnLines};
 pub use replying::reply;
 pub use script::{Script, Step, StepAct, Steps};
 pub use sim::{Sim, SimRefused, SimTurn};

@@ -1,11 +1,13 @@
 //! The modem.
 ghost use Rattle.std.specs.Prelude.{◌≡◌, IfOk, OnOk, OnErr, IsErrOf};
+ghost use Rattle.modem_sim.specs.Steps.{with_late, worded_step};
 
 use crate::answers::{answer_of, error_answer, told};
 use crate::contexts::{ActiveContexts, PdpContexts};
 use crate::error::SimError;
+use crate::own_answers::{OwnAnswers, OwnLines};
 use crate::state::{Lock, ModemState, PUK_TRIES, Words};
-use crate::wording::worded;
+use crate::wording::{TOO_LONG, worded};
 use crate::words::Charset;
 use at_cmds::{Command, OperChoice, Pin};
 use at_text::AnswerLine;
@@ -41,6 +43,23 @@ impl Default for ModemStart {
     }
 }
 
+/// What a line does to a modem with words by its tables: its state afterwards, and the answer, behind which come the lines of its own
+/// that waited for the line.
+fn looked_up(
+    alloc: Global,
+    before: &ModemState,
+    line: &[u8],
+) -> Result<(ModemState, Vec<AnswerLine>), SimError>
+    ensures state { IfOk result (λ r. r.0 ≡ (with_late before.now.late (worded_step before.now line.now)).state) }
+    ensures answer { IfOk result (λ r. r.1.items ≡ (with_late before.now.late (worded_step before.now line.now)).answer) }
+    ensures no_memory { OnErr result (IsErrOf result SimError.NoMemory) }
+{
+    let (state, mut answer) = worded(alloc, before, line)?;
+    before.late.push_now(&mut answer)?;
+    let late = before.late.later()?;
+    Ok((ModemState { late, ..state }, answer))
+}
+
 /// A modem, which contracts see as its state.
 #[derive(Drop)]
 pub struct Modem {
@@ -57,7 +76,7 @@ impl Model for Modem {
 }
 
 impl Modem {
-    ghost use Rattle.modem_sim.specs.Steps.{echoes, obeyed, standard_step, started, started_with_words, step};
+    ghost use Rattle.modem_sim.specs.Steps.{echoes, obeyed, own_answer, own_step, own_said, standard_step, started, started_with_words, step};
 
     /// A modem that was just started. It takes no memory.
     pub fn new(alloc: Global, start: ModemStart) -> Modem
@@ -79,6 +98,8 @@ impl Modem {
             ber,
             active: ActiveContexts::new(alloc),
             words: None,
+            own: OwnAnswers::new(alloc),
+            late: OwnLines::new(alloc),
         };
         Modem { alloc, state }
     }
@@ -106,6 +127,16 @@ impl Modem {
         modem
     }
 
+    /// From now on it gives these answers of its own, where it is a modem with words: of those that take a command line the first
+    /// is all that is said to it, and nothing is done. It looks into its tables for the lines that none takes. A line of 512 octets or
+    /// more is refused all the same. Lines of an answer that wait for more command lines are said behind the answer to the last of
+    /// these, on its connection.
+    pub fn answer_by(&mut self, own: OwnAnswers)
+        ensures { self.new ≡ record self.old { own = own } }
+    {
+        self.state.own = own;
+    }
+
     /// Whether it repeats commands (V.250, 6.2.4): with `always`, or where a modem with words was told to.
     pub fn echoes(&self, always: bool) -> bool
         ensures { result ≡ echoes always self.now }
@@ -131,9 +162,10 @@ impl Modem {
     }
 
     /// Carries out a command line, given without its CR, and answers it in lines, the last a final code. Behind that a
-    /// modem with words announces a change of registration. It gives no lines for a line without `AT`. Refused with 1
-    /// NoMemory, which leaves the modem as it was.
-    #[tactic(auto, using(crate::proofs::modem_steps::StandardModems::step_standard, crate::proofs::modem_steps::StandardModems::step_worded))]
+    /// modem with words announces a change of registration. It gives no lines for a line without `AT`. Where an answer of its own takes
+    /// the line, it says that and does nothing. Behind all this come the lines of earlier answers that waited for this line.
+    /// Refused with 1 NoMemory, which leaves the modem as it was.
+    #[tactic(auto, using(crate::proofs::modem_steps::StandardModems::step_standard, crate::proofs::modem_steps::StandardModems::step_with_words))]
     pub fn execute(&mut self, line: &[u8]) -> Result<Vec<AnswerLine>, SimError>
         ensures answer { IfOk result (λ answer. answer.items ≡ (step self.old line.now).answer) }
         ensures state { OnOk result (self.new ≡ (step self.old line.now).state) }
@@ -141,13 +173,49 @@ impl Modem {
         ensures no_memory { OnErr result (IsErrOf result SimError.NoMemory) }
     {
         match self.state.words {
-            Some(_) => {
-                let (state, answer) = worded(self.alloc, &self.state, line)?;
-                self.state = state;
-                Ok(answer)
-            }
+            Some(_) => self.execute_worded(line),
             None => self.execute_standard(line),
         }
+    }
+
+    /// What it says of its own to a line, if that isn't too long.
+    fn own_answer(&self, line: &[u8]) -> Result<Option<OwnLines>, AllocError>
+        ensures { IfOk result (λ found. found ≡ own_answer self.now line.now) }
+    {
+        if line.len() >= TOO_LONG {
+            return Ok(None);
+        }
+        self.state.own.lines_for(line)
+    }
+
+    /// Says these lines of its own, and what is said of the lines that wait.
+    fn say_own(&mut self, lines: OwnLines) -> Result<Vec<AnswerLine>, AllocError>
+        ensures answer { IfOk result (λ answer. answer.items ≡ (own_said lines self.old).answer) }
+        ensures state { OnOk result (self.new ≡ (own_said lines self.old).state) }
+        ensures err { OnErr result (self.new ≡ self.old) }
+    {
+        let mut answer = Vec::new(self.alloc);
+        lines.push_now(&mut answer)?;
+        self.state.late.push_now(&mut answer)?;
+        let all = self.state.late.joined(&lines)?;
+        self.state.late = all.later()?;
+        Ok(answer)
+    }
+
+    /// The same for a modem with words.
+    #[tactic(auto, using(crate::proofs::modem_steps::StandardModems::own_step_some, crate::proofs::modem_steps::StandardModems::own_step_none))]
+    fn execute_worded(&mut self, line: &[u8]) -> Result<Vec<AnswerLine>, SimError>
+        ensures answer { IfOk result (λ answer. answer.items ≡ (own_step (own_answer self.old line.now) self.old line.now).answer) }
+        ensures state { OnOk result (self.new ≡ (own_step (own_answer self.old line.now) self.old line.now).state) }
+        ensures err { OnErr result (self.new ≡ self.old) }
+        ensures no_memory { OnErr result (IsErrOf result SimError.NoMemory) }
+    {
+        if let Some(lines) = self.own_answer(line)? {
+            return Ok(self.say_own(lines)?);
+        }
+        let (state, answer) = looked_up(self.alloc, &self.state, line)?;
+        self.state = state;
+        Ok(answer)
     }
 
     /// The same for a modem without words.

@@ -2,6 +2,7 @@
 ghost use Rattle.std.specs.Prelude.{◌≡◌, true, IfOk, OnOk, OnErr};
 
 use crate::contexts::{ActiveContexts, PdpContext, PdpContexts};
+use crate::own_answers::{OwnAnswers, OwnLines};
 use crate::words::{Charset, Domain, Form, Word};
 use at_cmds::{Command, OperChoice, Pin};
 use std::alloc::AllocError;
@@ -73,6 +74,10 @@ pub(crate) struct ModemState {
     pub(crate) active: ActiveContexts,
     /// What the second table needs, where there is one.
     pub(crate) words: Option<Words>,
+    /// What a modem with words answers before it looks into its tables.
+    pub(crate) own: OwnAnswers,
+    /// What it has still to say of such answers: those without more lines to come at the next line.
+    pub(crate) late: OwnLines,
 }
 
 impl Lock {
@@ -160,6 +165,8 @@ impl ModemState {
             ber: self.ber,
             active: self.active.copy()?,
             words: self.words,
+            own: self.own.copy()?,
+            late: self.late.copy()?,
         })
     }
 

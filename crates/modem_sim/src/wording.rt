@@ -456,7 +456,7 @@ fn push_announced(
 }
 
 /// So many octets are kept of a line; one that is as long is taken for longer.
-const TOO_LONG: usize = 512;
+pub(crate) const TOO_LONG: usize = 512;
 
 /// What a line does to a modem with words: its state afterwards, and the answer.
 pub(crate) fn worded(

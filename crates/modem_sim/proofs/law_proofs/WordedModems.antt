@@ -1,16 +1,17 @@
 -- A modem with words does with the commands of the first table what one without them does.
 use Rattle.std.specs.Prelude.{◌≡◌, ◌≢◌, ℕ, ◌==◌, Bool, true, false, List, [], ◌∷◌, ◌++◌, map, Option, Some, None, is_some, if◌then◌else◌, refl, codes}
 use Rattle.std.specs.Fmt.{digits}
-use Rattle.std.proofs.Common.{ap, sym, ◌∙◌, append_assoc}
+use Rattle.std.proofs.Common.{ap, sym, ◌∙◌, append_assoc, append-nil}
 use Rattle.at_text.specs.declared.answer.AnswerLine.{AnswerLine}
 use Rattle.at_cmds.specs.declared.command.Command.{Command}
 use Rattle.at_cmds.specs.declared.command.Command.TheVariants.{PinQuery, PinEnter, RegReport, RegQuery, Signal, OperQuery, OperChoose, ContextSet, ContextQuery, AttachSet, AttachQuery, ErrorMode, Multiplex}
 use Rattle.at_cmds.specs.declared.command.OperChoice.{OperChoice}
 use Rattle.at_cmds.specs.declared.command.OperChoice.TheVariants.{Automatic, Deregister, Manual}
+use Rattle.modem_sim.specs.declared.own_answers.OwnLine.{OwnLine}
 use Rattle.modem_sim.specs.declared.state.ModemState.{ModemState}
 use Rattle.modem_sim.specs.declared.state.Words.{Words}
 use Rattle.modem_sim.specs.Reading.{is_attention, command_of}
-use Rattle.modem_sim.specs.Steps.{after_command, after_refusal, announced, divided_by, is_too_long, line_commands, line_of, nothing_ran, obeyed, obeyed_unless, ran_command, ran_text, lock_error, radio_error, refusal_as, refusal_of, refused_by, settled, standard_step, step, Step, told_as, told_texts, worded_answer, worded_by, worded_step}
+use Rattle.modem_sim.specs.Steps.{after_command, after_refusal, announced, divided_by, is_too_long, line_commands, line_of, nothing_ran, own_answer, obeyed, obeyed_unless, ran_command, ran_text, lock_error, radio_error, refusal_as, refusal_of, refused_by, settled, standard_step, step, Step, told_as, told_texts, with_late, worded_answer, worded_by, worded_step}
 use Rattle.modem_sim.specs.StateTexts.{oper_text}
 use Rattle.modem_sim.specs.SettingTexts.{named_oper_text}
 use Rattle.modem_sim.specs.WordLaws.{AnswersAsStandard, IsAsStandard, bare}
@@ -137,15 +138,64 @@ same_at None w s c some is other =
     }
 same_at (Some number) w s c some is other = record { answer = refl; state = same_refused s c }
 
+-- a command leaves the lines that wait
+carried_late : (s : ModemState) (c : Command) → (after_command s c).late ≡ s.late
+carried_late s PinQuery = refl
+carried_late s (PinEnter pin) = refl
+carried_late s (RegReport n) = refl
+carried_late s RegQuery = refl
+carried_late s Signal = refl
+carried_late s OperQuery = refl
+carried_late s (OperChoose Automatic) = refl
+carried_late s (OperChoose Deregister) = refl
+carried_late s (OperChoose (Manual oper)) = refl
+carried_late s (ContextSet cid pdp apn) = refl
+carried_late s ContextQuery = refl
+carried_late s (AttachSet on) = refl
+carried_late s AttachQuery = refl
+carried_late s (ErrorMode n) = refl
+carried_late s Multiplex = refl
+
+refused_late : (s : ModemState) (c : Command) → (after_refusal s c).late ≡ s.late
+refused_late s PinQuery = refl
+refused_late s (PinEnter pin) = refl
+refused_late s (RegReport n) = refl
+refused_late s RegQuery = refl
+refused_late s Signal = refl
+refused_late s OperQuery = refl
+refused_late s (OperChoose choice) = refl
+refused_late s (ContextSet cid pdp apn) = refl
+refused_late s ContextQuery = refl
+refused_late s (AttachSet on) = refl
+refused_late s AttachQuery = refl
+refused_late s (ErrorMode n) = refl
+refused_late s Multiplex = refl
+
+settled_late : (attached : Bool) (s : ModemState) → (if attached then s else record s { active = [] }).late ≡ s.late
+settled_late true s = refl
+settled_late false s = refl
+
+worded_late : (o : Option ℕ) (s : ModemState) (c : Command) → (worded_of o s c).state.late ≡ s.late
+worded_late None s c = settled_late (after_command s c).attached (after_command s c) ∙ carried_late s c
+worded_late (Some number) s c = refused_late s c
+
+-- where no line waits, none comes behind an answer
+none_late : (t : Step) (late : List OwnLine) → late ≡ [] → t.state.late ≡ late → with_late late t ≡ t
+none_late t late none kept =
+    let state_is : record t.state { late = [] } ≡ t.state = ap (λ l. record t.state { late = l }) (sym (kept ∙ none)) in
+    let answer_is : t.answer ++ [] ≡ t.answer = append-nil t.answer in
+    ap (λ l. with_late l t) none ∙ (λ i. record { state = state_is i; answer = answer_is i })
+
 -- a line that is a command
-pub one_command : (s : ModemState) (w : Words) (line : List ℕ) (c : Command) → s.words ≡ Some w → is_too_long line ≡ false → command_of line ≡ Some c → step s line ≡ worded_of (refusal_as s.words s c) s c
+pub one_command : (s : ModemState) (w : Words) (line : List ℕ) (c : Command) → s.words ≡ Some w → is_too_long line ≡ false → own_answer s line ≡ None → s.late ≡ [] → command_of line ≡ Some c → step s line ≡ worded_of (refusal_as s.words s c) s c
 unfolding line_commands
-one_command s w line c some short read =
+one_command s w line c some short own none read =
     let by : Option Command → Step = λ o. record { state = (ran_text o (nothing_ran s) line).state; answer = worded_answer s (ran_text o (nothing_ran s) line) } in
     let kept : worded_step s line ≡ worded_by s (line_commands line) = ap (λ (b : Bool). if b then refused_by s (line_commands line) else worded_by s (line_commands line)) short in
     let divided : worded_step s line ≡ worded_by s (Some (line ∷ [])) = kept ∙ ap (λ o. worded_by s (divided_by o line)) read in
     let done : worded_by s (Some (line ∷ [])) ≡ worded_of (refusal_as s.words s c) s c = ap by read in
-    step_worded s line w some ∙ divided ∙ done
+    step_worded s line w some own ∙ ap (with_late s.late) (divided ∙ done)
+    ∙ none_late (worded_of (refusal_as s.words s c) s c) s.late none (worded_late (refusal_as s.words s c) s c)
 
 bare_command : (s : ModemState) (line : List ℕ) (c : Command) → command_of line ≡ Some c → step (bare s) line ≡ obeyed_unless (refusal_of s c) (bare s) c
 bare_command s line c read =
@@ -154,11 +204,11 @@ bare_command s line c read =
     let done : standard_step (bare s) line ≡ obeyed (bare s) c = rw (behind, read) refl in
     step_standard (bare s) line refl ∙ done ∙ ap (λ o. obeyed_unless o (bare s) c) (same_refusal s c)
 
-by_command : (s : ModemState) (w : Words) (line : List ℕ) (o : Option Command) → command_of line ≡ o → is_some o ≡ true → s.words ≡ Some w → w.oper_format ≡ 2 → w.functionality ≡ 1 → is_too_long line ≡ false → o ≢ Some ContextQuery → IsAsStandard s line
-by_command s w line None read is some two on short other = cc
-by_command s w line (Some c) read is some two on short other =
+by_command : (s : ModemState) (w : Words) (line : List ℕ) (o : Option Command) → command_of line ≡ o → is_some o ≡ true → s.words ≡ Some w → w.oper_format ≡ 2 → w.functionality ≡ 1 → is_too_long line ≡ false → own_answer s line ≡ None → s.late ≡ [] → o ≢ Some ContextQuery → IsAsStandard s line
+by_command s w line None read is some two on short own none other = cc
+by_command s w line (Some c) read is some two on short own none other =
     let refusal : refusal_as s.words s c ≡ refusal_of s c = ap (λ (x : Option Words). refusal_as x s c) some ∙ refused_as w s c on in
-    let with : step s line ≡ worded_of (refusal_of s c) s c = one_command s w line c some short read ∙ ap (λ o. worded_of o s c) refusal in
+    let with : step s line ≡ worded_of (refusal_of s c) s c = one_command s w line c some short own none read ∙ ap (λ o. worded_of o s c) refusal in
     let without = bare_command s line c read in
     let same = same_at (refusal_of s c) w s c some two (λ is_query. other (ap Some is_query)) in
     record {
@@ -169,4 +219,4 @@ by_command s w line (Some c) read is some two on short other =
     }
 
 pub answers_as_standard : AnswersAsStandard
-answers_as_standard s w line some two on short other is = by_command s w line (command_of line) refl is some two on short other
+answers_as_standard s w line some two on short own none other is = by_command s w line (command_of line) refl is some two on short own none other

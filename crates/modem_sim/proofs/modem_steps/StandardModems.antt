@@ -5,10 +5,11 @@ use Rattle.at_cmds.specs.declared.command.Command.{Command}
 use Rattle.at_cmds.specs.declared.command.Command.TheVariants.{PinQuery, PinEnter, RegReport, RegQuery, Signal, OperQuery, OperChoose, ContextSet, ContextQuery, AttachSet, AttachQuery, ErrorMode, Multiplex}
 use Rattle.at_cmds.specs.declared.command.OperChoice.TheVariants.{Automatic, Deregister, Manual}
 use Rattle.modem_sim.specs.declared.modem.ModemStart.{ModemStart}
+use Rattle.modem_sim.specs.declared.own_answers.OwnLine.{OwnLine}
 use Rattle.modem_sim.specs.declared.state.ModemState.{ModemState}
 use Rattle.modem_sim.specs.declared.state.Words.{Words}
 use Rattle.modem_sim.specs.Reading.{is_attention, command_of}
-use Rattle.modem_sim.specs.Steps.{after_command, after_refusal, echoes, echoes_as, obeyed_unless, refusal_of, standard_step, started, step, step_as, step_by, worded_step, Step}
+use Rattle.modem_sim.specs.Steps.{after_command, after_refusal, echoes, echoes_as, obeyed_unless, own_answer, own_said, own_step, refusal_of, standard_step, started, step, step_as, step_by, with_late, worded_step, Step}
 use Rattle.modem_sim.specs.Laws.{after_lines, reached}
 
 pub carried_words : (s : ModemState) (c : Command) → (after_command s c).words ≡ s.words
@@ -63,9 +64,19 @@ standard_words s line = chosen_words s (is_attention line) _ (step_by s (command
 pub step_standard : (s : ModemState) (line : List ℕ) → s.words ≡ None → step s line ≡ standard_step s line
 step_standard s line none = ap (λ w. step_as w s line) none
 
--- with words it does what both say
-pub step_worded : (s : ModemState) (line : List ℕ) (w : Words) → s.words ≡ Some w → step s line ≡ worded_step s line
-step_worded s line w some = ap (λ x. step_as x s line) some
+-- with words it answers by itself, or does what both say
+pub step_with_words : (s : ModemState) (line : List ℕ) (w : Words) → s.words ≡ Some w → step s line ≡ own_step (own_answer s line) s line
+step_with_words s line w some = ap (λ x. step_as x s line) some
+
+pub own_step_some : (own : Option (List OwnLine)) (s : ModemState) (line : List ℕ) (lines : List OwnLine) → own ≡ Some lines → own_step own s line ≡ own_said lines s
+own_step_some own s line lines some = ap (λ o. own_step o s line) some
+
+pub own_step_none : (own : Option (List OwnLine)) (s : ModemState) (line : List ℕ) → own ≡ None → own_step own s line ≡ with_late s.late (worded_step s line)
+own_step_none own s line none = ap (λ o. own_step o s line) none
+
+-- with words, and no answer of its own
+pub step_worded : (s : ModemState) (line : List ℕ) (w : Words) → s.words ≡ Some w → own_answer s line ≡ None → step s line ≡ with_late s.late (worded_step s line)
+step_worded s line w some none = step_with_words s line w some ∙ own_step_none (own_answer s line) s line none
 
 pub step_words : (s : ModemState) (line : List ℕ) → s.words ≡ None → (step s line).state.words ≡ None
 step_words s line none = ap (λ t. t.state.words) (step_standard s line none) ∙ standard_words s line ∙ none

@@ -7,7 +7,7 @@ use Rattle.at_cmds.specs.Values.{command_in}
 use Rattle.modem_sim.specs.CommandLines.{commands_in}
 use Rattle.modem_sim.specs.Reading.{command_of}
 use Rattle.modem_sim.specs.Steps.{line_commands}
-use Rattle.modem_sim.specs.WordRows.{BareLines, ChangeAnnounced, ClientAsks, ClientBegins, ContextsActivated, ContextsRefused, DividedLine, EchoOff, OperatorNamed, PinAnnounced, PinLocks, PukEntered, QuotedLine, RadioOff, TenWrongPuks, ValuesAsked}
+use Rattle.modem_sim.specs.WordRows.{BareLines, ChangeAnnounced, ClientAsks, ClientBegins, ContextsActivated, ContextsRefused, DividedLine, EchoOff, OperatorNamed, OwnAnswered, OwnLater, PinAnnounced, PinLocks, PukEntered, QuotedLine, RadioOff, TenWrongPuks, ValuesAsked}
 use Rattle.modem_sim.specs.Words.{word_of}
 
 pub divided_line : DividedLine
@@ -73,3 +73,11 @@ client_asks = refl
 pub pin_locks : PinLocks
 unfolding command_of command_in numeral_in unquoted parameters digits commands_in line_commands word_of
 pin_locks = refl
+
+pub own_answered : OwnAnswered
+unfolding command_of command_in numeral_in unquoted parameters digits commands_in line_commands word_of
+own_answered = refl
+
+pub own_later : OwnLater
+unfolding command_of command_in numeral_in unquoted parameters digits commands_in line_commands word_of
+own_later = refl
