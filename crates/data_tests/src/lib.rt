@@ -3,3 +3,6 @@
 
 #[cfg(test)]
 mod lines;
+
+#[cfg(test)]
+mod files;

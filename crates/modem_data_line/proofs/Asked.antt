@@ -1,8 +1,8 @@
 -- A read that counted gave octets, or none.
-use Rattle.std.specs.Prelude.{◌≡◌, ◌≢◌, ◌==◌, ◌<◌, ◌≤◌, true, ◌⊎◌, ℕ, List, [], ◌∷◌, ◌++◌, length, take, drop, min, None, refl}
-use Rattle.std.proofs.Common.{ap, sym, ◌∙◌, inl, inr, arith, zero, suc}
+use Rattle.std.specs.Prelude.{◌≡◌, ◌≢◌, ◌==◌, ◌<◌, ◌≤◌, true, false, nat_lt, ◌⊎◌, ℕ, List, [], ◌∷◌, ◌++◌, length, take, drop, min, None, refl}
+use Rattle.std.proofs.Common.{ap, sym, ◌∙◌, inl, inr, arith, zero, suc, true≢false}
 use Rattle.std.proofs.lemmas.List.{nil_from_length}
-use Rattle.std.proofs.lemmas.Bool.{eqb-true}
+use Rattle.std.proofs.lemmas.Bool.{eqb-true, lt-ltb}
 use Rattle.serial_line.specs.Counts.{one_more, counted_if_none}
 use Rattle.modem_data_line.specs.DataLines.{DataLineState}
 use Rattle.modem_data_line.specs.Moving.{IsAsked}
@@ -24,6 +24,16 @@ asked r0 r1 (y ∷ ys) n e0 e1 cm c e = inl (λ q. grown_differs r0 y ys (sym cm
 pub is_asked : {X : Type 0} (r : X → List ℕ) (e : X → ℕ) (old new : X) (unfed : List ℕ) (n : ℕ) → r new ≡ r old ++ unfed → n ≡ length unfed
     → e new ≡ counted_if_none 512 n (e old) → IsAsked r e old new
 is_asked r e old new unfed n cm c em = asked (r old) (r new) unfed n (e old) (e new) cm c em
+
+-- octets that came are some
+pub some_came : {X : Type 0} (r : X → List ℕ) (old new : X) (unfed : List ℕ) (n : ℕ) → r new ≡ r old ++ unfed → n ≡ length unfed → 0 < n → r new ≢ r old
+some_came r old new [] n cm c some = let no : ⊥ = omega (arith, c, some) in absurd no
+some_came r old new (y ∷ ys) n cm c some = λ q. grown_differs (r old) y ys (sym cm ∙ q)
+
+-- a read that gave none was counted
+pub none_came : {X : Type 0} (e : X → ℕ) (old new : X) (n : ℕ) → e new ≡ counted_if_none 512 n (e old) → nat_lt 0 n ≡ false → e new ≡ one_more (e old)
+none_came e old new zero c none = c
+none_came e old new (suc n) c none = absurd (true≢false (sym (lt-ltb 0 (suc n) (omega (arith))) ∙ none))
 
 pub none_left : (xs : List ℕ) → (length xs == 0) ≡ true → xs ≡ []
 none_left xs e = nil_from_length xs (eqb-true (length xs) 0 e)

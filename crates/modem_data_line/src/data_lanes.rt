@@ -1,5 +1,5 @@
 //! What callers of data ask.
-ghost use Rattle.std.specs.Prelude.{◌≡◌, ◌≢◌, ◌↔◌, ◌-◌, ◌⊎◌, length, take, drop, min, true, false, Err, IfOk, OnOk, OnErr};
+ghost use Rattle.std.specs.Prelude.{◌≡◌, ◌≢◌, ◌↔◌, ◌-◌, ◌⊎◌, [], length, take, drop, min, true, false, None, Err, IfOk, OnOk, OnErr};
 ghost use Rattle.mux_station.specs.Opening.{is_open};
 ghost use Rattle.mux_station.specs.declared.role.Role.TheVariants.{Initiator};
 ghost use Rattle.modem_data.specs.declared.error.DataError.TheVariants as error;
@@ -9,7 +9,7 @@ ghost use Rattle.modem_data.specs.Passing.{Began, EndedLane, Gave, Read, IsOver,
 ghost use Rattle.modem_data.specs.PipeSets.{IsNotData, OfEachPast};
 ghost use Rattle.modem_data.specs.Hops.{Hops, Passed};
 ghost use Rattle.serial_line.specs.Counts.{one_more};
-ghost use Rattle.modem_data_line.specs.DataLines.{LeadsBy, may_go};
+ghost use Rattle.modem_data_line.specs.DataLines.{LeadsBy, may_go, may_pass};
 ghost use Rattle.modem_data_line.specs.Moving.{IsLostBy, NothingGoes};
 
 use crate::data_line::DataLine;
@@ -70,6 +70,7 @@ impl<L: SerialLine> DataLine<L> {
         ensures not_data { result ≡ Err error.NotData → IsNotData self.old.relay.pipes dlci.number }
         ensures not_open { result ≡ Err error.NotOpen → OfEachPast self.old.relay.pipes (λ past. is_open Initiator dlci.number (wire past) ≡ false) }
         ensures no_data { result ≡ Err error.Lines → OfEachPast self.old.relay.pipes (λ past. ¬ (carries dlci.number past ≡ in_data)) }
+        ensures others { OnErr result ((result ≡ Err error.NotData) ⊎ ((result ≡ Err error.NotOpen) ⊎ (result ≡ Err error.Lines))) }
         ensures err { OnErr result (self.new ≡ self.old) }
         ensures beside { self.new ≡ record self.old { relay = self.new.relay } }
     {
@@ -96,5 +97,25 @@ impl<L: SerialLine> DataLine<L> {
         ensures lost { IsLostBy L.failures self.old self.new }
     {
         self.write_one()
+    }
+
+    /// Takes octets of the line in, where none wait for the driver: those that wait for the relay, or else those of one read. Says
+    /// whether some came by a read. Where the driver rests, call it until it says no: data comes on though nothing is the driver's.
+    pub fn fill(&mut self) -> bool
+        ensures goes { LeadsBy L.received L.sent (may_pass self.old.is_behind) self.old self.new }
+        ensures beside { self.new ≡ record self.old {
+          line = self.new.line;
+          relay = self.new.relay;
+          unfed = self.new.unfed;
+          is_lost = self.new.is_lost;
+        } }
+        ensures some { result ≡ true → L.received self.new.line ≢ L.received self.old.line }
+        ensures none { result ≡ false → self.old.relay.to_driver ≡ [] → self.old.unfed ≡ []
+            → (self.new.is_lost ≡ true) ⊎ (L.empty_reads self.new.line ≡ one_more (L.empty_reads self.old.line)) }
+        ensures blocks { self.old.relay.to_driver ≡ [] → self.new.unfed ≢ [] → self.new.relay.outer.next ≢ None }
+        ensures still { self.old.relay.to_driver ≢ [] → self.new ≡ self.old }
+        ensures lost { IsLostBy L.failures self.old self.new }
+    {
+        self.take_in()
     }
 }

@@ -128,9 +128,9 @@ impl<L: SerialLine> DataLine<L> {
         self.write_waiting()
     }
 
-    /// Reads the line once, where no octets wait for the relay. Where it fails, it is lost.
-    #[tactic(auto, using(crate::proofs::Leads::leads_none, crate::proofs::Asked::is_asked, crate::proofs::Lost::lost_none, crate::proofs::Lost::lost_sound, crate::proofs::Lost::lost_fault))]
-    fn read_line(&mut self)
+    /// Reads the line once, where no octets wait for the relay, and says whether some came. Where it fails, it is lost.
+    #[tactic(auto, using(crate::proofs::Leads::leads_none, crate::proofs::Asked::is_asked, crate::proofs::Asked::some_came, crate::proofs::Asked::none_came, crate::proofs::Lost::lost_none, crate::proofs::Lost::lost_sound, crate::proofs::Lost::lost_fault))]
+    fn read_line(&mut self) -> bool
         ensures goes { LeadsBy L.received L.sent (may_pass self.old.is_behind) self.old self.new }
         ensures same { self.new ≡ record self.old {
           line = self.new.line;
@@ -139,16 +139,20 @@ impl<L: SerialLine> DataLine<L> {
           is_lost = self.new.is_lost;
         } }
         ensures asked { self.old.unfed ≡ [] → (self.new.is_lost ≡ true) ⊎ IsAsked L.received L.empty_reads self.old.line self.new.line }
+        ensures some { result ≡ true → L.received self.new.line ≢ L.received self.old.line }
+        ensures none { result ≡ false → self.old.unfed ≡ []
+            → (self.new.is_lost ≡ true) ⊎ (L.empty_reads self.new.line ≡ one_more (L.empty_reads self.old.line)) }
         ensures lost { IsLostBy L.failures self.old self.new }
     {
         if self.is_lost || !self.unfed.is_empty() {
-            return;
+            return false;
         }
         match self.unfed.read(&mut self.line) {
-            Ok(_) => {}
+            Ok(came) => came > 0,
             Err(_) => {
                 self.relay.lost();
                 self.is_lost = true;
+                false
             }
         }
     }
@@ -179,9 +183,10 @@ impl<L: SerialLine> DataLine<L> {
         count
     }
 
-    /// Where nothing waits for the driver, gives the relay octets that wait for it, or else the next ones of the line.
+    /// Where nothing waits for the driver, gives the relay octets that wait for it, or else the next ones of the line, and
+    /// says whether some came from the line.
     #[tactic(auto, using(crate::proofs::Leads::leads_none, crate::proofs::Leads::leads_then, crate::proofs::Lost::lost_none, crate::proofs::Lost::lost_sound, crate::proofs::Lost::lost_then))]
-    fn take_in(&mut self)
+    pub(crate) fn take_in(&mut self) -> bool
         ensures goes { LeadsBy L.received L.sent (may_pass self.old.is_behind) self.old self.new }
         ensures same { self.new ≡ record self.old {
           line = self.new.line;
@@ -193,13 +198,17 @@ impl<L: SerialLine> DataLine<L> {
             → (self.new.is_lost ≡ true) ⊎ IsAsked L.received L.empty_reads self.old.line self.new.line }
         ensures blocks { self.old.relay.to_driver ≡ [] → self.new.unfed ≢ [] → self.new.relay.outer.next ≢ None }
         ensures still { self.old.relay.to_driver ≢ [] → self.new ≡ self.old }
+        ensures some { result ≡ true → L.received self.new.line ≢ L.received self.old.line }
+        ensures none { result ≡ false → self.old.relay.to_driver ≡ [] → self.old.unfed ≡ []
+            → (self.new.is_lost ≡ true) ⊎ (L.empty_reads self.new.line ≡ one_more (L.empty_reads self.old.line)) }
         ensures lost { IsLostBy L.failures self.old self.new }
     {
         if !self.relay.for_driver().is_empty() {
-            return;
+            return false;
         }
-        self.read_line();
+        let came = self.read_line();
         self.feed_relay();
+        came
     }
 
     /// Writes once what may go to the line. Where nothing waits for the driver, octets of the line come to the relay. Then hands octets

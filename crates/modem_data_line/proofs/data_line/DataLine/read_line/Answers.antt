@@ -1,7 +1,8 @@
 use Rattle.std.specs.Prelude.{refl}
 use Rattle.std.proofs.Common.{◌∙◌, sym, inr}
+use Rattle.std.proofs.lemmas.Bool.{ltb-true}
 use Rattle.modem_data_line.proofs.Leads.{reads_line, loses_reading}
-use Rattle.modem_data_line.proofs.Asked.{is_asked, none_left}
+use Rattle.modem_data_line.proofs.Asked.{is_asked, none_came, none_left, some_came}
 use Rattle.modem_data_line.proofs.data_line.DataLine.read_line.Goals as goal
 
 pub returns-in-Ok-clause-goes : goal.returns-in-Ok-clause-goes
@@ -9,9 +10,16 @@ returns-in-Ok-clause-goes g c = rw (← c.self.view_is) (reads_line g.L.SerialLi
     (none_left c.self.inside.unfed (sym c.is_empty.ensures ∙ c.if-not-is_empty.false)) c.read.ensures.came c.read.ensures.none_went refl)
 
 pub returns-in-Ok-clause-asked : goal.returns-in-Ok-clause-asked
-returns-in-Ok-clause-asked g c = rw (← c.self.view_is) (λ e. inr (is_asked g.L.SerialLine.received g.L.SerialLine.empty_reads c.self.inside.line c.read.new.line c.read.new.self c.in-Ok.field-0
+returns-in-Ok-clause-asked g c = rw (← c.self.view_is) (λ e. inr (is_asked g.L.SerialLine.received g.L.SerialLine.empty_reads c.self.inside.line c.read.new.line c.read.new.self c.in-Ok.came
     c.read.ensures.came c.in-Ok.ensures.count c.in-Ok.ensures.empty))
 
 pub returns-in-Err-clause-goes : goal.returns-in-Err-clause-goes
 returns-in-Err-clause-goes g c = rw (← c.self.view_is) (loses_reading g.L.SerialLine.received g.L.SerialLine.sent _ _
     (none_left c.self.inside.unfed (sym c.is_empty.ensures ∙ c.if-not-is_empty.false)) c.in-Err.ensures.none c.lost.ensures c.read.ensures.came c.read.ensures.none_went refl)
+
+pub returns-in-Ok-clause-some : goal.returns-in-Ok-clause-some
+returns-in-Ok-clause-some g c = rw (← c.self.view_is) (λ e. some_came g.L.SerialLine.received c.self.inside.line c.read.new.line c.read.new.self c.in-Ok.came
+    c.read.ensures.came c.in-Ok.ensures.count (ltb-true 0 c.in-Ok.came e))
+
+pub returns-in-Ok-clause-none : goal.returns-in-Ok-clause-none
+returns-in-Ok-clause-none g c = rw (← c.self.view_is) (λ e none. inr (none_came g.L.SerialLine.empty_reads c.self.inside.line c.read.new.line c.in-Ok.came c.in-Ok.ensures.empty e))

@@ -1,0 +1,83 @@
+-- How a line with files begins.
+use Rattle.std.specs.Prelude.{◌≡◌, ℕ, ◌==◌, ◌<◌, ◌+◌, Bool, true, false, List, [], ◌∷◌, ◌++◌, All, length, take, if◌then◌else◌, refl, slice_index_or}
+use Rattle.std.proofs.Common.{ap, sym, ◌∙◌, subst}
+use Rattle.std.proofs.lemmas.List.{append-nil, take_more}
+use Rattle.std.proofs.lemmas.List.Elements.{All-weaker}
+use Rattle.modem_data.specs.Passing.{Began, data_read, given}
+use Rattle.modem_data.specs.Hops.{BeginsRelay, Hop, Hops, Passed, Relay, passes}
+use Rattle.modem_data_line.specs.DataLines.{Before, DataLineState, LineFits, new_data_line}
+use Rattle.modem_data_line.specs.LineLaws.{before_of}
+use Rattle.data_files.specs.Files.{BeginsFiled, FileFits, FileState, HasMoved, IsFresh, begun, dlcis}
+use Rattle.data_files.specs.Moves.{HasBegunTo}
+use Rattle.data_files.proofs.FileSteps.{lane_leads}
+
+pub begins_none : {X Y : Type 0} (r s : X → List ℕ) (files : List (FileState Y)) (v : DataLineState X) → HasBegunTo r s (take 0 files) v v
+begins_none r s files v = record { leads = λ n1 ds b past h. h; same = refl }
+
+begun_one : {Y : Type 0} (files : List (FileState Y)) (f : FileState Y) (past : List Hop)
+    → begun (files ++ f ∷ []) past ≡ Passed (Began f.dlci f.by_connect) ∷ begun files past
+begun_one [] f past = refl
+begun_one (g ∷ files) f past = begun_one files f (Passed (Began g.dlci g.by_connect) ∷ past)
+
+pub begins_more : {X Y : Type 0} (r s : X → List ℕ) (files : List (FileState Y)) (i : ℕ) (f : FileState Y) (u v w : DataLineState X)
+    → i < length files → HasBegunTo r s (take i files) u v
+    → Hops v.relay w.relay (Passed (Began (slice_index_or files i f).dlci (slice_index_or files i f).by_connect)) → w ≡ record v { relay = w.relay }
+    → HasBegunTo r s (take (i + 1) files) u w
+begins_more r s files i f u v w there h hops e = record {
+  leads = λ n1 ds b past x. subst (λ (hs : List Hop). LineFits r s n1 ds b w hs)
+      (sym (ap (λ (fs : List (FileState _)). begun fs past) (take_more files i f there) ∙ begun_one (take i files) (slice_index_or files i f) past))
+      (lane_leads r s v w (Began (slice_index_or files i f).dlci (slice_index_or files i f).by_connect) hops e n1 ds b (begun (take i files) past) (h.leads n1 ds b past x));
+  same = e ∙ ap (λ (x : DataLineState _). record x { relay = w.relay }) h.same;
+}
+
+-- ## Nothing has passed
+
+nil_if : (b : Bool) (xs : List ℕ) → xs ≡ [] → (if b then [] else xs) ≡ []
+nil_if true xs e = refl
+nil_if false xs e = e
+
+none_given : {Y : Type 0} (d : ℕ) (files : List (FileState Y)) (past : List Hop) → given d (passes past) ≡ [] → given d (passes (begun files past)) ≡ []
+none_given d [] past e = e
+none_given d (f ∷ files) past e = none_given d files (Passed (Began f.dlci f.by_connect) ∷ past) (nil_if (f.dlci == d) (given d (passes past)) e)
+
+none_read : {Y : Type 0} (d : ℕ) (files : List (FileState Y)) (past : List Hop) → data_read d (passes past) ≡ [] → data_read d (passes (begun files past)) ≡ []
+none_read d [] past e = e
+none_read d (f ∷ files) past e = none_read d files (Passed (Began f.dlci f.by_connect) ∷ past) (nil_if (f.dlci == d) (data_read d (passes past)) e)
+
+fresh_fits : {Y : Type 0} (g t : Y → List ℕ) (files : List (FileState Y)) (f : FileState Y) → IsFresh g t f → FileFits g t (passes (begun files [])) f
+fresh_fits g t files f h = record {
+  given_are = h.none_came ∙ (sym h.none_waits ∙ ap (λ (xs : List ℕ). xs ++ f.ungiven) (sym (none_given f.dlci files [] refl)));
+  read_are = none_read f.dlci files [] refl ∙ (sym h.none_read ∙ ap (λ (xs : List ℕ). xs ++ f.unwritten) (sym h.none_went));
+}
+
+first_fits : {X : Type 0} (r s : X → List ℕ) (n1 : ℕ) (ds : List ℕ) (line : X) (relay : Relay) → BeginsRelay n1 ds relay
+    → LineFits r s n1 ds (before_of r s line) (new_data_line line relay) []
+unfolding BeginsRelay
+first_fits r s n1 ds line relay h = record {
+  relay_fits = h;
+  came = sym (append-nil (r line));
+  went = sym (append-nil (s line));
+  read_are = refl;
+  sent_are = refl;
+}
+
+pub begins_filed : {X Y : Type 0} (r s : X → List ℕ) (line : X) (relay : Relay) (n1 : ℕ) (files : List (FileState Y)) (x : DataLineState X) (b : Before)
+    → BeginsRelay n1 (dlcis files) relay → HasBegunTo r s files (new_data_line line relay) x → b ≡ before_of r s line
+    → BeginsFiled r s line relay n1 files (record { line = x; files = files; n1 = n1; before = b })
+begins_filed r s line relay n1 files x b begins h e = record {
+  files_are = refl;
+  n1_is = refl;
+  before_is = e;
+  line_is = h.same;
+  fits = subst (λ (c : Before). LineFits r s n1 (dlcis files) c x (begun files [])) (sym e)
+      (h.leads n1 (dlcis files) (before_of r s line) [] (first_fits r s n1 (dlcis files) line relay begins));
+}
+
+pub has_begun : {X Y : Type 0} (r s : X → List ℕ) (g t : Y → List ℕ) (line : X) (relay : Relay) (n1 : ℕ) (files : List (FileState Y)) (x : DataLineState X) (b : Before)
+    → BeginsRelay n1 (dlcis files) relay → HasBegunTo r s files (new_data_line line relay) x → b ≡ before_of r s line → All (IsFresh g t) files
+    → HasMoved r s g t (record { line = x; files = files; n1 = n1; before = b })
+has_begun r s g t line relay n1 files x b begins h e fresh = record {
+  past = begun files [];
+  fits = (begins_filed r s line relay n1 files x b begins h e).fits;
+  files = All-weaker (IsFresh g t) (FileFits g t (passes (begun files []))) (fresh_fits g t files) files fresh;
+}

@@ -1,0 +1,191 @@
+-- What hops do to what was given and read on a connection.
+use Rattle.std.specs.Prelude.{◌≡◌, ℕ, ◌==◌, Bool, true, false, List, [], ◌∷◌, ◌++◌, if◌then◌else◌, refl}
+use Rattle.std.specs.List.{list_all}
+use Rattle.std.proofs.Common.{ap, sym, ◌∙◌, subst}
+use Rattle.std.proofs.lemmas.Bool.{and_from, and_parts, eqb-true}
+use Rattle.std.proofs.lemmas.List.Folds.{list_all-append}
+use Rattle.std.proofs.lemmas.List.Elements.{filter_map-append}
+use Rattle.modem_data.specs.Passing.{Pass, Came, Went, Flowed, Left, Lost, Began, EndedLane, Gave, Read, data_read, given}
+use Rattle.modem_data.specs.Hops.{Hop, Fed, Handed, Took, Wrote, Passed, pass_of, passes}
+use Rattle.modem_data_line.specs.DataLines.{is_of_driver, may_go, may_pass}
+use Rattle.data_files.specs.Files.{FileFits, FileState}
+use Rattle.data_files.specs.Moves.{is_of_file}
+
+pub all_both : (p : Hop → Bool) (xs ys : List Hop) → list_all p xs ≡ true → list_all p ys ≡ true → list_all p (xs ++ ys) ≡ true
+all_both p xs ys a b = list_all-append p xs ys ∙ and_from (list_all p xs) (list_all p ys) a b
+
+pub all_kind : (p q : Hop → Bool) (xs : List Hop) → ((a : Hop) → p a ≡ true → q a ≡ true) → list_all p xs ≡ true → list_all q xs ≡ true
+all_kind p q [] on e = refl
+all_kind p q (a ∷ xs) on e =
+    let both = and_parts (p a) (list_all p xs) e in
+    and_from (q a) (list_all q xs) (on a both.0) (all_kind p q xs on both.1)
+
+pub passes_both : (xs ys : List Hop) → passes (xs ++ ys) ≡ passes xs ++ passes ys
+passes_both xs ys = filter_map-append pass_of xs ys
+
+-- ## Kinds
+
+pub goes_passes : (behind : Bool) (a : Hop) → may_go behind a ≡ true → may_pass false a ≡ true
+goes_passes true (Passed (Flowed f)) e = cc
+goes_passes true (Passed (Left f)) e = cc
+goes_passes true (Passed (Came f)) e = refl
+goes_passes true (Passed (Went f)) e = refl
+goes_passes true (Passed Lost) e = refl
+goes_passes true (Passed (Began d c)) e = cc
+goes_passes true (Passed (EndedLane d)) e = cc
+goes_passes true (Passed (Gave d o)) e = cc
+goes_passes true (Passed (Read d o)) e = cc
+goes_passes true (Fed o) e = refl
+goes_passes true (Handed o) e = refl
+goes_passes true (Took o) e = cc
+goes_passes true (Wrote o) e = refl
+goes_passes false (Passed (Flowed f)) e = refl
+goes_passes false (Passed (Left f)) e = refl
+goes_passes false (Passed (Came f)) e = refl
+goes_passes false (Passed (Went f)) e = refl
+goes_passes false (Passed Lost) e = refl
+goes_passes false (Passed (Began d c)) e = cc
+goes_passes false (Passed (EndedLane d)) e = cc
+goes_passes false (Passed (Gave d o)) e = cc
+goes_passes false (Passed (Read d o)) e = cc
+goes_passes false (Fed o) e = refl
+goes_passes false (Handed o) e = refl
+goes_passes false (Took o) e = cc
+goes_passes false (Wrote o) e = refl
+
+pub any_passes : (behind : Bool) (a : Hop) → may_pass behind a ≡ true → may_pass false a ≡ true
+any_passes behind (Fed o) e = refl
+any_passes behind (Handed o) e = refl
+any_passes behind (Passed (Came f)) e = refl
+any_passes behind (Passed (Went f)) e = goes_passes behind (Passed (Went f)) e
+any_passes behind (Passed (Flowed f)) e = goes_passes behind (Passed (Flowed f)) e
+any_passes behind (Passed (Left f)) e = goes_passes behind (Passed (Left f)) e
+any_passes behind (Passed Lost) e = goes_passes behind (Passed Lost) e
+any_passes behind (Passed (Began d c)) e = goes_passes behind (Passed (Began d c)) e
+any_passes behind (Passed (EndedLane d)) e = goes_passes behind (Passed (EndedLane d)) e
+any_passes behind (Passed (Gave d o)) e = goes_passes behind (Passed (Gave d o)) e
+any_passes behind (Passed (Read d o)) e = goes_passes behind (Passed (Read d o)) e
+any_passes behind (Took o) e = goes_passes behind (Took o) e
+any_passes behind (Wrote o) e = goes_passes behind (Wrote o) e
+
+pub driver_passes : (a : Hop) → is_of_driver a ≡ true → may_pass false a ≡ true
+driver_passes a e = goes_passes true a e
+
+-- ## Hops that give and read nothing on d
+
+-- of this kind: neither given nor read on d
+abbrev pub is_beside : ℕ → Hop → Bool
+is_beside d (Passed (Gave e octets)) = if e == d then false else true
+is_beside d (Passed (Read e octets)) = if e == d then false else true
+is_beside d (Passed (Began e by_connect)) = false
+is_beside d a = true
+
+pub passes_beside : (d : ℕ) (a : Hop) → may_pass false a ≡ true → is_beside d a ≡ true
+passes_beside d (Passed (Came f)) e = refl
+passes_beside d (Passed (Went f)) e = refl
+passes_beside d (Passed (Flowed f)) e = refl
+passes_beside d (Passed (Left f)) e = refl
+passes_beside d (Passed Lost) e = refl
+passes_beside d (Passed (Began c b)) e = cc
+passes_beside d (Passed (EndedLane c)) e = refl
+passes_beside d (Passed (Gave c o)) e = cc
+passes_beside d (Passed (Read c o)) e = cc
+passes_beside d (Fed o) e = refl
+passes_beside d (Handed o) e = refl
+passes_beside d (Took o) e = refl
+passes_beside d (Wrote o) e = refl
+
+not_both : (b c d : ℕ) → (c == d) ≡ false → (b == c) ≡ true → (b == d) ≡ false
+not_both b c d apart e = subst (λ (n : ℕ). (n == d) ≡ false) (sym (eqb-true b c e)) apart
+
+if_apart : (b : Bool) → b ≡ false → (if b then false else true) ≡ true
+if_apart true e = sym e
+if_apart false e = refl
+
+-- what is of one connection's file is beside another's
+pub of_file_beside : (c d : ℕ) → (c == d) ≡ false → (a : Hop) → is_of_file c a ≡ true → is_beside d a ≡ true
+of_file_beside c d apart (Passed (Gave b o)) e = if_apart (b == d) (not_both b c d apart e)
+of_file_beside c d apart (Passed (Read b o)) e = if_apart (b == d) (not_both b c d apart e)
+of_file_beside c d apart (Passed (Came f)) e = refl
+of_file_beside c d apart (Passed (Went f)) e = refl
+of_file_beside c d apart (Passed (Flowed f)) e = refl
+of_file_beside c d apart (Passed (Left f)) e = refl
+of_file_beside c d apart (Passed Lost) e = refl
+of_file_beside c d apart (Passed (Began b k)) e = cc
+of_file_beside c d apart (Passed (EndedLane b)) e = refl
+of_file_beside c d apart (Fed o) e = refl
+of_file_beside c d apart (Handed o) e = refl
+of_file_beside c d apart (Took o) e = refl
+of_file_beside c d apart (Wrote o) e = refl
+
+-- what passes is of each file
+pub passes_of_file : (d : ℕ) (a : Hop) → may_pass false a ≡ true → is_of_file d a ≡ true
+passes_of_file d (Passed (Came f)) e = refl
+passes_of_file d (Passed (Went f)) e = refl
+passes_of_file d (Passed (Flowed f)) e = refl
+passes_of_file d (Passed (Left f)) e = refl
+passes_of_file d (Passed Lost) e = refl
+passes_of_file d (Passed (Began c b)) e = e
+passes_of_file d (Passed (EndedLane c)) e = e
+passes_of_file d (Passed (Gave c o)) e = cc
+passes_of_file d (Passed (Read c o)) e = cc
+passes_of_file d (Fed o) e = refl
+passes_of_file d (Handed o) e = refl
+passes_of_file d (Took o) e = e
+passes_of_file d (Wrote o) e = refl
+
+given_if : (b : Bool) (x y : List ℕ) → (if b then false else true) ≡ true → (if b then x else y) ≡ y
+given_if true x y e = cc
+given_if false x y e = refl
+
+-- so what was given and read there stays
+pub given_stays : (d : ℕ) (hops : List Hop) (past : List Pass) → list_all (is_beside d) hops ≡ true → given d (passes hops ++ past) ≡ given d past
+given_stays d [] past e = refl
+given_stays d (Passed (Gave c o) ∷ hops) past e =
+    let both = and_parts (is_beside d (Passed (Gave c o))) (list_all (is_beside d) hops) e in
+    given_if (c == d) (given d (passes hops ++ past) ++ o) (given d (passes hops ++ past)) both.0 ∙ given_stays d hops past both.1
+given_stays d (Passed (Read c o) ∷ hops) past e =
+    given_stays d hops past (and_parts (is_beside d (Passed (Read c o))) (list_all (is_beside d) hops) e).1
+given_stays d (Passed (Began c b) ∷ hops) past e = cc
+given_stays d (Passed (Came f) ∷ hops) past e = given_stays d hops past e
+given_stays d (Passed (Went f) ∷ hops) past e = given_stays d hops past e
+given_stays d (Passed (Flowed f) ∷ hops) past e = given_stays d hops past e
+given_stays d (Passed (Left f) ∷ hops) past e = given_stays d hops past e
+given_stays d (Passed Lost ∷ hops) past e = given_stays d hops past e
+given_stays d (Passed (EndedLane c) ∷ hops) past e = given_stays d hops past e
+given_stays d (Fed o ∷ hops) past e = given_stays d hops past e
+given_stays d (Handed o ∷ hops) past e = given_stays d hops past e
+given_stays d (Took o ∷ hops) past e = given_stays d hops past e
+given_stays d (Wrote o ∷ hops) past e = given_stays d hops past e
+
+pub read_stays : (d : ℕ) (hops : List Hop) (past : List Pass) → list_all (is_beside d) hops ≡ true → data_read d (passes hops ++ past) ≡ data_read d past
+read_stays d [] past e = refl
+read_stays d (Passed (Read c o) ∷ hops) past e =
+    let both = and_parts (is_beside d (Passed (Read c o))) (list_all (is_beside d) hops) e in
+    given_if (c == d) (data_read d (passes hops ++ past) ++ o) (data_read d (passes hops ++ past)) both.0 ∙ read_stays d hops past both.1
+read_stays d (Passed (Gave c o) ∷ hops) past e =
+    read_stays d hops past (and_parts (is_beside d (Passed (Gave c o))) (list_all (is_beside d) hops) e).1
+read_stays d (Passed (Began c b) ∷ hops) past e = cc
+read_stays d (Passed (Came f) ∷ hops) past e = read_stays d hops past e
+read_stays d (Passed (Went f) ∷ hops) past e = read_stays d hops past e
+read_stays d (Passed (Flowed f) ∷ hops) past e = read_stays d hops past e
+read_stays d (Passed (Left f) ∷ hops) past e = read_stays d hops past e
+read_stays d (Passed Lost ∷ hops) past e = read_stays d hops past e
+read_stays d (Passed (EndedLane c) ∷ hops) past e = read_stays d hops past e
+read_stays d (Fed o ∷ hops) past e = read_stays d hops past e
+read_stays d (Handed o ∷ hops) past e = read_stays d hops past e
+read_stays d (Took o ∷ hops) past e = read_stays d hops past e
+read_stays d (Wrote o ∷ hops) past e = read_stays d hops past e
+
+-- a file beside such hops fits as before
+pub fits_beside : {Y : Type 0} (gave took : Y → List ℕ) (f : FileState Y) (hops : List Hop) (past : List Pass) → list_all (is_beside f.dlci) hops ≡ true
+    → FileFits gave took past f → FileFits gave took (passes hops ++ past) f
+fits_beside gave took f hops past e h = record {
+  given_are = h.given_are ∙ ap (λ (xs : List ℕ). xs ++ f.ungiven) (sym (given_stays f.dlci hops past e));
+  read_are = read_stays f.dlci hops past e ∙ h.read_are;
+}
+
+pub fits_passing : {Y : Type 0} (gave took : Y → List ℕ) (f : FileState Y) (hops : List Hop) (past : List Pass) → list_all (may_pass false) hops ≡ true
+    → FileFits gave took past f → FileFits gave took (passes hops ++ past) f
+fits_passing gave took f hops past e h =
+    fits_beside gave took f hops past (all_kind (may_pass false) (is_beside f.dlci) hops (passes_beside f.dlci) e) h

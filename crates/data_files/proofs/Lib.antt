@@ -1,0 +1,6 @@
+mod Hopping
+mod FileSteps
+mod Waiting
+mod Begins
+mod Lifts
+mod Turns

@@ -1,0 +1,74 @@
+-- Octets that were read of a connection and wait for its file.
+use Rattle.std.specs.Prelude.{◌≡◌, ◌≢◌, ◌⊎◌, ℕ, ◌-◌, ◌<◌, ◌≤◌, Result, Err, false, List, [], ◌∷◌, ◌++◌, drop, take, length, min}
+use Rattle.std.proofs.Common.{ap, sym, ◌∙◌, subst, arith, inl, inr, true≢false, take-append-drop}
+use Rattle.std.proofs.lemmas.List.{append_assoc, length-take, take_min}
+use Rattle.mux_station.specs.declared.role.Role.TheVariants.{Initiator}
+use Rattle.mux_station.specs.Opening.{is_open}
+use Rattle.modem_data.specs.declared.error.DataError.{DataError}
+use Rattle.modem_data.specs.declared.error.DataError.TheVariants as error
+use Rattle.modem_data.specs.DataLanes.{most_to_go}
+use Rattle.modem_data.specs.Switching.{Data}
+use Rattle.modem_data.specs.Passing.{Gave, Read, carries, given, left, to_go, unread, wire}
+use Rattle.modem_data.specs.PipeSets.{IsNotData, OfEachPast, PipeSet}
+use Rattle.modem_data.specs.Hops.{Hops, Passed, Relay}
+use Rattle.data_files.specs.Moves.{GaveFirst, GivesOn, IsUnread}
+
+-- of a room for 512 octets
+in_room : (n : ℕ) (octets : List ℕ) → length octets ≡ 512 → take (min n 512) octets ≡ take n octets
+in_room n octets e = ap (λ (k : ℕ). take (min n k) octets) (sym e) ∙ take_min n octets
+
+pub reads_512 : (old new : Relay) (d n : ℕ) (octets : List ℕ) → length octets ≡ 512 → Hops old new (Passed (Read d (take n octets)))
+    → Hops old new (Passed (Read d (take (min n 512) octets)))
+reads_512 old new d n octets e h = subst (λ (xs : List ℕ). Hops old new (Passed (Read d xs))) (sym (in_room n octets e)) h
+
+pub counts_512 : (pipes : PipeSet) (d n m : ℕ) (octets : List ℕ) → length octets ≡ 512 → m ≡ 512 → OfEachPast pipes (λ past. n ≡ min (unread d past) m)
+    → IsUnread pipes d (length (take (min n 512) octets))
+unfolding OfEachPast IsUnread
+counts_512 pipes d n m octets e q h n1 ds past fits =
+    let count = h n1 ds past fits in
+    let long = length-take (min n 512) octets in
+    omega (arith, count, long, e, q)
+
+pub splits : (a b xs ys : List ℕ) (n : ℕ) → b ≡ a ++ take n xs → ys ≡ drop n xs → b ++ ys ≡ a ++ xs
+splits a b xs ys n went rest =
+    ap (λ (l : List ℕ). l ++ ys) went ∙ (ap (λ (l : List ℕ). (a ++ take n xs) ++ l) rest ∙ (append_assoc a (take n xs) (drop n xs) ∙ ap (λ (l : List ℕ). a ++ l) (take-append-drop n xs)))
+
+longer : (xs : List ℕ) (y : ℕ) (ys : List ℕ) → xs ++ (y ∷ ys) ≢ xs
+longer [] y ys e = cc
+longer (x ∷ xs) y ys e = longer xs y ys (ap (λ (l : List ℕ). drop 1 l) e)
+
+grew_by : (a zs : List ℕ) → 0 < length zs → a ++ zs ≢ a
+grew_by a [] some = absurd (omega (arith, some))
+grew_by a (z ∷ zs) some = longer a z zs
+
+pub grew : (a b xs : List ℕ) (n : ℕ) → b ≡ a ++ take n xs → n ≤ length xs → 0 < n → b ≢ a
+grew a b xs n e few some =
+    let long = length-take n xs in
+    λ q. grew_by a (take n xs) (omega (arith, long, few, some)) (sym e ∙ q)
+
+-- ## Octets that wait to be given
+
+pub gave_first : (old new : Relay) (d n k : ℕ) (before after : List ℕ) → Hops old new (Passed (Gave d (take n before))) → k ≡ min n (length before)
+    → after ≡ drop k before → GaveFirst old new d before after
+gave_first old new d n k before after h least rest = record {
+  octets = take n before;
+  split = sym (take-append-drop k before) ∙ (ap (λ (xs : List ℕ). xs ++ drop k before) (ap (λ (m : ℕ). take m before) least ∙ take_min n before) ∙ ap (λ (xs : List ℕ). take n before ++ xs) (sym rest));
+  gave = h;
+}
+
+pub gives_ok : (pipes : PipeSet) (d n k : ℕ) (before after : List ℕ)
+    → OfEachPast pipes (λ past. n ≡ min (length before) (most_to_go - (length (given d past) - length (left d past)))) → k ≡ min n (length before) → after ≡ drop k before
+    → GivesOn pipes d before after
+unfolding OfEachPast
+gives_ok pipes d n k before after h least rest = inr (λ n1 ds past fits carried may.
+    let count = h n1 ds past fits in
+    rest ∙ ap (λ (m : ℕ). drop m before) (let both : k ≡ min (length before) (most_to_go - to_go d past) = omega (arith, count, least) in both))
+
+pub gives_err : (pipes : PipeSet) (d : ℕ) (before : List ℕ) (r : Result ℕ DataError)
+    → (r ≡ Err error.NotData) ⊎ ((r ≡ Err error.NotOpen) ⊎ (r ≡ Err error.Lines)) → (r ≡ Err error.NotData → IsNotData pipes d)
+    → (r ≡ Err error.NotOpen → OfEachPast pipes (λ past. is_open Initiator d (wire past) ≡ false))
+    → (r ≡ Err error.Lines → OfEachPast pipes (λ past. ¬ (carries d past ≡ Data))) → GivesOn pipes d before before
+unfolding OfEachPast
+gives_err pipes d before r (inl x) none shut lines = inl (none x)
+gives_err pipes d before r (inr (inl x)) none shut lines = inr (λ n1 ds past fits carried may. absurd (true≢false (sym may ∙ shut x n1 ds past fits)))
+gives_err pipes d before r (inr (inr x)) none shut lines = inr (λ n1 ds past fits carried may. absurd (lines x n1 ds past fits carried))

@@ -1,0 +1,5 @@
+use Rattle.data_files.proofs.FileSteps.{gives_or}
+use Rattle.data_files.proofs.data_file.DataFile.give.Goals as goal
+
+pub returns-clause-moves : goal.returns-clause-moves
+returns-clause-moves g c = rw (← c.self.view_is) (gives_or g.L.SerialLine.received g.L.SerialLine.sent g.P.SerialLine.received g.P.SerialLine.sent c.args.line.now c.give.new.line _ c.give.new.octets c.give.result c.give.ensures.gave c.give.ensures.err c.give.ensures.beside)

@@ -1,0 +1,15 @@
+use Rattle.std.proofs.Common.{ap}
+use Rattle.data_files.specs.Files.{FileState}
+use Rattle.data_files.proofs.FileSteps.{moves_file, moves_then, turn_came}
+use Rattle.data_files.proofs.data_file.DataFile.move_on.Goals as goal
+
+pub returns-clause-moves : goal.returns-clause-moves
+returns-clause-moves g c =
+    let read = moves_file g.L.SerialLine.received g.L.SerialLine.sent g.P.SerialLine.received g.P.SerialLine.sent c.args.line.now c.args.self.now c.read_file.new.self (ap (λ (x : FileState _). x.dlci) c.read_file.ensures.same) c.read_file.ensures.fits in
+    let wrote = moves_file g.L.SerialLine.received g.L.SerialLine.sent g.P.SerialLine.received g.P.SerialLine.sent c.take-took.new.line c.take-took.new.self c.write_file-wrote.new.self (ap (λ (x : FileState _). x.dlci) c.write_file-wrote.ensures.same) c.write_file-wrote.ensures.fits in
+    moves_then g.L.SerialLine.received g.L.SerialLine.sent g.P.SerialLine.received g.P.SerialLine.sent _ _ _ _ _ _ read (moves_then g.L.SerialLine.received g.L.SerialLine.sent g.P.SerialLine.received g.P.SerialLine.sent _ _ _ _ _ _ c.give-gave.ensures.moves (moves_then g.L.SerialLine.received g.L.SerialLine.sent g.P.SerialLine.received g.P.SerialLine.sent _ _ _ _ _ _ c.take-took.ensures.moves wrote))
+
+pub returns-clause-turn : goal.returns-clause-turn
+returns-clause-turn g c = turn_came g.P.SerialLine.received g.P.SerialLine.sent g.P.SerialLine.empty_reads g.P.SerialLine.stalled_writes c.args.self.now c.read_file.new.self c.give-gave.new.self c.take-took.new.self c.write_file-wrote.new.self
+    c.read_file.ensures.asked c.read_file.ensures.same c.read_file.ensures.none_went c.give-gave.ensures.same c.take-took.ensures.same c.take-took.ensures.still
+    c.write_file-wrote.ensures.offered c.write_file-wrote.ensures.none_came c.write_file-wrote.ensures.same

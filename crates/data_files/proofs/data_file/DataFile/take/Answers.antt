@@ -1,0 +1,15 @@
+use Rattle.std.specs.Prelude.{length, refl}
+use Rattle.std.proofs.lemmas.Bool.{eqb-true}
+use Rattle.std.proofs.lemmas.List.{nil_from_length}
+use Rattle.std.proofs.Common.{sym, inr}
+use Rattle.data_files.proofs.FileSteps.{takes}
+use Rattle.data_files.proofs.data_file.DataFile.take.Goals as goal
+
+pub returns-clause-moves : goal.returns-clause-moves
+returns-clause-moves g c = rw (← c.self.view_is) (takes g.L.SerialLine.received g.L.SerialLine.sent g.P.SerialLine.received g.P.SerialLine.sent c.args.line.now c.read.new.line _ _ (nil_from_length c.self.inside.unwritten (eqb-true (length c.self.inside.unwritten) 0 (sym c.if-not-is_empty.ensures))) c.in-Ok.ensures.read c.read.ensures.beside refl)
+
+pub returns-clause-reads : goal.returns-clause-reads
+returns-clause-reads g c = rw (← c.self.view_is) (λ none. inr c.in-Ok.ensures.count)
+
+pub returns-clause-over : goal.returns-clause-over
+returns-clause-over g c = rw (← c.self.view_is) (λ none. inr c.in-Ok.ensures.over)

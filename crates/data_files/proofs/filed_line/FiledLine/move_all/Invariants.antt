@@ -1,0 +1,9 @@
+-- Only what may change has.
+use Rattle.std.proofs.Common.{◌≡◌}
+use Rattle.data_files.proofs.filed_line.FiledLine.move_all.Given as goal
+
+abbrev pub invariant-loop : goal.invariant-loop
+invariant-loop g l = record {
+  same : l.self ≡ record l.fn.self { line = l.self.line; files = l.self.files };
+  beside : l.self.line ≡ record l.fn.self.line { line = l.self.line.line; relay = l.self.line.relay; unfed = l.self.line.unfed; is_lost = l.self.line.is_lost };
+}

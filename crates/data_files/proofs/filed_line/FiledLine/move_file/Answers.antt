@@ -1,0 +1,25 @@
+use Rattle.std.specs.Prelude.{◌<◌, length, refl}
+use Rattle.std.proofs.Common.{sym, subst, ◌∙◌}
+use Rattle.std.proofs.lemmas.List.{get_or_default}
+use Rattle.data_files.specs.Files.{FileState, FiledState}
+use Rattle.data_files.specs.Moves.{FileMoves, TurnCame}
+use Rattle.data_files.proofs.Lifts.{moves_at}
+use Rattle.data_files.proofs.filed_line.FiledLine.move_file.Goals as goal
+
+pub invariant_of-self : goal.invariant_of-self
+invariant_of-self g c =
+    let there = subst (λ (v : FiledState _ _). c.args.place < length v.files) (sym c.self.view_is) c.requires in
+    let here = c.index_mut.ensures.value ∙ get_or_default c.self.inside.files.items c.args.place c.index_mut.result.now c.move_on.new.self there in
+    moves_at g.L.SerialLine.received g.L.SerialLine.sent g.P.SerialLine.received g.P.SerialLine.sent (record { line = c.self.inside.line; files = c.self.inside.files.items; n1 = c.self.inside.n1; before = c.self.inside.before }) c.move_on.new.line c.args.place c.move_on.new.self there
+    (subst (λ (f : FileState _). FileMoves g.L.SerialLine.received g.L.SerialLine.sent g.P.SerialLine.received g.P.SerialLine.sent c.self.inside.line c.move_on.new.line f c.move_on.new.self) here c.move_on.ensures.moves) c.self.invariant
+
+pub returns-clause-moves : goal.returns-clause-moves
+returns-clause-moves g c =
+    let there = subst (λ (v : FiledState _ _). c.args.place < length v.files) (sym c.self.view_is) c.requires in
+    let here = c.index_mut.ensures.value ∙ get_or_default c.self.inside.files.items c.args.place c.index_mut.result.now c.move_on.new.self there in
+    rw (← c.self.view_is) (record {
+      file = c.move_on.new.self;
+      moves = subst (λ (f : FileState _). FileMoves g.L.SerialLine.received g.L.SerialLine.sent g.P.SerialLine.received g.P.SerialLine.sent c.self.inside.line c.move_on.new.line f c.move_on.new.self) here c.move_on.ensures.moves;
+      turn = subst (λ (f : FileState _). TurnCame g.P.SerialLine.received g.P.SerialLine.sent g.P.SerialLine.empty_reads g.P.SerialLine.stalled_writes f c.move_on.new.self) here c.move_on.ensures.turn;
+      files_are = refl;
+    })

@@ -1,0 +1,15 @@
+-- The turn of those so far came.
+use Rattle.std.proofs.Common.{◌≡◌, length, ◌-◌, ◌≤◌}
+use Rattle.data_files.proofs.Turns.{TurnsSoFar}
+use Rattle.data_files.proofs.filed_line.FiledLine.move_files.Given as goal
+
+abbrev pub invariant-loop-place : goal.invariant-loop-place
+invariant-loop-place g l = record {
+  few : l.place ≤ length l.self.files;
+  turns : TurnsSoFar g.P.SerialLine.received g.P.SerialLine.sent g.P.SerialLine.empty_reads g.P.SerialLine.stalled_writes l.place l.fn.self.files l.self.files;
+  same : l.self ≡ record l.fn.self { line = l.self.line; files = l.self.files };
+  beside : l.self.line ≡ record l.fn.self.line { relay = l.self.line.relay };
+}
+
+abbrev pub decreases-loop-place : goal.decreases-loop-place
+decreases-loop-place g l = length l.self.files - l.place

@@ -1,0 +1,207 @@
+//! A file beside a connection that carries data.
+ghost use Rattle.std.specs.Prelude.{◌≡◌, ◌≢◌, ◌⊎◌, ◌↔◌, List, [], length, true, false, IfOk, OnErr, OnOk};
+ghost use Rattle.modem_data.specs.Passing.{IsOver, Pass};
+ghost use Rattle.modem_data.specs.PipeSets.{IsNotData, OfEachPast};
+ghost use Rattle.data_files.specs.Files.{FileFits, new_file};
+ghost use Rattle.data_files.specs.Moves.{FileMoves, GaveFirst, GivesOn, IsAskedFile, IsOfferedFile, ReadsOn, TurnCame};
+
+use crate::unwritten::Unwritten;
+use modem_data::DataError;
+use modem_data_line::DataLine;
+use mux_frame::Dlci;
+use serial_line::{ReadBuffer, SerialLine};
+use std::alloc::{AllocError, Global};
+use std::marker::Model;
+
+/// A file beside a connection. The file is a line of its own, on which no call waits.
+#[derive(Drop)]
+pub struct DataFile<P: SerialLine> {
+    dlci: Dlci,
+    by_connect: bool,
+    file: P,
+    ungiven: ReadBuffer,
+    unwritten: Unwritten,
+    has_ended: bool,
+    is_broken: bool,
+    is_over: bool,
+}
+
+impl<P: SerialLine> Model for DataFile<P> {
+    ghost use Rattle.data_files.specs.Files.{FileState};
+
+    ghost Value = { FileState P };
+
+    ghost view = { λ f. record {
+      dlci = f.dlci.number;
+      by_connect = f.by_connect;
+      file = f.file;
+      ungiven = f.ungiven;
+      unwritten = f.unwritten;
+      has_ended = f.has_ended;
+      is_broken = f.is_broken;
+      is_over = f.is_over;
+    } };
+}
+
+/// Gives a connection the first of these octets, as many as it takes, and says how many. Refused as `DataLine::give` is.
+#[tactic(auto, using(crate::proofs::Waiting::gave_first, crate::proofs::Waiting::gives_ok, crate::proofs::Waiting::gives_err))]
+fn give<L: SerialLine>(
+    line: &mut DataLine<L>,
+    dlci: Dlci,
+    octets: &mut ReadBuffer,
+) -> Result<usize, DataError>
+    ensures gave { OnOk result (GaveFirst line.old.relay line.new.relay dlci.number octets.old octets.new) }
+    ensures gives { GivesOn line.old.relay.pipes dlci.number octets.old octets.new }
+    ensures beside { line.new ≡ record line.old { relay = line.new.relay } }
+    ensures err { OnErr result ((line.new ≡ line.old) × (octets.new ≡ octets.old)) }
+{
+    let waiting = octets.as_slice();
+    let length = waiting.len();
+    let count = line.give(dlci, waiting)?;
+    let count = count.min(length);
+    octets.pass(count);
+    Ok(count)
+}
+
+impl<P: SerialLine + Drop> DataFile<P> {
+    /// This file beside this connection, whose data begins behind a CONNECT line or at once. Refusal: no memory.
+    pub fn new(
+        alloc: Global,
+        dlci: Dlci,
+        by_connect: bool,
+        file: P,
+    ) -> Result<DataFile<P>, AllocError>
+        ensures { IfOk result (λ f. f ≡ new_file dlci.number by_connect file) }
+    {
+        let ungiven = ReadBuffer::new(alloc)?;
+        Ok(DataFile {
+            dlci,
+            by_connect,
+            file,
+            ungiven,
+            unwritten: Unwritten::new(),
+            has_ended: false,
+            is_broken: false,
+            is_over: false,
+        })
+    }
+}
+
+impl<P: SerialLine> DataFile<P> {
+    /// The connection.
+    pub fn dlci(&self) -> Dlci
+        ensures { result.number ≡ self.now.dlci }
+    {
+        self.dlci
+    }
+
+    /// The file, for what comes after. Octets that wait are dropped.
+    pub fn into_file(self) -> P
+        ensures { result ≡ self.file }
+    {
+        let DataFile { file, .. } = self;
+        file
+    }
+
+    /// Whether its data begins behind a CONNECT line.
+    pub fn is_by_connect(&self) -> bool
+        ensures { result ≡ self.now.by_connect }
+    {
+        self.by_connect
+    }
+
+    /// Reads the file once, where none of its octets wait to be given.
+    #[tactic(auto, using(crate::proofs::FileSteps::came_of_file))]
+    fn read_file(&mut self)
+        ensures fits { (past : List Pass) → FileFits P.received P.sent past self.old → FileFits P.received P.sent past self.new }
+        ensures same { self.new ≡ record self.old {
+          file = self.new.file;
+          ungiven = self.new.ungiven;
+          has_ended = self.new.has_ended;
+        } }
+        ensures asked { self.old.ungiven ≡ [] → self.old.has_ended ≡ false → IsAskedFile P.received P.empty_reads self.old self.new }
+        ensures still { self.old.ungiven ≢ [] → self.new ≡ self.old }
+        ensures none_went { (P.sent self.new.file ≡ P.sent self.old.file) × (P.stalled_writes self.new.file ≡ P.stalled_writes self.old.file) }
+    {
+        if self.has_ended || !self.ungiven.is_empty() {
+            return;
+        }
+        if self.ungiven.read(&mut self.file).is_err() {
+            self.has_ended = true;
+        }
+    }
+
+    /// Gives the connection octets that wait for it, and says whether it took some.
+    #[tactic(auto, using(crate::proofs::FileSteps::gives, crate::proofs::FileSteps::moves_same))]
+    fn give<L: SerialLine>(&mut self, line: &mut DataLine<L>) -> bool
+        ensures moves { FileMoves L.received L.sent P.received P.sent line.old line.new self.old self.new }
+        ensures same { self.new ≡ record self.old { ungiven = self.new.ungiven } }
+        ensures beside { line.new ≡ record line.old { relay = line.new.relay } }
+        ensures gives { GivesOn line.old.relay.pipes self.old.dlci self.old.ungiven self.new.ungiven }
+    {
+        match give(line, self.dlci, &mut self.ungiven) {
+            Ok(count) => count > 0,
+            Err(_) => false,
+        }
+    }
+
+    /// Reads data of the connection, where none waits for the file, and says whether some came.
+    #[tactic(auto, using(crate::proofs::FileSteps::takes, crate::proofs::FileSteps::moves_same))]
+    fn take<L: SerialLine>(&mut self, line: &mut DataLine<L>) -> bool
+        ensures moves { FileMoves L.received L.sent P.received P.sent line.old line.new self.old self.new }
+        ensures same { self.new ≡ record self.old { unwritten = self.new.unwritten; is_over = self.new.is_over } }
+        ensures beside { line.new ≡ record line.old { relay = line.new.relay } }
+        ensures reads { self.old.unwritten ≡ [] → ReadsOn line.old.relay.pipes self.old.dlci self.new.unwritten }
+        ensures over { self.old.unwritten ≡ [] → IsNotData line.old.relay.pipes self.old.dlci
+            ⊎ OfEachPast line.new.relay.pipes (λ past. self.new.is_over ≡ true ↔ IsOver self.old.dlci past) }
+        ensures still { self.old.unwritten ≢ [] → self.new ≡ self.old }
+    {
+        if !self.unwritten.is_empty() {
+            return false;
+        }
+        let Ok(over) = self.unwritten.read(line, self.dlci) else {
+            return false;
+        };
+        self.is_over = over;
+        !self.unwritten.is_empty()
+    }
+
+    /// Writes octets that wait to the file, once, and says whether it took some.
+    #[tactic(auto, using(crate::proofs::FileSteps::went_to_file))]
+    fn write_file(&mut self) -> bool
+        ensures fits { (past : List Pass) → FileFits P.received P.sent past self.old → FileFits P.received P.sent past self.new }
+        ensures same { self.new ≡ record self.old {
+          file = self.new.file;
+          unwritten = self.new.unwritten;
+          is_broken = self.new.is_broken;
+        } }
+        ensures offered { self.old.unwritten ≢ [] → IsOfferedFile P.sent P.stalled_writes self.old self.new }
+        ensures still { self.old.unwritten ≡ [] → self.new ≡ self.old }
+        ensures none_came { (P.received self.new.file ≡ P.received self.old.file) × (P.empty_reads self.new.file ≡ P.empty_reads self.old.file) }
+    {
+        if self.is_broken || self.unwritten.is_empty() {
+            return false;
+        }
+        match self.unwritten.write(&mut self.file) {
+            Ok(count) => count > 0,
+            Err(_) => {
+                self.is_broken = true;
+                false
+            }
+        }
+    }
+
+    /// Moves octets between the connection and its file, both ways, and says whether any moved.
+    #[tactic(auto, using(crate::proofs::FileSteps::moves_then, crate::proofs::FileSteps::moves_file, crate::proofs::FileSteps::turn_came))]
+    pub(crate) fn move_on<L: SerialLine>(&mut self, line: &mut DataLine<L>) -> bool
+        ensures moves { FileMoves L.received L.sent P.received P.sent line.old line.new self.old self.new }
+        ensures beside { line.new ≡ record line.old { relay = line.new.relay } }
+        ensures turn { TurnCame P.received P.sent P.empty_reads P.stalled_writes self.old self.new }
+    {
+        self.read_file();
+        let gave = self.give(line);
+        let took = self.take(line);
+        let wrote = self.write_file();
+        gave | took | wrote
+    }
+}
