@@ -3,6 +3,7 @@ use Rattle.std.specs.Prelude.{◌≡◌, ℕ, ◌≤◌, nat_le, Bool, true, fal
 use Rattle.std.specs.List.{list_all, list_any}
 use Rattle.mux_capture.specs.declared.packet.Direction.TheVariants.{ToModem}
 use Rattle.mux_capture.specs.declared.packet.Stamp.{Stamp}
+use Rattle.mux_station.specs.declared.role.Role.TheVariants.{Initiator, Responder}
 use Rattle.mux_station.specs.Acts as station
 use Rattle.mux_station.specs.Messages.{cld, brings_command}
 use Rattle.modem_desk.specs.declared.request.Ask.{Ask}
@@ -13,8 +14,8 @@ use Rattle.modem_history.specs.Calls.{Setting}
 use Rattle.modem_history.specs.TwoEnds.{AsksOnce, TakesCommandLines, frames_sent}
 use Rattle.modem_history.specs.Wholes.{taken_requests}
 use Rattle.modem_show.specs.declared.rule.Rule.TheVariants.{Unasked, Unopened, TooLong, Astray}
-use Rattle.modem_show.specs.Judging.{is_text}
-use Rattle.show_laws.specs.Lines.{IsLawfulLine, LineAct, NoneBreaks, NoneBreaksIn, captured, driver_past, modem_past}
+use Rattle.modem_show.specs.Judging.{is_text, unanswered}
+use Rattle.show_laws.specs.Lines.{IsDone, IsLawfulLine, ReadsWhileOpen, LineAct, NoneBreaks, NoneBreaksIn, captured, driver_past, modem_past}
 
 -- each answer answers something that waits for it, whatever N1 the line is judged by
 unfoldable pub AnswersAsks : Setting → ℕ → List LineAct → Type 0
@@ -63,3 +64,12 @@ unfoldable pub SendsWhileOpen : Setting → ℕ → List LineAct → Type 0
 SendsWhileOpen s n1 line =
     IsLawfulLine s n1 line → AsksOnce (wire (driver_past line)) → NeverClosesDown (modem_past line)
     → (stamps : ℕ → Stamp) (most : ℕ) → NoneBreaksIn ToModem Unopened most (captured stamps line)
+
+-- ## Answers
+
+-- where nothing is under way each ask was answered, where each control command came while 0 was open
+unfoldable pub AnswersAll : Setting → ℕ → List LineAct → Type 0
+AnswersAll s n1 line =
+    IsLawfulLine s n1 line → IsDone s n1 line → ReadsWhileOpen Initiator (wire (driver_past line)) → ReadsWhileOpen Responder (modem_past line)
+    → (stamps : ℕ → Stamp)
+    → (unanswered Initiator (captured stamps line) ≡ []) × (unanswered Responder (captured stamps line) ≡ [])

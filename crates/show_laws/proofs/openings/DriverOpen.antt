@@ -49,7 +49,7 @@ asked_most t stamp f asks = by_test (is_ask f)
     by_test true = omega arith
     by_test false = omega arith
 
-removed_fewer : (t p : Frame → Bool) (asks : List Ask) → many_asks t (remove asks (position_or_len (λ a. p a.frame) asks)) ≤ many_asks t asks
+pub removed_fewer : (t p : Frame → Bool) (asks : List Ask) → many_asks t (remove asks (position_or_len (λ a. p a.frame) asks)) ≤ many_asks t asks
 removed_fewer t p [] = omega arith
 removed_fewer t p (a ∷ asks) = by_test (p a.frame) (removed_fewer t p asks)
   where
