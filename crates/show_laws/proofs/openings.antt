@@ -5,3 +5,5 @@ pub mod QuietFrames
 pub mod DriverFollows
 pub mod DriverOpen
 pub mod NoneUnopened
+pub mod DriverStates
+pub mod DiscBehindUa
