@@ -7,3 +7,4 @@ pub mod DriverOpen
 pub mod NoneUnopened
 pub mod DriverStates
 pub mod DiscBehindUa
+pub mod FreshAsks
