@@ -8,3 +8,4 @@ pub mod NoneUnopened
 pub mod DriverStates
 pub mod DiscBehindUa
 pub mod FreshAsks
+pub mod ModemFollows
