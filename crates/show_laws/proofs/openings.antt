@@ -9,3 +9,5 @@ pub mod DriverStates
 pub mod DiscBehindUa
 pub mod FreshAsks
 pub mod ModemFollows
+pub mod ResponderCalls
+pub mod ModemOpen

@@ -77,7 +77,7 @@ driver_shaped s past l =
     let none = none_many (frames_got (wire past)) in
     all_shaped (frames_sent (wire past)) (omega (arith, few, none))
 
-modem_shaped : (n1 : ℕ) (past : List station.Act) → StationLawful (responding n1) past → list_all is_shaped (frames_sent past) ≡ true
+pub modem_shaped : (n1 : ℕ) (past : List station.Act) → StationLawful (responding n1) past → list_all is_shaped (frames_sent past) ≡ true
 modem_shaped n1 past l =
     let few = station_sends AnyProbe (responding n1) misshapen (λ (f : Frame). false) (shapes_balanced n1 Responder) past l in
     let none = none_many (frames_got past) in

@@ -92,7 +92,7 @@ not_answered d a f sabm h =
     apart true true false k = refl
     apart true true true k = let e : true ≡ false = k refl refl in cc
 
-off_first : (x y : Bool) → x ≡ false → (x && y) ≡ false
+pub off_first : (x y : Bool) → x ≡ false → (x && y) ≡ false
 off_first true y e = cc
 off_first false y e = refl
 
