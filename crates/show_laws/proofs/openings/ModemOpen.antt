@@ -13,10 +13,11 @@ use Rattle.mux_station.specs.Acts as station
 use Rattle.mux_station.specs.Messages.{Message, cld, brings_command, brings_response, is_command, message_in, message_of, nsc, octet_is}
 use Rattle.mux_station.specs.Opening.{ends, ends_itself, is_mode_frame_on, is_open, standings}
 use Rattle.mux_station.specs.Sending.{Sends, StationLawful, called_frames, frames_seeing, is_loss, owed_frames, refused, station_view}
-use Rattle.mux_station.specs.States.{State, IsShut, IsOpening, IsOpened, IsClosing, IsStopping, at_answered, at_close_down, at_sent, at_tick, is_opened, is_stopping, own_after, state_of}
+use Rattle.mux_station.specs.States.{State, IsShut, IsOpening, IsOpened, IsClosing, IsStopping, at_answered, at_close_down, at_sent, at_tick, is_opened, is_stopping, own_after, state_of, states}
 use Rattle.mux_station.specs.Tables.{by_frame}
 use Rattle.mux_station.specs.Written.{is_data_frame, is_kind, is_on}
 use Rattle.mux_station.proofs.states.OpenByPlaces.{zero_same}
+use Rattle.mux_station.proofs.states.StatesAfterActs.{zero_own}
 use Rattle.mux_station.proofs.states.OpenedStates.{opened_is_open}
 use Rattle.modem_history.specs.Acts as driver
 use Rattle.modem_history.specs.Acts.{wire}
@@ -175,5 +176,161 @@ has_fresh s n1 d stamps line h =
 
 -- ## The modem's states
 
-never_stops : (past : List station.Act) → OpensAndClosesNothing past → is_stopping (state_of Responder 0 past) ≡ false
-never_stops past h = ?
+sent_going : (s : State) (k : Kind) → is_stopping s ≡ false → is_stopping (at_sent s k) ≡ false
+sent_going IsShut Sabm h = refl
+sent_going IsShut Ua h = refl
+sent_going IsShut Dm h = refl
+sent_going IsShut Disc h = refl
+sent_going IsShut Uih h = refl
+sent_going (IsOpening n) Sabm h = refl
+sent_going (IsOpening n) Ua h = refl
+sent_going (IsOpening n) Dm h = refl
+sent_going (IsOpening n) Disc h = refl
+sent_going (IsOpening n) Uih h = refl
+sent_going IsOpened Sabm h = refl
+sent_going IsOpened Ua h = refl
+sent_going IsOpened Dm h = refl
+sent_going IsOpened Disc h = refl
+sent_going IsOpened Uih h = refl
+sent_going (IsClosing n) Sabm h = refl
+sent_going (IsClosing n) Ua h = refl
+sent_going (IsClosing n) Dm h = refl
+sent_going (IsClosing n) Disc h = refl
+sent_going (IsClosing n) Uih h = refl
+sent_going (IsStopping n) k h = let x : true ≡ false = h in cc
+
+got_going : (s : State) (k : Kind) → is_stopping s ≡ false → is_stopping (at_answered true s k) ≡ false
+got_going IsShut Sabm h = refl
+got_going IsShut Ua h = refl
+got_going IsShut Dm h = refl
+got_going IsShut Disc h = refl
+got_going IsShut Uih h = refl
+got_going (IsOpening n) Sabm h = refl
+got_going (IsOpening n) Ua h = refl
+got_going (IsOpening n) Dm h = refl
+got_going (IsOpening n) Disc h = refl
+got_going (IsOpening n) Uih h = refl
+got_going IsOpened Sabm h = refl
+got_going IsOpened Ua h = refl
+got_going IsOpened Dm h = refl
+got_going IsOpened Disc h = refl
+got_going IsOpened Uih h = refl
+got_going (IsClosing n) Sabm h = refl
+got_going (IsClosing n) Ua h = refl
+got_going (IsClosing n) Dm h = refl
+got_going (IsClosing n) Disc h = refl
+got_going (IsClosing n) Uih h = refl
+got_going (IsStopping n) k h = let x : true ≡ false = h in cc
+
+down_going : (a b : Bool) (s : State) → is_stopping s ≡ false → is_stopping (at_close_down a b s) ≡ false
+down_going true b IsOpened h = refl
+down_going false b IsOpened h = refl
+down_going a b IsShut h = refl
+down_going a b (IsOpening n) h = refl
+down_going a b (IsClosing n) h = refl
+down_going a b (IsStopping n) h = let x : true ≡ false = h in cc
+
+tick_going : (s : State) → is_stopping s ≡ false → is_stopping (at_tick s) ≡ false
+tick_going IsShut h = refl
+tick_going (IsOpening n) h = refl
+tick_going IsOpened h = refl
+tick_going (IsClosing n) h = either (n == 3)
+  where
+    either : (b : Bool) → is_stopping (if b then IsShut else IsClosing n) ≡ false
+    either true = refl
+    either false = refl
+tick_going (IsStopping n) h = let x : true ≡ false = h in cc
+
+going : (s : State) (a : station.Act) → (is_stopping s ≡ false) → list_any opens_or_closes (frames_sent (a ∷ [])) ≡ false → is_stopping (own_after Responder 0 true s a) ≡ false
+going s (station.Called c) h k = h
+going s station.Given h k = h
+going s station.Lost h k = refl
+going s station.Tick h k = tick_going s h
+going s (station.Sent f) h k = by_cld (brings_command cld f) (or_parts (is_mode_command f) (brings_command cld f) (or_parts (opens_or_closes f) false k).0).1
+  where
+    by_here : (b : Bool) → is_stopping (if b then at_sent s f.kind else s) ≡ false
+    by_here true = sent_going s f.kind h
+    by_here false = h
+
+    by_cld : (b : Bool) → b ≡ false → is_stopping (if b then IsStopping 0 else (if f.dlci == 0 then at_sent s f.kind else s)) ≡ false
+    by_cld true e = cc
+    by_cld false e = by_here (f.dlci == 0)
+going s (station.Got f) h k = by_here (f.dlci == 0)
+  where
+    by_here : (b : Bool) → is_stopping (if b then at_close_down (brings_command cld f) (brings_response cld f) (at_answered true s f.kind) else s) ≡ false
+    by_here true = down_going (brings_command cld f) (brings_response cld f) (at_answered true s f.kind) (got_going s f.kind h)
+    by_here false = h
+
+steady_one : (a : station.Act) (past : List station.Act) → OpensAndClosesNothing (a ∷ past) → list_any opens_or_closes (frames_sent (a ∷ [])) ≡ false
+steady_one (station.Sent f) past h = ap (λ (b : Bool). b || false) (or_parts (opens_or_closes f) (list_any opens_or_closes (frames_sent past)) h).0
+steady_one (station.Called c) past h = refl
+steady_one (station.Got f) past h = refl
+steady_one station.Tick past h = refl
+steady_one station.Lost past h = refl
+steady_one station.Given past h = refl
+
+pub never_stops : (past : List station.Act) → OpensAndClosesNothing past → is_stopping (state_of Responder 0 past) ≡ false
+never_stops [] h = refl
+never_stops (a ∷ past) h =
+    let before : is_stopping (states Responder 0 past).zero ≡ false = ap is_stopping (sym (zero_own Responder past)) ∙ never_stops past (steady_before a past h) in
+    going (states Responder 0 past).zero a before (steady_one a past h)
+
+-- ## Below 0
+
+itself_zero : (z : Bool) (a : station.Act) (d : ℕ) → (d == 0) ≡ false → ends z d a ≡ false → ends z 0 a ≡ false
+itself_zero z a d apart h =
+    let p = or_parts (ends_itself z d a) (not (d == 0) && ends_itself z 0 a) h in
+    let q : ends_itself z 0 a ≡ false = sym (ap (λ (b : Bool). not b && ends_itself z 0 a) apart) ∙ p.1 in
+    last (ends_itself z 0 a) q
+  where
+    last : (x : Bool) → x ≡ false → (x || false) ≡ false
+    last true e = cc
+    last false e = refl
+
+unended : (o e : Bool) → (o && not e) ≡ true → (o ≡ true) × (e ≡ false)
+unended true false h = (refl, refl)
+unended true true h = cc
+unended false e h = cc
+
+kept_zero : (x z e : Bool) → z ≡ true → e ≡ false → (x || (z && not e)) ≡ true
+kept_zero true z e h k = refl
+kept_zero false true false h k = refl
+kept_zero false true true h k = cc
+kept_zero false false e h k = cc
+
+sabm_elsewhere : (z : Bool) (d : ℕ) (f : Frame) → is_on Sabm d f ≡ true → (d == 0) ≡ false → ends z 0 (station.Got f) ≡ false
+sabm_elsewhere z d f is apart =
+    let p = and_parts (is_kind f.kind Sabm) (f.dlci == d) is in
+    let away : (f.dlci == 0) ≡ false = ap (λ n. n == 0) (eqb-true f.dlci d p.1) ∙ apart in
+    by_kind f.kind (f.dlci == 0) (octet_is (λ n. n) cld (message_of f.info)) p.0 away
+  where
+    by_kind : (k : Kind) (x c : Bool) → is_kind k Sabm ≡ true → x ≡ false → (((is_kind k Disc && x) || ((is_kind k Dm && x) || ((is_kind k Sabm && x) || (z && ((is_kind k Uih && x) && c))))) || false) ≡ false
+    by_kind Sabm true c h e = cc
+    by_kind Sabm false c h e = by_zero z
+      where
+        by_zero : (z : Bool) → ((false || (false || (false || (z && ((false && false) && c))))) || false) ≡ false
+        by_zero true = refl
+        by_zero false = refl
+    by_kind Ua x c h e = cc
+    by_kind Dm x c h e = cc
+    by_kind Disc x c h e = cc
+    by_kind Uih x c h e = cc
+
+zero_open : (d : ℕ) (past : List station.Act) → (d == 0) ≡ false → open_m d past ≡ true → zero_m d past ≡ true
+zero_open d [] apart o = cc
+zero_open d (station.Got f ∷ past) apart o =
+    let z = zero_m d past in
+    or_elim (is_on Sabm d f && ((d == 0) || z)) (open_m d past && not (ends z d (station.Got f))) o
+    (λ s.
+      let p = and_parts (is_on Sabm d f) ((d == 0) || z) s in
+      let there : z ≡ true = sym (ap (λ (b : Bool). b || z) apart) ∙ p.1 in
+      kept_zero (is_on Sabm 0 f && true) z (ends z 0 (station.Got f)) there (sabm_elsewhere z d f p.0 apart))
+    (λ s. let p = unended (open_m d past) (ends z d (station.Got f)) s in kept_zero (is_on Sabm 0 f && true) z (ends z 0 (station.Got f)) (zero_open d past apart p.0) (itself_zero z (station.Got f) d apart p.1))
+zero_open d (station.Sent f ∷ past) apart o = let z = zero_m d past in let p = unended (open_m d past) (ends z d (station.Sent f)) o in kept_zero false z (ends z 0 (station.Sent f)) (zero_open d past apart p.0) (itself_zero z (station.Sent f) d apart p.1)
+zero_open d (station.Called c ∷ past) apart o = let z = zero_m d past in let p = unended (open_m d past) (ends z d (station.Called c)) o in kept_zero false z (ends z 0 (station.Called c)) (zero_open d past apart p.0) (itself_zero z (station.Called c) d apart p.1)
+zero_open d (station.Tick ∷ past) apart o = let z = zero_m d past in let p = unended (open_m d past) (ends z d station.Tick) o in kept_zero false z (ends z 0 station.Tick) (zero_open d past apart p.0) (itself_zero z station.Tick d apart p.1)
+zero_open d (station.Lost ∷ past) apart o = let z = zero_m d past in let p = unended (open_m d past) (ends z d station.Lost) o in kept_zero false z (ends z 0 station.Lost) (zero_open d past apart p.0) (itself_zero z station.Lost d apart p.1)
+zero_open d (station.Given ∷ past) apart o = let z = zero_m d past in let p = unended (open_m d past) (ends z d station.Given) o in kept_zero false z (ends z 0 station.Given) (zero_open d past apart p.0) (itself_zero z station.Given d apart p.1)
+
+pub above : (d : ℕ) (past : List station.Act) → (d == 0) ≡ false → open_m d past ≡ true → open_m 0 past ≡ true
+above d past apart o = sym (zero_same Responder d past) ∙ zero_open d past apart o
