@@ -4,3 +4,5 @@ pub mod asks
 pub mod sizes
 pub mod texts
 pub mod openings
+pub mod rows
+pub mod answered

@@ -5,3 +5,9 @@ pub mod QuietFrames
 pub mod DriverFollows
 pub mod DriverOpen
 pub mod NoneUnopened
+pub mod DriverStates
+pub mod DiscBehindUa
+pub mod FreshAsks
+pub mod ModemFollows
+pub mod ResponderCalls
+pub mod ModemOpen

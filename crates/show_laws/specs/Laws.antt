@@ -1,10 +1,13 @@
 -- What is never wrong with a frame of a lawful line.
-use Rattle.std.specs.Prelude.{◌≡◌, ℕ, ◌≤◌, nat_le, Bool, true, false, List, [], ◌∷◌, length}
+use Rattle.std.specs.Prelude.{◌≡◌, ℕ, ◌≤◌, ◌||◌, nat_le, Bool, true, false, List, [], ◌∷◌, length}
 use Rattle.std.specs.List.{list_all, list_any}
 use Rattle.mux_capture.specs.declared.packet.Direction.TheVariants.{ToModem}
 use Rattle.mux_capture.specs.declared.packet.Stamp.{Stamp}
+use Rattle.mux_station.specs.declared.role.Role.TheVariants.{Initiator, Responder}
 use Rattle.mux_station.specs.Acts as station
+use Rattle.mux_frame.specs.Frames.{Frame}
 use Rattle.mux_station.specs.Messages.{cld, brings_command}
+use Rattle.mux_station.specs.Sending.{StationSetting, is_loss, owed_frames}
 use Rattle.modem_desk.specs.declared.request.Ask.{Ask}
 use Rattle.modem_desk.specs.declared.request.Ask.TheVariants.{Probe}
 use Rattle.modem_history.specs.Acts as driver
@@ -13,8 +16,9 @@ use Rattle.modem_history.specs.Calls.{Setting}
 use Rattle.modem_history.specs.TwoEnds.{AsksOnce, TakesCommandLines, frames_sent}
 use Rattle.modem_history.specs.Wholes.{taken_requests}
 use Rattle.modem_show.specs.declared.rule.Rule.TheVariants.{Unasked, Unopened, TooLong, Astray}
-use Rattle.modem_show.specs.Judging.{is_text}
-use Rattle.show_laws.specs.Lines.{IsLawfulLine, LineAct, NoneBreaks, NoneBreaksIn, captured, driver_past, modem_past}
+use Rattle.modem_show.specs.Asking.{is_mode_command}
+use Rattle.modem_show.specs.Judging.{is_text, unanswered}
+use Rattle.show_laws.specs.Lines.{IsDone, IsLawfulLine, ReadsWhileOpen, LineAct, NoneBreaks, NoneBreaksIn, captured, driver_past, modem_past, responding}
 
 -- each answer answers something that waits for it, whatever N1 the line is judged by
 unfoldable pub AnswersAsks : Setting → ℕ → List LineAct → Type 0
@@ -63,3 +67,34 @@ unfoldable pub SendsWhileOpen : Setting → ℕ → List LineAct → Type 0
 SendsWhileOpen s n1 line =
     IsLawfulLine s n1 line → AsksOnce (wire (driver_past line)) → NeverClosesDown (modem_past line)
     → (stamps : ℕ → Stamp) (most : ℕ) → NoneBreaksIn ToModem Unopened most (captured stamps line)
+
+-- ## Answers
+
+-- where nothing is under way each ask was answered, where each control command came while 0 was open
+unfoldable pub AnswersAll : Setting → ℕ → List LineAct → Type 0
+AnswersAll s n1 line =
+    IsLawfulLine s n1 line → IsDone s n1 line → ReadsWhileOpen Initiator (wire (driver_past line)) → ReadsWhileOpen Responder (modem_past line)
+    → (stamps : ℕ → Stamp)
+    → (unanswered Initiator (captured stamps line) ≡ []) × (unanswered Responder (captured stamps line) ≡ [])
+
+-- no SABM, DISC or CLD was sent
+abbrev pub opens_or_closes : Frame → Bool
+opens_or_closes f = is_mode_command f || brings_command cld f
+
+abbrev pub OpensAndClosesNothing : List station.Act → Type 0
+OpensAndClosesNothing past = list_any opens_or_closes (frames_sent past) ≡ false
+
+-- all that an act calls for was sent before the next one
+abbrev pub IsPrompt : StationSetting → List station.Act → Type 0
+IsPrompt s [] = Unit {0}
+IsPrompt s (station.Sent f ∷ past) = IsPrompt s past
+IsPrompt s (station.Given ∷ past) = IsPrompt s past
+IsPrompt s (a ∷ past) = (owed_frames s past ≡ []) × IsPrompt s past
+
+-- Neither end sends data on a connection that isn't open, where the driver asks for each connection once at most, and the modem is
+-- prompt, opens and closes nothing by itself, and isn't told of a loss of the line.
+unfoldable pub BothSendWhileOpen : Setting → ℕ → List LineAct → Type 0
+BothSendWhileOpen s n1 line =
+    IsLawfulLine s n1 line → AsksOnce (wire (driver_past line)) → OpensAndClosesNothing (modem_past line)
+    → IsPrompt (responding n1) (modem_past line) → list_any is_loss (modem_past line) ≡ false
+    → (stamps : ℕ → Stamp) (most : ℕ) → NoneBreaks Unopened most (captured stamps line)

@@ -1,21 +1,25 @@
 -- A line between a driver and a modem that keeps the responder's tables, and what a capture has of it (27.010, 5.4).
-use Rattle.std.specs.Prelude.{◌≡◌, ℕ, Bool, false, List, [], ◌∷◌, length, reverse, if◌then◌else◌}
+use Rattle.std.specs.Prelude.{◌≡◌, ℕ, Bool, true, false, List, [], ◌∷◌, length, reverse, if◌then◌else◌}
 use Rattle.std.specs.List.{list_any}
 use Rattle.mux_frame.specs.Frames.{Frame}
 use Rattle.mux_capture.specs.declared.packet.Direction.{Direction}
 use Rattle.mux_capture.specs.declared.packet.Direction.TheVariants.{ToModem, FromModem}
 use Rattle.mux_capture.specs.declared.packet.Stamp.{Stamp}
 use Rattle.mux_capture.specs.Passing.{Caught, is_same}
+use Rattle.mux_station.specs.declared.role.Role.{Role}
 use Rattle.mux_station.specs.declared.role.Role.TheVariants.{Initiator, Responder}
 use Rattle.mux_station.specs.Acts as station
-use Rattle.mux_station.specs.Sending.{StationSetting, StationLawful}
+use Rattle.mux_station.specs.Sending.{StationSetting, StationLawful, StationComplete, is_loss}
+use Rattle.mux_station.specs.Messages.{message_in}
+use Rattle.mux_station.specs.Opening.{is_open}
 use Rattle.modem_history.specs.Acts as driver
 use Rattle.modem_history.specs.Acts.{wire}
-use Rattle.modem_history.specs.Calls.{Setting}
-use Rattle.modem_history.specs.Lawful.{Lawful}
-use Rattle.modem_history.specs.TwoEnds.{ComesInOrder}
+use Rattle.modem_history.specs.Calls.{Setting, is_lost}
+use Rattle.modem_history.specs.Lawful.{Lawful, Complete}
+use Rattle.modem_history.specs.TwoEnds.{ComesInOrder, frames_got, frames_sent}
 use Rattle.modem_show.specs.declared.faults.Faults.{Faults}
 use Rattle.modem_show.specs.declared.rule.Rule.{Rule}
+use Rattle.modem_show.specs.Asking.{message_asks}
 use Rattle.modem_show.specs.Judging.{faults_from, faults_of}
 use Rattle.modem_show.specs.Rules.{breaks}
 use Rattle.modem_show.specs.Ways.{caught}
@@ -87,3 +91,20 @@ faults_in d n1 line (c ∷ more) =
 -- none of these frames that goes this way breaks the rule
 abbrev pub NoneBreaksIn : Direction → Rule → ℕ → List Caught → Type 0
 NoneBreaksIn d rule n1 line = list_any (λ f. breaks f rule) (faults_in d n1 [] (reverse line)) ≡ false
+
+-- ## Its end
+
+-- each control command that comes to an end comes while 0 is open there: neither end has closed down before it
+abbrev pub ReadsWhileOpen : Role → List station.Act → Type 0
+ReadsWhileOpen r [] = Unit {0}
+ReadsWhileOpen r (station.Got f ∷ past) = (message_asks (message_in f) ≡ true → is_open r 0 past ≡ true) × ReadsWhileOpen r past
+ReadsWhileOpen r (_ ∷ past) = ReadsWhileOpen r past
+
+-- nothing is under way: the line wasn't lost, nothing is owed, and all that was sent has come
+pub record IsDone (s : Setting) (n1 : ℕ) (line : List LineAct) : Type 0 where
+  pub driver_live : is_lost (driver_past line) ≡ false
+  pub modem_live : list_any is_loss (modem_past line) ≡ false
+  pub driver_complete : Complete s (driver_past line)
+  pub modem_complete : StationComplete (responding n1) (modem_past line)
+  pub at_driver : frames_got (wire (driver_past line)) ≡ frames_sent (modem_past line)
+  pub at_modem : frames_got (modem_past line) ≡ frames_sent (wire (driver_past line))

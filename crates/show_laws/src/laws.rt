@@ -2,7 +2,8 @@
 ghost use Rattle.std.specs.Prelude.{ℕ, List};
 ghost use Rattle.modem_history.specs.Calls.{Setting};
 ghost use Rattle.show_laws.specs.Lines.{LineAct};
-ghost use Rattle.show_laws.specs.Laws.{AnswersAsks, CarriesText, FitsN1, SendsWhileOpen};
+ghost use Rattle.show_laws.specs.LineRows.{AreRight};
+ghost use Rattle.show_laws.specs.Laws.{AnswersAll, AnswersAsks, CarriesText, FitsN1, SendsWhileOpen};
 
 /// No frame between a driver that keeps its laws and a modem that keeps the responder's tables is judged an answer that nothing waits
 /// for.
@@ -30,4 +31,18 @@ pub fn texts()
 #[tactic(auto, using(crate::proofs::openings::NoneUnopened::sends_while_open))]
 pub fn openings()
     ensures { (s : Setting) (n1 : ℕ) (line : List LineAct) → SendsWhileOpen s n1 line }
+{}
+
+/// Worked lines that are lawful, on which no frame is judged wrong and nothing is left unanswered: a command and a stop, and a stop while a
+/// connection is being opened.
+#[tactic(auto, using(crate::proofs::rows::LineRowFacts::are_right))]
+pub fn worked_lines()
+    ensures { AreRight }
+{}
+
+/// Where nothing is under way on such a line no ask is judged unanswered, where each control command came while 0 was open at the end to
+/// which it came.
+#[tactic(auto, using(crate::proofs::answered::NoneWaits::answers_all))]
+pub fn answered()
+    ensures { (s : Setting) (n1 : ℕ) (line : List LineAct) → AnswersAll s n1 line }
 {}

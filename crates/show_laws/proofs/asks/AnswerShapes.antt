@@ -98,11 +98,11 @@ answered_asks f g h =
 
 -- ## The one response
 
-abbrev response_octet : Bool → ℕ → ℕ
+abbrev pub response_octet : Bool → ℕ → ℕ
 response_octet true octet = response_of octet
 response_octet false octet = response_of nsc
 
-abbrev response_value : Bool → Message → List ℕ
+abbrev pub response_value : Bool → Message → List ℕ
 response_value true a = a.value
 response_value false a = a.octet ∷ []
 

@@ -77,7 +77,7 @@ driver_shaped s past l =
     let none = none_many (frames_got (wire past)) in
     all_shaped (frames_sent (wire past)) (omega (arith, few, none))
 
-modem_shaped : (n1 : ℕ) (past : List station.Act) → StationLawful (responding n1) past → list_all is_shaped (frames_sent past) ≡ true
+pub modem_shaped : (n1 : ℕ) (past : List station.Act) → StationLawful (responding n1) past → list_all is_shaped (frames_sent past) ≡ true
 modem_shaped n1 past l =
     let few = station_sends AnyProbe (responding n1) misshapen (λ (f : Frame). false) (shapes_balanced n1 Responder) past l in
     let none = none_many (frames_got past) in
@@ -112,7 +112,7 @@ by_answer : (b c : Bool) → (b ≡ true → c ≡ false) → (b && c) ≡ false
 by_answer true c h = h refl
 by_answer false c h = refl
 
-driver_answers : (s : Setting) (n1 : ℕ) (stamps : ℕ → Stamp) (g : Frame) (line : List LineAct) (stamp : Stamp) → IsLawfulLine s n1 (AtDriver (driver.Sent g) ∷ line) → is_unasked (captured stamps line) (caught stamp ToModem g) ≡ false
+pub driver_answers : (s : Setting) (n1 : ℕ) (stamps : ℕ → Stamp) (g : Frame) (line : List LineAct) (stamp : Stamp) → IsLawfulLine s n1 (AtDriver (driver.Sent g) ∷ line) → is_unasked (captured stamps line) (caught stamp ToModem g) ≡ false
 driver_answers s n1 stamps g line stamp h =
     by_answer (is_answer g) (is_none (answered_by g (waiting Responder (captured stamps line)))) (λ answer.
       let past = driver_past line in
@@ -123,7 +123,7 @@ driver_answers s n1 stamps g line stamp h =
       (driver_sends AnyProbe s (is_alike g) (λ f. answers f g) (answers_balanced s.n1 s.role g answer) (driver.Sent g ∷ past) h.driver_lawful (any_probes (driver.Sent g ∷ past)))
       (came_few (λ f. answers f g) (modem_past line) (wire past) there.at_driver))
 
-modem_answers : (s : Setting) (n1 : ℕ) (stamps : ℕ → Stamp) (g : Frame) (line : List LineAct) (stamp : Stamp) → IsLawfulLine s n1 (AtModem (station.Sent g) ∷ line) → is_unasked (captured stamps line) (caught stamp FromModem g) ≡ false
+pub modem_answers : (s : Setting) (n1 : ℕ) (stamps : ℕ → Stamp) (g : Frame) (line : List LineAct) (stamp : Stamp) → IsLawfulLine s n1 (AtModem (station.Sent g) ∷ line) → is_unasked (captured stamps line) (caught stamp FromModem g) ≡ false
 modem_answers s n1 stamps g line stamp h =
     by_answer (is_answer g) (is_none (answered_by g (waiting Initiator (captured stamps line)))) (λ answer.
       let past = modem_past line in

@@ -52,7 +52,7 @@ sends u acts = many u (frames_in acts)
 pub sends_both : (u : Frame → Bool) (xs ys : List Act) → sends u (xs ++ ys) ≡ sends u xs + sends u ys
 sends_both u xs ys = ap (many u) (in_both xs ys) ∙ many_both u (frames_in xs) (frames_in ys)
 
-sends_mapped : (u : Frame → Bool) (fs : List Frame) → sends u (map Sent fs) ≡ many u fs
+pub sends_mapped : (u : Frame → Bool) (fs : List Frame) → sends u (map Sent fs) ≡ many u fs
 sends_mapped u [] = refl
 sends_mapped u (f ∷ fs) = let e = sends_mapped u fs in omega (arith, e)
 

@@ -1,7 +1,7 @@
 -- What holds of each frame of a line, by what holds at each of its points.
 use Rattle.std.specs.Prelude.{◌≡◌, ℕ, true, false, List, [], ◌∷◌, length, refl}
 use Rattle.mux_frame.specs.Frames.{Frame}
-use Rattle.mux_capture.specs.Passing.{is_same}
+use Rattle.mux_capture.specs.Passing.{Caught}
 use Rattle.mux_capture.specs.declared.packet.Direction.{Direction}
 use Rattle.mux_capture.specs.declared.packet.Direction.TheVariants.{ToModem, FromModem}
 use Rattle.mux_capture.specs.declared.packet.Stamp.{Stamp}
@@ -14,7 +14,7 @@ use Rattle.modem_show.specs.declared.rule.Rule.{Rule}
 use Rattle.modem_show.specs.Judging.{faults_of}
 use Rattle.modem_show.specs.Rules.{breaks}
 use Rattle.modem_show.specs.Ways.{caught}
-use Rattle.show_laws.specs.Lines.{AtDriver, AtModem, IsLawfulLine, LineAct, NoneBreaks, NoneBreaksIn, captured, driver_past, modem_past, responding}
+use Rattle.show_laws.specs.Lines.{AtDriver, AtModem, IsLawfulLine, LineAct, NoneBreaks, NoneBreaksIn, captured, stamped, driver_past, modem_past, responding}
 use Rattle.show_laws.proofs.lines.JudgedFrames.{one_more, one_more_in}
 
 -- ## Each point of the line
@@ -49,52 +49,44 @@ lawful_before s n1 (AtModem a) line h = record {
 
 -- ## All frames
 
+-- what holds of the empty capture, and goes on with each frame that is sent, holds of the whole
+pub over : (P : List LineAct → Type 0) → ((x : LineAct) (line : List LineAct) → P (x ∷ line) → P line) → (Q : List Caught → Type 0) → (stamps : ℕ → Stamp) → Q []
+    → ((f : Frame) (line : List LineAct) → P (AtDriver (driver.Sent f) ∷ line) → Q (captured stamps line) → Q (stamped stamps ToModem f (captured stamps line)))
+    → ((f : Frame) (line : List LineAct) → P (AtModem (station.Sent f) ∷ line) → Q (captured stamps line) → Q (stamped stamps FromModem f (captured stamps line)))
+    → (line : List LineAct) → P line → Q (captured stamps line)
+over P before Q stamps none d m [] h = none
+over P before Q stamps none d m (AtDriver (driver.Sent f) ∷ line) h = d f line h (over P before Q stamps none d m line (before (AtDriver (driver.Sent f)) line h))
+over P before Q stamps none d m (AtModem (station.Sent f) ∷ line) h = m f line h (over P before Q stamps none d m line (before (AtModem (station.Sent f)) line h))
+over P before Q stamps none d m (AtDriver (driver.Took q) ∷ line) h = over P before Q stamps none d m line (before (AtDriver (driver.Took q)) line h)
+over P before Q stamps none d m (AtDriver (driver.Got f) ∷ line) h = over P before Q stamps none d m line (before (AtDriver (driver.Got f)) line h)
+over P before Q stamps none d m (AtDriver (driver.Told o) ∷ line) h = over P before Q stamps none d m line (before (AtDriver (driver.Told o)) line h)
+over P before Q stamps none d m (AtDriver (driver.Heard k e l) ∷ line) h = over P before Q stamps none d m line (before (AtDriver (driver.Heard k e l)) line h)
+over P before Q stamps none d m (AtDriver driver.Tick ∷ line) h = over P before Q stamps none d m line (before (AtDriver driver.Tick) line h)
+over P before Q stamps none d m (AtDriver driver.Lost ∷ line) h = over P before Q stamps none d m line (before (AtDriver driver.Lost) line h)
+over P before Q stamps none d m (AtDriver (driver.Held e) ∷ line) h = over P before Q stamps none d m line (before (AtDriver (driver.Held e)) line h)
+over P before Q stamps none d m (AtDriver (driver.Freed e) ∷ line) h = over P before Q stamps none d m line (before (AtDriver (driver.Freed e)) line h)
+over P before Q stamps none d m (AtDriver driver.Given ∷ line) h = over P before Q stamps none d m line (before (AtDriver driver.Given) line h)
+over P before Q stamps none d m (AtModem (station.Called c) ∷ line) h = over P before Q stamps none d m line (before (AtModem (station.Called c)) line h)
+over P before Q stamps none d m (AtModem (station.Got f) ∷ line) h = over P before Q stamps none d m line (before (AtModem (station.Got f)) line h)
+over P before Q stamps none d m (AtModem station.Tick ∷ line) h = over P before Q stamps none d m line (before (AtModem station.Tick) line h)
+over P before Q stamps none d m (AtModem station.Lost ∷ line) h = over P before Q stamps none d m line (before (AtModem station.Lost) line h)
+over P before Q stamps none d m (AtModem station.Given ∷ line) h = over P before Q stamps none d m line (before (AtModem station.Given) line h)
+
 -- no frame breaks the rule, where none does at the point at which it is sent
 pub every : (P : List LineAct → Type 0) → ((x : LineAct) (line : List LineAct) → P (x ∷ line) → P line) → (rule : Rule) (most : ℕ) (stamps : ℕ → Stamp)
     → ((f : Frame) (line : List LineAct) → P (AtDriver (driver.Sent f) ∷ line) → breaks (faults_of most (captured stamps line) (caught (stamps (length (captured stamps line))) ToModem f)) rule ≡ false)
     → ((f : Frame) (line : List LineAct) → P (AtModem (station.Sent f) ∷ line) → breaks (faults_of most (captured stamps line) (caught (stamps (length (captured stamps line))) FromModem f)) rule ≡ false)
     → (line : List LineAct) → P line → NoneBreaks rule most (captured stamps line)
-every P before rule most stamps d m [] h = refl
-every P before rule most stamps d m (AtDriver (driver.Sent f) ∷ line) h =
-    one_more rule most (caught (stamps (length (captured stamps line))) ToModem f) (captured stamps line) (every P before rule most stamps d m line (before (AtDriver (driver.Sent f)) line h)) (d f line h)
-every P before rule most stamps d m (AtDriver (driver.Took q) ∷ line) h = every P before rule most stamps d m line (before (AtDriver (driver.Took q)) line h)
-every P before rule most stamps d m (AtDriver (driver.Got f) ∷ line) h = every P before rule most stamps d m line (before (AtDriver (driver.Got f)) line h)
-every P before rule most stamps d m (AtDriver (driver.Told o) ∷ line) h = every P before rule most stamps d m line (before (AtDriver (driver.Told o)) line h)
-every P before rule most stamps d m (AtDriver (driver.Heard k e l) ∷ line) h = every P before rule most stamps d m line (before (AtDriver (driver.Heard k e l)) line h)
-every P before rule most stamps d m (AtDriver driver.Tick ∷ line) h = every P before rule most stamps d m line (before (AtDriver driver.Tick) line h)
-every P before rule most stamps d m (AtDriver driver.Lost ∷ line) h = every P before rule most stamps d m line (before (AtDriver driver.Lost) line h)
-every P before rule most stamps d m (AtDriver (driver.Held e) ∷ line) h = every P before rule most stamps d m line (before (AtDriver (driver.Held e)) line h)
-every P before rule most stamps d m (AtDriver (driver.Freed e) ∷ line) h = every P before rule most stamps d m line (before (AtDriver (driver.Freed e)) line h)
-every P before rule most stamps d m (AtDriver driver.Given ∷ line) h = every P before rule most stamps d m line (before (AtDriver driver.Given) line h)
-every P before rule most stamps d m (AtModem (station.Sent f) ∷ line) h =
-    one_more rule most (caught (stamps (length (captured stamps line))) FromModem f) (captured stamps line) (every P before rule most stamps d m line (before (AtModem (station.Sent f)) line h)) (m f line h)
-every P before rule most stamps d m (AtModem (station.Called c) ∷ line) h = every P before rule most stamps d m line (before (AtModem (station.Called c)) line h)
-every P before rule most stamps d m (AtModem (station.Got f) ∷ line) h = every P before rule most stamps d m line (before (AtModem (station.Got f)) line h)
-every P before rule most stamps d m (AtModem station.Tick ∷ line) h = every P before rule most stamps d m line (before (AtModem station.Tick) line h)
-every P before rule most stamps d m (AtModem station.Lost ∷ line) h = every P before rule most stamps d m line (before (AtModem station.Lost) line h)
-every P before rule most stamps d m (AtModem station.Given ∷ line) h = every P before rule most stamps d m line (before (AtModem station.Given) line h)
+every P before rule most stamps d m line h =
+    over P before (NoneBreaks rule most) stamps refl
+    (λ f line k q. one_more rule most (caught (stamps (length (captured stamps line))) ToModem f) (captured stamps line) q (d f line k))
+    (λ f line k q. one_more rule most (caught (stamps (length (captured stamps line))) FromModem f) (captured stamps line) q (m f line k)) line h
 
--- no frame that goes this way does
-pub every_in : (P : List LineAct → Type 0) → ((x : LineAct) (line : List LineAct) → P (x ∷ line) → P line) → (way : Direction) (rule : Rule) (most : ℕ) (stamps : ℕ → Stamp)
-    → ((f : Frame) (line : List LineAct) → P (AtDriver (driver.Sent f) ∷ line) → is_same ToModem way ≡ true → breaks (faults_of most (captured stamps line) (caught (stamps (length (captured stamps line))) ToModem f)) rule ≡ false)
-    → ((f : Frame) (line : List LineAct) → P (AtModem (station.Sent f) ∷ line) → is_same FromModem way ≡ true → breaks (faults_of most (captured stamps line) (caught (stamps (length (captured stamps line))) FromModem f)) rule ≡ false)
-    → (line : List LineAct) → P line → NoneBreaksIn way rule most (captured stamps line)
-every_in P before way rule most stamps d m [] h = refl
-every_in P before way rule most stamps d m (AtDriver (driver.Sent f) ∷ line) h =
-    one_more_in way rule most (caught (stamps (length (captured stamps line))) ToModem f) (captured stamps line) (every_in P before way rule most stamps d m line (before (AtDriver (driver.Sent f)) line h)) (d f line h)
-every_in P before way rule most stamps d m (AtDriver (driver.Took q) ∷ line) h = every_in P before way rule most stamps d m line (before (AtDriver (driver.Took q)) line h)
-every_in P before way rule most stamps d m (AtDriver (driver.Got f) ∷ line) h = every_in P before way rule most stamps d m line (before (AtDriver (driver.Got f)) line h)
-every_in P before way rule most stamps d m (AtDriver (driver.Told o) ∷ line) h = every_in P before way rule most stamps d m line (before (AtDriver (driver.Told o)) line h)
-every_in P before way rule most stamps d m (AtDriver (driver.Heard k e l) ∷ line) h = every_in P before way rule most stamps d m line (before (AtDriver (driver.Heard k e l)) line h)
-every_in P before way rule most stamps d m (AtDriver driver.Tick ∷ line) h = every_in P before way rule most stamps d m line (before (AtDriver driver.Tick) line h)
-every_in P before way rule most stamps d m (AtDriver driver.Lost ∷ line) h = every_in P before way rule most stamps d m line (before (AtDriver driver.Lost) line h)
-every_in P before way rule most stamps d m (AtDriver (driver.Held e) ∷ line) h = every_in P before way rule most stamps d m line (before (AtDriver (driver.Held e)) line h)
-every_in P before way rule most stamps d m (AtDriver (driver.Freed e) ∷ line) h = every_in P before way rule most stamps d m line (before (AtDriver (driver.Freed e)) line h)
-every_in P before way rule most stamps d m (AtDriver driver.Given ∷ line) h = every_in P before way rule most stamps d m line (before (AtDriver driver.Given) line h)
-every_in P before way rule most stamps d m (AtModem (station.Sent f) ∷ line) h =
-    one_more_in way rule most (caught (stamps (length (captured stamps line))) FromModem f) (captured stamps line) (every_in P before way rule most stamps d m line (before (AtModem (station.Sent f)) line h)) (m f line h)
-every_in P before way rule most stamps d m (AtModem (station.Called c) ∷ line) h = every_in P before way rule most stamps d m line (before (AtModem (station.Called c)) line h)
-every_in P before way rule most stamps d m (AtModem (station.Got f) ∷ line) h = every_in P before way rule most stamps d m line (before (AtModem (station.Got f)) line h)
-every_in P before way rule most stamps d m (AtModem station.Tick ∷ line) h = every_in P before way rule most stamps d m line (before (AtModem station.Tick) line h)
-every_in P before way rule most stamps d m (AtModem station.Lost ∷ line) h = every_in P before way rule most stamps d m line (before (AtModem station.Lost) line h)
-every_in P before way rule most stamps d m (AtModem station.Given ∷ line) h = every_in P before way rule most stamps d m line (before (AtModem station.Given) line h)
+-- no frame of the driver does
+pub every_in : (P : List LineAct → Type 0) → ((x : LineAct) (line : List LineAct) → P (x ∷ line) → P line) → (rule : Rule) (most : ℕ) (stamps : ℕ → Stamp)
+    → ((f : Frame) (line : List LineAct) → P (AtDriver (driver.Sent f) ∷ line) → breaks (faults_of most (captured stamps line) (caught (stamps (length (captured stamps line))) ToModem f)) rule ≡ false)
+    → (line : List LineAct) → P line → NoneBreaksIn ToModem rule most (captured stamps line)
+every_in P before rule most stamps d line h =
+    over P before (NoneBreaksIn ToModem rule most) stamps refl
+    (λ f line k q. one_more_in ToModem rule most (caught (stamps (length (captured stamps line))) ToModem f) (captured stamps line) q (λ e. d f line k))
+    (λ f line k q. one_more_in ToModem rule most (caught (stamps (length (captured stamps line))) FromModem f) (captured stamps line) q (λ e. let x : false ≡ true = e in cc)) line h

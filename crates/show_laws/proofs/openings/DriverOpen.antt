@@ -49,7 +49,7 @@ asked_most t stamp f asks = by_test (is_ask f)
     by_test true = omega arith
     by_test false = omega arith
 
-removed_fewer : (t p : Frame → Bool) (asks : List Ask) → many_asks t (remove asks (position_or_len (λ a. p a.frame) asks)) ≤ many_asks t asks
+pub removed_fewer : (t p : Frame → Bool) (asks : List Ask) → many_asks t (remove asks (position_or_len (λ a. p a.frame) asks)) ≤ many_asks t asks
 removed_fewer t p [] = omega arith
 removed_fewer t p (a ∷ asks) = by_test (p a.frame) (removed_fewer t p asks)
   where
@@ -113,7 +113,7 @@ off_kinds false true c false x h k = cc
 off_kinds false false true false x h k = cc
 off_kinds false false false false x h k = refl
 
-quiet_one : (d : ℕ) (f g : Frame) → answers f g ≡ true → is_ending d g ≡ false → brings_command cld f ≡ false → Quiet d f
+pub quiet_one : (d : ℕ) (f g : Frame) → answers f g ≡ true → is_ending d g ≡ false → brings_command cld f ≡ false → Quiet d f
 quiet_one d f g h e no_cld =
     or_elim ((is_mode_command f && is_mode_answer g) && (f.dlci == g.dlci)) (both_respond (message_in f) (message_in g)) h
     (λ k.
@@ -178,7 +178,7 @@ pub record IsOnceLine (s : Setting) (n1 : ℕ) (line : List LineAct) : Type 0 wh
   pub once : AsksOnce (wire (driver_past line))
   pub stays : NeverClosesDown (modem_past line)
 
-once_before : (a : Act) (past : List Act) → AsksOnce (wire (a ∷ past)) → AsksOnce (wire past)
+pub once_before : (a : Act) (past : List Act) → AsksOnce (wire (a ∷ past)) → AsksOnce (wire past)
 once_before (Sent f) past h = λ d. asks_fewer d f (frames_sent (wire past)) (h d)
 once_before (Took q) past h = h
 once_before (Got f) past h = h

@@ -24,10 +24,10 @@ use Rattle.show_laws.proofs.asks.AnswersCalled.{AnyProbe}
 use Rattle.show_laws.proofs.openings.ModeAnswers.{messaged, modes_few, ua_balanced, ua_modes}
 
 -- while no SABM on d came, d isn't open, and no UA on it was sent or is owed
-record Shut (n1 d : ℕ) (past : List Act) : Type 0 where
-  open_not : is_open Responder d past ≡ false
-  sent_none : many (is_on Ua d) (frames_sent past) ≤ 0
-  owed_none : many (is_on Ua d) (owed_frames (responding n1) past) ≤ 0
+pub record Shut (n1 d : ℕ) (past : List Act) : Type 0 where
+  pub open_not : is_open Responder d past ≡ false
+  pub sent_none : many (is_on Ua d) (frames_sent past) ≤ 0
+  pub owed_none : many (is_on Ua d) (owed_frames (responding n1) past) ≤ 0
 
 still_shut : (o i e : Bool) → o ≡ false → i ≡ false → (o || (i && not e)) ≡ false
 still_shut true i e g h = cc
@@ -96,7 +96,7 @@ comes n1 d past f unasked h =
       owed_none = omega (arith, e, few, o);
     }
 
-shut : (n1 d : ℕ) (past : List Act) → StationLawful (responding n1) past → many (is_on Sabm d) (frames_got past) ≤ 0 → Shut n1 d past
+pub shut : (n1 d : ℕ) (past : List Act) → StationLawful (responding n1) past → many (is_on Sabm d) (frames_got past) ≤ 0 → Shut n1 d past
 unfolding StationLawful Sends
 shut n1 d [] l none = record { open_not = refl; sent_none = omega arith; owed_none = omega arith }
 shut n1 d (Called c ∷ past) l none =

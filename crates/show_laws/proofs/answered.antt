@@ -1,0 +1,4 @@
+-- On a lawful and complete line each ask is answered.
+pub mod EnoughCalled
+pub mod EnoughSent
+pub mod NoneWaits

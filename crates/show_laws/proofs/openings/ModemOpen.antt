@@ -1,0 +1,336 @@
+-- The modem sends data where what passed says that the connection is open.
+use Rattle.std.specs.Prelude.{◌≡◌, ℕ, ◌+◌, ◌==◌, ◌≤◌, ◌&&◌, ◌||◌, not, is_none, Bool, true, false, List, [], ◌∷◌, ◌++◌, drop, length, filter, map, Option, Some, None, refl, if◌then◌else◌}
+use Rattle.std.specs.List.{find, list_all, list_any}
+use Rattle.std.proofs.Common.{ap, arith, sym, ◌∙◌, subst, eqb-true, append-nil}
+use Rattle.std.proofs.lemmas.Bool.{and_from, and_parts, or_parts}
+use Rattle.mux_frame.specs.Frames.{Frame}
+use Rattle.mux_frame.specs.declared.frame.Kind.{Kind}
+use Rattle.mux_frame.specs.declared.frame.Kind.TheVariants.{Sabm, Ua, Dm, Disc, Uih}
+use Rattle.mux_capture.specs.declared.packet.Stamp.{Stamp}
+use Rattle.mux_capture.specs.Passing.{Caught}
+use Rattle.mux_station.specs.declared.role.Role.TheVariants.{Initiator, Responder}
+use Rattle.mux_station.specs.Acts as station
+use Rattle.mux_station.specs.Messages.{Message, cld, brings_command, brings_response, is_command, message_in, message_of, nsc, octet_is}
+use Rattle.mux_station.specs.Opening.{ends, ends_itself, is_mode_frame_on, is_open, standings}
+use Rattle.mux_station.specs.Sending.{Sends, StationLawful, called_frames, frames_seeing, is_loss, owed_frames, refused, station_view}
+use Rattle.mux_station.specs.States.{State, IsShut, IsOpening, IsOpened, IsClosing, IsStopping, at_answered, at_close_down, at_sent, at_tick, is_opened, is_stopping, own_after, state_of, states}
+use Rattle.mux_station.specs.Tables.{by_frame}
+use Rattle.mux_station.specs.Written.{is_data_frame, is_kind, is_on}
+use Rattle.mux_station.proofs.states.OpenByPlaces.{zero_same}
+use Rattle.mux_station.proofs.states.StatesAfterActs.{zero_own}
+use Rattle.mux_station.proofs.states.OpenedStates.{opened_is_open}
+use Rattle.modem_history.specs.Acts as driver
+use Rattle.modem_history.specs.Acts.{wire}
+use Rattle.modem_history.specs.Calls.{Setting}
+use Rattle.modem_history.specs.TwoEnds.{AsksOnce, frames_got, frames_sent}
+use Rattle.modem_show.specs.Asking.{Ask, answered_by, answers, asked_with, both_respond, excused_by, is_ask, is_mode_answer, is_mode_command, message_asks, unanswered_by, waiting}
+use Rattle.modem_show.specs.Ends.{come, handled, own}
+use Rattle.show_laws.specs.Lines.{AtDriver, AtModem, IsLawfulLine, LineAct, captured, driver_past, modem_past, responding}
+use Rattle.show_laws.specs.Laws.{IsPrompt, OpensAndClosesNothing, opens_or_closes}
+use Rattle.show_laws.proofs.asks.AnswerShapes.{is_shaped, or_elim}
+use Rattle.show_laws.proofs.asks.AnswersCalled.{AnyProbe}
+use Rattle.show_laws.proofs.asks.NoneUnasked.{any_probes, modem_shaped}
+use Rattle.show_laws.proofs.asks.WaitingAsks.{frames_of, frames_to}
+use Rattle.show_laws.proofs.counts.ManyFrames.{many, unit}
+use Rattle.show_laws.proofs.counts.DriverCounts.{driver_sends}
+use Rattle.show_laws.proofs.counts.StationCounts.{station_sends}
+use Rattle.show_laws.proofs.lines.CapturedFrames.{both_ways, came_few, shows}
+use Rattle.show_laws.proofs.lines.EveryFrame.{lawful_before, over}
+use Rattle.show_laws.proofs.openings.DiscBehindUa.{disc_behind}
+use Rattle.show_laws.proofs.openings.DriverOpen.{once_before}
+use Rattle.show_laws.proofs.openings.FreshAsks.{Aside, Fresh, other_answers, other_asks, sabm_asks}
+use Rattle.show_laws.proofs.openings.ModemFollows.{FollowsM, answer_on, ask_on, open_m, uas_fewer, zero_m}
+use Rattle.show_laws.proofs.openings.ResponderCalls.{answer_balanced}
+use Rattle.show_laws.proofs.openings.UaBehindSabm.{ua_behind}
+
+-- ## The line
+
+-- a lawful line of a modem that is prompt, and opens and closes nothing
+pub record IsSteadyLine (s : Setting) (n1 : ℕ) (line : List LineAct) : Type 0 where
+  pub lawful : IsLawfulLine s n1 line
+  pub once : AsksOnce (wire (driver_past line))
+  pub steady : OpensAndClosesNothing (modem_past line)
+  pub prompt : IsPrompt (responding n1) (modem_past line)
+  pub live : list_any is_loss (modem_past line) ≡ false
+
+steady_before : (a : station.Act) (past : List station.Act) → OpensAndClosesNothing (a ∷ past) → OpensAndClosesNothing past
+steady_before (station.Sent f) past h = (or_parts (opens_or_closes f) (list_any opens_or_closes (frames_sent past)) h).1
+steady_before (station.Called c) past h = h
+steady_before (station.Got f) past h = h
+steady_before station.Tick past h = h
+steady_before station.Lost past h = h
+steady_before station.Given past h = h
+
+prompt_before : (n1 : ℕ) (a : station.Act) (past : List station.Act) → IsPrompt (responding n1) (a ∷ past) → IsPrompt (responding n1) past
+prompt_before n1 (station.Sent f) past h = h
+prompt_before n1 (station.Given) past h = h
+prompt_before n1 (station.Called c) past h = h.1
+prompt_before n1 (station.Got f) past h = h.1
+prompt_before n1 station.Tick past h = h.1
+prompt_before n1 station.Lost past h = h.1
+
+live_before : (a : station.Act) (past : List station.Act) → list_any is_loss (a ∷ past) ≡ false → list_any is_loss past ≡ false
+live_before a past h = (or_parts (is_loss a) (list_any is_loss past) h).1
+
+pub steady_line_before : (s : Setting) (n1 : ℕ) (x : LineAct) (line : List LineAct) → IsSteadyLine s n1 (x ∷ line) → IsSteadyLine s n1 line
+steady_line_before s n1 (AtDriver a) line h = record { lawful = lawful_before s n1 (AtDriver a) line h.lawful; once = once_before a (driver_past line) h.once; steady = h.steady; prompt = h.prompt; live = h.live }
+steady_line_before s n1 (AtModem a) line h = record { lawful = lawful_before s n1 (AtModem a) line h.lawful; once = h.once; steady = steady_before a (modem_past line) h.steady; prompt = prompt_before n1 a (modem_past line) h.prompt; live = live_before a (modem_past line) h.live }
+
+-- ## Counts
+
+none_asks : (d : ℕ) (fs : List Frame) → list_any opens_or_closes fs ≡ false → many (ask_on d) fs ≤ 0
+none_asks d [] h = omega arith
+none_asks d (f ∷ fs) h =
+    let p = or_parts (opens_or_closes f) (list_any opens_or_closes fs) h in
+    let q = or_parts (is_mode_command f) (brings_command cld f) p.0 in
+    let x : unit (ask_on d f) ≡ 0 = ap unit (off (is_mode_command f) (f.dlci == d) q.0) in
+    let y = none_asks d fs p.1 in
+    omega (arith, x, y)
+  where
+    off : (a b : Bool) → a ≡ false → (a && b) ≡ false
+    off true b e = cc
+    off false b e = refl
+
+asks_parts : (d : ℕ) (fs : List Frame) → many (ask_on d) fs ≤ many (is_on Sabm d) fs + many (is_on Disc d) fs
+asks_parts d [] = omega arith
+asks_parts d (f ∷ fs) = let x = parts (is_kind f.kind Sabm) (is_kind f.kind Disc) (f.dlci == d) in let y = asks_parts d fs in omega (arith, x, y)
+  where
+    parts : (a b c : Bool) → unit ((a || b) && c) ≤ unit (a && c) + unit (b && c)
+    parts true b c = omega arith
+    parts false b c = omega arith
+
+none_one : (t : Frame → Bool) (f : Frame) (n : ℕ) → unit (t f) + n ≤ 0 → t f ≡ false
+none_one t f n h = by_test (t f) refl
+  where
+    by_test : (b : Bool) → t f ≡ b → b ≡ false
+    by_test false e = refl
+    by_test true e = let x : unit (t f) ≡ 1 = ap unit e in absurd (omega (arith, x, h))
+
+-- the driver answers nothing on d, where the modem asks nothing
+driver_answers_none : (s : Setting) (n1 d : ℕ) (line : List LineAct) → IsSteadyLine s n1 line → many (answer_on d) (frames_sent (wire (driver_past line))) ≤ 0
+driver_answers_none s n1 d line h =
+    let sent = driver_sends AnyProbe s (answer_on d) (ask_on d) (answer_balanced s.n1 s.role d) (driver_past line) h.lawful.driver_lawful (any_probes (driver_past line)) in
+    let came = came_few (ask_on d) (modem_past line) (wire (driver_past line)) (both_ways line h.lawful.one_line).at_driver in
+    let none = none_asks d (frames_sent (modem_past line)) h.steady in
+    omega (arith, sent, came, none)
+
+-- a DISC was sent behind the modem's UA
+disc_after : (s : Setting) (n1 d : ℕ) (line : List LineAct) → IsSteadyLine s n1 line → 1 ≤ many (is_on Disc d) (frames_sent (wire (driver_past line))) → 1 ≤ many (is_on Ua d) (frames_sent (modem_past line))
+disc_after s n1 d line h some =
+    let got = disc_behind s d (driver_past line) h.lawful.is_initiator h.lawful.driver_lawful h.once some in
+    let came = came_few (is_on Ua d) (modem_past line) (wire (driver_past line)) (both_ways line h.lawful.one_line).at_driver in
+    omega (arith, got, came)
+
+-- ## The unanswered SABM
+
+abbrev HasFresh : ℕ → List Caught → Type 0
+HasFresh d line = 1 ≤ many (is_on Sabm d) (frames_of Initiator line) → many (answer_on d) (frames_to Initiator line) ≤ 0 → Fresh d (waiting Initiator line)
+
+driver_fresh : (s : Setting) (n1 d : ℕ) (stamps : ℕ → Stamp) (stamp : Stamp) (f : Frame) (line : List LineAct) → IsSteadyLine s n1 (AtDriver (driver.Sent f) ∷ line) → HasFresh d (captured stamps line)
+    → 1 ≤ unit (is_on Sabm d f) + many (is_on Sabm d) (frames_of Initiator (captured stamps line)) → many (answer_on d) (frames_to Initiator (captured stamps line)) ≤ 0
+    → Fresh d (map (excused_by f) (asked_with stamp f ++ waiting Initiator (captured stamps line)))
+driver_fresh s n1 d stamps stamp f line h q some none = by_sabm (is_on Sabm d f) refl
+  where
+    asks_disc : is_on Sabm d f ≡ false → ask_on d f ≡ true → 1 ≤ unit (is_on Disc d f)
+    asks_disc e a = by (is_kind f.kind Sabm) (is_kind f.kind Disc) (f.dlci == d) e a
+      where
+        by : (a b c : Bool) → (a && c) ≡ false → ((a || b) && c) ≡ true → 1 ≤ unit (b && c)
+        by true b true e h = cc
+        by true b false e h = cc
+        by false true true e h = omega arith
+        by false true false e h = cc
+        by false false c e h = cc
+
+    no_ask : (b : Bool) → ask_on d f ≡ b → is_on Sabm d f ≡ false → ask_on d f ≡ false
+    no_ask false e k = e
+    no_ask true e k =
+        let x = asks_disc k e in
+        let ua = disc_after s n1 d (AtDriver (driver.Sent f) ∷ line) h (omega (arith, x)) in
+        let few = uas_fewer d (frames_sent (modem_past line)) in
+        let same : many (answer_on d) (frames_to Initiator (captured stamps line)) ≡ many (answer_on d) (frames_sent (modem_past line)) = ap (many (answer_on d)) (shows stamps line).to_driver in
+        absurd (omega (arith, ua, few, same, none))
+
+    by_sabm : (b : Bool) → is_on Sabm d f ≡ b → Fresh d (map (excused_by f) (asked_with stamp f ++ waiting Initiator (captured stamps line)))
+    by_sabm true e = sabm_asks d stamp f (waiting Initiator (captured stamps line)) e
+    by_sabm false e =
+        let x : unit (is_on Sabm d f) ≡ 0 = ap unit e in
+        let all = driver_answers_none s n1 d (AtDriver (driver.Sent f) ∷ line) h in
+        other_asks d stamp f (waiting Initiator (captured stamps line))
+        (record { asks = no_ask (ask_on d f) refl e; answers = none_one (answer_on d) f (many (answer_on d) (frames_sent (wire (driver_past line)))) all })
+        (q (omega (arith, some, x)) none)
+
+modem_fresh : (s : Setting) (n1 d : ℕ) (stamps : ℕ → Stamp) (f : Frame) (line : List LineAct) → IsSteadyLine s n1 (AtModem (station.Sent f) ∷ line) → HasFresh d (captured stamps line)
+    → 1 ≤ many (is_on Sabm d) (frames_of Initiator (captured stamps line)) → unit (answer_on d f) + many (answer_on d) (frames_to Initiator (captured stamps line)) ≤ 0
+    → Fresh d (map (excused_by f) (unanswered_by f (waiting Initiator (captured stamps line))))
+modem_fresh s n1 d stamps f line h q some none =
+    let asks = none_asks d (f ∷ frames_sent (modem_past line)) h.steady in
+    other_answers d f (waiting Initiator (captured stamps line))
+    (record { asks = none_one (ask_on d) f (many (ask_on d) (frames_sent (modem_past line))) asks; answers = none_one (answer_on d) f (many (answer_on d) (frames_to Initiator (captured stamps line))) none })
+    (q some (omega (arith, none)))
+
+pub has_fresh : (s : Setting) (n1 d : ℕ) (stamps : ℕ → Stamp) (line : List LineAct) → IsSteadyLine s n1 line → HasFresh d (captured stamps line)
+has_fresh s n1 d stamps line h =
+    over (IsSteadyLine s n1) (λ x line k. steady_line_before s n1 x line k) (HasFresh d) stamps (λ some none. absurd (omega (arith, some)))
+    (λ f line k q some none. driver_fresh s n1 d stamps (stamps (length (captured stamps line))) f line k q some none)
+    (λ f line k q some none. modem_fresh s n1 d stamps f line k q some none) line h
+
+-- ## The modem's states
+
+sent_going : (s : State) (k : Kind) → is_stopping s ≡ false → is_stopping (at_sent s k) ≡ false
+sent_going IsShut Sabm h = refl
+sent_going IsShut Ua h = refl
+sent_going IsShut Dm h = refl
+sent_going IsShut Disc h = refl
+sent_going IsShut Uih h = refl
+sent_going (IsOpening n) Sabm h = refl
+sent_going (IsOpening n) Ua h = refl
+sent_going (IsOpening n) Dm h = refl
+sent_going (IsOpening n) Disc h = refl
+sent_going (IsOpening n) Uih h = refl
+sent_going IsOpened Sabm h = refl
+sent_going IsOpened Ua h = refl
+sent_going IsOpened Dm h = refl
+sent_going IsOpened Disc h = refl
+sent_going IsOpened Uih h = refl
+sent_going (IsClosing n) Sabm h = refl
+sent_going (IsClosing n) Ua h = refl
+sent_going (IsClosing n) Dm h = refl
+sent_going (IsClosing n) Disc h = refl
+sent_going (IsClosing n) Uih h = refl
+sent_going (IsStopping n) k h = let x : true ≡ false = h in cc
+
+got_going : (s : State) (k : Kind) → is_stopping s ≡ false → is_stopping (at_answered true s k) ≡ false
+got_going IsShut Sabm h = refl
+got_going IsShut Ua h = refl
+got_going IsShut Dm h = refl
+got_going IsShut Disc h = refl
+got_going IsShut Uih h = refl
+got_going (IsOpening n) Sabm h = refl
+got_going (IsOpening n) Ua h = refl
+got_going (IsOpening n) Dm h = refl
+got_going (IsOpening n) Disc h = refl
+got_going (IsOpening n) Uih h = refl
+got_going IsOpened Sabm h = refl
+got_going IsOpened Ua h = refl
+got_going IsOpened Dm h = refl
+got_going IsOpened Disc h = refl
+got_going IsOpened Uih h = refl
+got_going (IsClosing n) Sabm h = refl
+got_going (IsClosing n) Ua h = refl
+got_going (IsClosing n) Dm h = refl
+got_going (IsClosing n) Disc h = refl
+got_going (IsClosing n) Uih h = refl
+got_going (IsStopping n) k h = let x : true ≡ false = h in cc
+
+down_going : (a b : Bool) (s : State) → is_stopping s ≡ false → is_stopping (at_close_down a b s) ≡ false
+down_going true b IsOpened h = refl
+down_going false b IsOpened h = refl
+down_going a b IsShut h = refl
+down_going a b (IsOpening n) h = refl
+down_going a b (IsClosing n) h = refl
+down_going a b (IsStopping n) h = let x : true ≡ false = h in cc
+
+tick_going : (s : State) → is_stopping s ≡ false → is_stopping (at_tick s) ≡ false
+tick_going IsShut h = refl
+tick_going (IsOpening n) h = refl
+tick_going IsOpened h = refl
+tick_going (IsClosing n) h = either (n == 3)
+  where
+    either : (b : Bool) → is_stopping (if b then IsShut else IsClosing n) ≡ false
+    either true = refl
+    either false = refl
+tick_going (IsStopping n) h = let x : true ≡ false = h in cc
+
+going : (s : State) (a : station.Act) → (is_stopping s ≡ false) → list_any opens_or_closes (frames_sent (a ∷ [])) ≡ false → is_stopping (own_after Responder 0 true s a) ≡ false
+going s (station.Called c) h k = h
+going s station.Given h k = h
+going s station.Lost h k = refl
+going s station.Tick h k = tick_going s h
+going s (station.Sent f) h k = by_cld (brings_command cld f) (or_parts (is_mode_command f) (brings_command cld f) (or_parts (opens_or_closes f) false k).0).1
+  where
+    by_here : (b : Bool) → is_stopping (if b then at_sent s f.kind else s) ≡ false
+    by_here true = sent_going s f.kind h
+    by_here false = h
+
+    by_cld : (b : Bool) → b ≡ false → is_stopping (if b then IsStopping 0 else (if f.dlci == 0 then at_sent s f.kind else s)) ≡ false
+    by_cld true e = cc
+    by_cld false e = by_here (f.dlci == 0)
+going s (station.Got f) h k = by_here (f.dlci == 0)
+  where
+    by_here : (b : Bool) → is_stopping (if b then at_close_down (brings_command cld f) (brings_response cld f) (at_answered true s f.kind) else s) ≡ false
+    by_here true = down_going (brings_command cld f) (brings_response cld f) (at_answered true s f.kind) (got_going s f.kind h)
+    by_here false = h
+
+steady_one : (a : station.Act) (past : List station.Act) → OpensAndClosesNothing (a ∷ past) → list_any opens_or_closes (frames_sent (a ∷ [])) ≡ false
+steady_one (station.Sent f) past h = ap (λ (b : Bool). b || false) (or_parts (opens_or_closes f) (list_any opens_or_closes (frames_sent past)) h).0
+steady_one (station.Called c) past h = refl
+steady_one (station.Got f) past h = refl
+steady_one station.Tick past h = refl
+steady_one station.Lost past h = refl
+steady_one station.Given past h = refl
+
+pub never_stops : (past : List station.Act) → OpensAndClosesNothing past → is_stopping (state_of Responder 0 past) ≡ false
+never_stops [] h = refl
+never_stops (a ∷ past) h =
+    let before : is_stopping (states Responder 0 past).zero ≡ false = ap is_stopping (sym (zero_own Responder past)) ∙ never_stops past (steady_before a past h) in
+    going (states Responder 0 past).zero a before (steady_one a past h)
+
+-- ## Below 0
+
+itself_zero : (z : Bool) (a : station.Act) (d : ℕ) → (d == 0) ≡ false → ends z d a ≡ false → ends z 0 a ≡ false
+itself_zero z a d apart h =
+    let p = or_parts (ends_itself z d a) (not (d == 0) && ends_itself z 0 a) h in
+    let q : ends_itself z 0 a ≡ false = sym (ap (λ (b : Bool). not b && ends_itself z 0 a) apart) ∙ p.1 in
+    last (ends_itself z 0 a) q
+  where
+    last : (x : Bool) → x ≡ false → (x || false) ≡ false
+    last true e = cc
+    last false e = refl
+
+unended : (o e : Bool) → (o && not e) ≡ true → (o ≡ true) × (e ≡ false)
+unended true false h = (refl, refl)
+unended true true h = cc
+unended false e h = cc
+
+kept_zero : (x z e : Bool) → z ≡ true → e ≡ false → (x || (z && not e)) ≡ true
+kept_zero true z e h k = refl
+kept_zero false true false h k = refl
+kept_zero false true true h k = cc
+kept_zero false false e h k = cc
+
+sabm_elsewhere : (z : Bool) (d : ℕ) (f : Frame) → is_on Sabm d f ≡ true → (d == 0) ≡ false → ends z 0 (station.Got f) ≡ false
+sabm_elsewhere z d f is apart =
+    let p = and_parts (is_kind f.kind Sabm) (f.dlci == d) is in
+    let away : (f.dlci == 0) ≡ false = ap (λ n. n == 0) (eqb-true f.dlci d p.1) ∙ apart in
+    by_kind f.kind (f.dlci == 0) (octet_is (λ n. n) cld (message_of f.info)) p.0 away
+  where
+    by_kind : (k : Kind) (x c : Bool) → is_kind k Sabm ≡ true → x ≡ false → (((is_kind k Disc && x) || ((is_kind k Dm && x) || ((is_kind k Sabm && x) || (z && ((is_kind k Uih && x) && c))))) || false) ≡ false
+    by_kind Sabm true c h e = cc
+    by_kind Sabm false c h e = by_zero z
+      where
+        by_zero : (z : Bool) → ((false || (false || (false || (z && ((false && false) && c))))) || false) ≡ false
+        by_zero true = refl
+        by_zero false = refl
+    by_kind Ua x c h e = cc
+    by_kind Dm x c h e = cc
+    by_kind Disc x c h e = cc
+    by_kind Uih x c h e = cc
+
+zero_open : (d : ℕ) (past : List station.Act) → (d == 0) ≡ false → open_m d past ≡ true → zero_m d past ≡ true
+zero_open d [] apart o = cc
+zero_open d (station.Got f ∷ past) apart o =
+    let z = zero_m d past in
+    or_elim (is_on Sabm d f && ((d == 0) || z)) (open_m d past && not (ends z d (station.Got f))) o
+    (λ s.
+      let p = and_parts (is_on Sabm d f) ((d == 0) || z) s in
+      let there : z ≡ true = sym (ap (λ (b : Bool). b || z) apart) ∙ p.1 in
+      kept_zero (is_on Sabm 0 f && true) z (ends z 0 (station.Got f)) there (sabm_elsewhere z d f p.0 apart))
+    (λ s. let p = unended (open_m d past) (ends z d (station.Got f)) s in kept_zero (is_on Sabm 0 f && true) z (ends z 0 (station.Got f)) (zero_open d past apart p.0) (itself_zero z (station.Got f) d apart p.1))
+zero_open d (station.Sent f ∷ past) apart o = let z = zero_m d past in let p = unended (open_m d past) (ends z d (station.Sent f)) o in kept_zero false z (ends z 0 (station.Sent f)) (zero_open d past apart p.0) (itself_zero z (station.Sent f) d apart p.1)
+zero_open d (station.Called c ∷ past) apart o = let z = zero_m d past in let p = unended (open_m d past) (ends z d (station.Called c)) o in kept_zero false z (ends z 0 (station.Called c)) (zero_open d past apart p.0) (itself_zero z (station.Called c) d apart p.1)
+zero_open d (station.Tick ∷ past) apart o = let z = zero_m d past in let p = unended (open_m d past) (ends z d station.Tick) o in kept_zero false z (ends z 0 station.Tick) (zero_open d past apart p.0) (itself_zero z station.Tick d apart p.1)
+zero_open d (station.Lost ∷ past) apart o = let z = zero_m d past in let p = unended (open_m d past) (ends z d station.Lost) o in kept_zero false z (ends z 0 station.Lost) (zero_open d past apart p.0) (itself_zero z station.Lost d apart p.1)
+zero_open d (station.Given ∷ past) apart o = let z = zero_m d past in let p = unended (open_m d past) (ends z d station.Given) o in kept_zero false z (ends z 0 station.Given) (zero_open d past apart p.0) (itself_zero z station.Given d apart p.1)
+
+pub above : (d : ℕ) (past : List station.Act) → (d == 0) ≡ false → open_m d past ≡ true → open_m 0 past ≡ true
+above d past apart o = sym (zero_same Responder d past) ∙ zero_open d past apart o

@@ -1,0 +1,211 @@
+-- The answers that a responder's frames and calls bring about.
+use Rattle.std.specs.Prelude.{◌≡◌, ℕ, ◌+◌, ◌*◌, ◌-◌, ◌==◌, ◌≤◌, ◌&&◌, ◌||◌, not, Bool, true, false, List, [], ◌∷◌, drop, length, Option, Some, None, refl, if◌then◌else◌}
+use Rattle.std.proofs.Common.{ap, arith, sym, ◌∙◌, subst, eqb-true}
+use Rattle.std.proofs.lemmas.Bool.{and_from, and_parts, or_parts, eq-eqb}
+use Rattle.mux_frame.specs.Frames.{Frame}
+use Rattle.mux_frame.specs.declared.frame.Kind.{Kind}
+use Rattle.mux_frame.specs.declared.frame.Kind.TheVariants.{Sabm, Ua, Dm, Disc, Uih}
+use Rattle.mux_station.specs.declared.role.Role.{Role}
+use Rattle.mux_station.specs.declared.role.Role.TheVariants.{Initiator, Responder}
+use Rattle.mux_station.specs.Written.{is_data_frame, is_kind, is_on, written}
+use Rattle.mux_station.specs.Messages.{Message, cld, msc, nsc, test, brings_command, brings_response, command_of, is_command, message_in, message_of, octet_is, response_of}
+use Rattle.mux_station.specs.States.{State, IsShut, IsOpening, IsOpened, IsClosing, IsStopping, is_opened, is_stopping}
+use Rattle.mux_station.specs.Tables.{by_frame, by_message, by_table, is_opening, is_supported, message_frame, msc_after_opening, msc_frame, ready, response_to, ua_or_dm}
+use Rattle.modem_show.specs.Asking.{answers, both_respond, is_mode_answer, is_mode_command, message_asks, responds}
+use Rattle.show_laws.proofs.asks.AnswerShapes.{is_shaped, message_no_mode, one_response, or_elim, response_octet, shaped_message, supported_by}
+use Rattle.show_laws.proofs.asks.AnswersCalled.{AnyProbe, IsRead, as_it_is, is_read, unread}
+use Rattle.show_laws.proofs.counts.ManyFrames.{few_dropped, few_if, many, none_one, unit}
+use Rattle.show_laws.proofs.counts.BalancedTables.{Balanced}
+use Rattle.show_laws.proofs.openings.ModeAnswers.{OfModes, messaged, modes_balanced, modes_few}
+use Rattle.show_laws.proofs.openings.ModemFollows.{answer_on, ask_on}
+
+-- ## UA and DM
+
+pub answer_modes : (d : ℕ) → OfModes (answer_on d) (λ n. n == d)
+answer_modes d = record { uih = λ r e info. refl; answer = λ r e b. either r e b }
+  where
+    either : (r : Role) (e : ℕ) (b : Bool) → unit (answer_on d (ua_or_dm r e b)) ≤ unit (e == d)
+    either r e true = omega arith
+    either r e false = omega arith
+
+no_answer : (k : Kind) (b : Bool) → is_kind k Uih ≡ true → ((is_kind k Ua || is_kind k Dm) && b) ≡ false
+no_answer Uih b h = refl
+no_answer Sabm b h = cc
+no_answer Ua b h = cc
+no_answer Dm b h = cc
+no_answer Disc b h = cc
+
+pub answer_balanced : (most : ℕ) (r : Role) (d : ℕ) → Balanced AnyProbe most r (answer_on d) (ask_on d)
+answer_balanced most r d =
+    modes_balanced most r (answer_on d) (λ n. n == d) (answer_modes d)
+    (λ f is. no_answer f.kind (f.dlci == d) (and_parts (is_kind f.kind Uih) (not (f.dlci == 0)) is).0) (λ e. refl) (λ e. refl)
+
+after_first : (d e : ℕ) (channel own : State) (k : Kind) → many (answer_on d) (drop 1 (by_table Responder e channel own k)) ≤ 0
+after_first d e channel own Ua = omega arith
+after_first d e channel own Dm = omega arith
+after_first d e channel own Uih = omega arith
+after_first d e channel own Disc = omega arith
+after_first d e channel own Sabm = either ((e == 0) || is_opened channel)
+  where
+    status : (b : Bool) → many (answer_on d) (if b then [] else msc_frame Responder e ready ∷ []) ≤ 0
+    status true = omega arith
+    status false = omega arith
+
+    either : (b : Bool) → many (answer_on d) (drop 1 (if b then ua_or_dm Responder e true ∷ msc_after_opening Responder e else ua_or_dm Responder e false ∷ [])) ≤ 0
+    either true = status (e == 0)
+    either false = omega arith
+
+-- behind the first frame that is called for no UA or DM is
+pub tail_none : (d : ℕ) (state : ℕ → State) (f : Frame) → many (answer_on d) (drop 1 (by_frame Responder state f)) ≤ 0
+tail_none d state f = by_on (is_on Uih 0 f)
+  where
+    by_on : (b : Bool) → many (answer_on d) (drop 1 (if b then by_message Responder (state 0) f else by_table Responder f.dlci (state 0) (state f.dlci) f.kind)) ≤ 0
+    by_on true =
+        let x = messaged (answer_on d) (λ n. n == d) (answer_modes d) Responder (state 0) f in
+        let y = few_dropped (answer_on d) (by_message Responder (state 0) f) in
+        omega (arith, x, y)
+    by_on false = after_first d f.dlci (state 0) (state f.dlci) f.kind
+
+-- a SABM that opens is answered by UA
+opening_table : (d e : ℕ) (channel own : State) (k : Kind) → (is_kind k Sabm && (e == d)) ≡ true → ((e == 0) || is_opened channel) ≡ true → 1 ≤ many (is_on Ua d) (by_table Responder e channel own k)
+opening_table d e channel own Sabm h o =
+    let x : many (is_on Ua d) (by_table Responder e channel own Sabm) ≡ many (is_on Ua d) (ua_or_dm Responder e true ∷ msc_after_opening Responder e) =
+    ap (λ (b : Bool). many (is_on Ua d) (if b then ua_or_dm Responder e true ∷ msc_after_opening Responder e else ua_or_dm Responder e false ∷ [])) o in
+    let y : unit (is_on Ua d (ua_or_dm Responder e true)) ≡ 1 = ap unit h in
+    omega (arith, x, y)
+opening_table d e channel own Ua h o = cc
+opening_table d e channel own Dm h o = cc
+opening_table d e channel own Disc h o = cc
+opening_table d e channel own Uih h o = cc
+
+sabm_bare : (k : Kind) (x y : Bool) → (is_kind k Sabm && x) ≡ true → (is_kind k Uih && y) ≡ false
+sabm_bare Sabm x y h = refl
+sabm_bare Ua x y h = cc
+sabm_bare Dm x y h = cc
+sabm_bare Disc x y h = cc
+sabm_bare Uih x y h = cc
+
+pub opening_answered : (d : ℕ) (state : ℕ → State) (f : Frame) → is_on Sabm d f ≡ true → ((d == 0) || is_opened (state 0)) ≡ true → 1 ≤ many (is_on Ua d) (by_frame Responder state f)
+opening_answered d state f is o =
+    let same = eqb-true f.dlci d (and_parts (is_kind f.kind Sabm) (f.dlci == d) is).1 in
+    let bare = sabm_bare f.kind (f.dlci == d) (f.dlci == 0) is in
+    let e : many (is_on Ua d) (by_frame Responder state f) ≡ many (is_on Ua d) (by_table Responder f.dlci (state 0) (state f.dlci) f.kind) =
+    ap (λ (b : Bool). many (is_on Ua d) (if b then by_message Responder (state 0) f else by_table Responder f.dlci (state 0) (state f.dlci) f.kind)) bare in
+    let t = opening_table d f.dlci (state 0) (state f.dlci) f.kind is (ap (λ n. (n == 0) || is_opened (state 0)) same ∙ o) in
+    omega (arith, e, t)
+
+-- ## The response to a CLD
+
+abbrev pub is_down : Frame → Bool
+is_down g = brings_response cld g
+
+read_octet : (octet : ℕ) (value : List ℕ) (o : Option Message) → IsRead octet value o → octet_is command_of cld o ≡ true → (command_of octet == cld) ≡ true
+read_octet octet value _ as_it_is h = h
+read_octet octet value _ unread h = cc
+
+down_octet : (r : Role) (octet : ℕ) (value : List ℕ) → is_down (message_frame r octet value) ≡ true → (command_of octet == cld) ≡ true
+down_octet r octet value h = read_octet octet value (message_in (message_frame r octet value)) (is_read r octet value) h
+
+none_if : (t : Frame → Bool) (f : Frame) → (t f ≡ true → true ≡ false) → many t (f ∷ []) ≤ 0
+none_if t f h = none_one t f (by_test (t f) refl)
+  where
+    by_test : (b : Bool) → t f ≡ b → b ≡ false
+    by_test false e = refl
+    by_test true e = let x : true ≡ false = h e in cc
+
+pub message_not_down : (r : Role) (octet : ℕ) (value : List ℕ) → (command_of octet == cld) ≡ false → is_down (message_frame r octet value) ≡ false
+message_not_down r octet value h = by_test (is_down (message_frame r octet value)) refl
+  where
+    by_test : (b : Bool) → is_down (message_frame r octet value) ≡ b → b ≡ false
+    by_test false e = refl
+    by_test true e = let x : true ≡ false = sym (down_octet r octet value e) ∙ h in cc
+
+some_if : {P : Type 0} → (b : Bool) (fs gs : List Frame) → (1 ≤ many is_down fs → P) → (b ≡ false → 1 ≤ many is_down gs → P) → 1 ≤ many is_down (if b then fs else gs) → P
+some_if true fs gs f g h = f h
+some_if false fs gs f g h = g refl h
+
+one_some : (f : Frame) → 1 ≤ many is_down (f ∷ []) → is_down f ≡ true
+one_some f h = by_test (is_down f) refl h
+  where
+    by_test : (b : Bool) → is_down f ≡ b → 1 ≤ unit b + 0 → b ≡ true
+    by_test true e h = refl
+    by_test false e h = absurd (omega (arith, h))
+
+back_again : (o : ℕ) → is_supported o ≡ true → command_of (response_of o) ≡ o
+back_again o s = supported_by (λ n. command_of (response_of n) ≡ n) o s refl refl refl refl refl
+
+responded : (r : Role) (m : Message) (b c : Bool) → is_supported m.octet ≡ b → 1 ≤ many is_down (if b then message_frame r (response_of m.octet) m.value ∷ [] else if c then message_frame r (response_of nsc) (m.octet ∷ []) ∷ [] else []) → (m.octet == cld) ≡ true
+responded r m true c s h =
+    let x = eqb-true (command_of (response_of m.octet)) cld (down_octet r (response_of m.octet) m.value (one_some (message_frame r (response_of m.octet) m.value) h)) in
+    eq-eqb m.octet cld (sym (back_again m.octet s) ∙ x)
+responded r m false true s h =
+    let none = none_one is_down (message_frame r (response_of nsc) (m.octet ∷ [])) (message_not_down r (response_of nsc) (m.octet ∷ []) refl) in
+    absurd (omega (arith, h, none))
+responded r m false false s h = absurd (omega (arith, h))
+
+response_down : (r : Role) (o : Option Message) → 1 ≤ many is_down (response_to r o) → octet_is (λ n. n) cld o ≡ true
+response_down r None h = absurd (omega (arith, h))
+response_down r (Some m) h = responded r m (is_supported m.octet) (is_command m && not (m.octet == nsc)) refl h
+
+message_down : (r : Role) (s : State) (f : Frame) → is_stopping s ≡ false → 1 ≤ many is_down (by_message r s f) → (is_opened s ≡ true) × (octet_is (λ n. n) cld (message_in f) ≡ true)
+message_down r IsOpened f t h = (refl, response_down r (message_in f) h)
+message_down r (IsStopping n) f t h = let x : true ≡ false = t in cc
+message_down r IsShut f t h = absurd (omega (arith, h))
+message_down r (IsOpening n) f t h = absurd (omega (arith, h))
+message_down r (IsClosing n) f t h = absurd (omega (arith, h))
+
+mode_not_down : (r : Role) (e : ℕ) (b : Bool) → many is_down (ua_or_dm r e b ∷ []) ≤ 0
+mode_not_down r e true = omega arith
+mode_not_down r e false = omega arith
+
+status_not_down : (r : Role) (e : ℕ) → many is_down (msc_after_opening r e) ≤ 0
+status_not_down r e = few_if is_down 0 (e == 0) [] (msc_frame r e ready ∷ []) (omega arith) (none_one is_down (msc_frame r e ready) (message_not_down r msc ((4 * e + 3) ∷ ready ∷ []) refl))
+
+table_not_down : (e : ℕ) (channel own : State) (k : Kind) → many is_down (by_table Responder e channel own k) ≤ 0
+table_not_down e channel own Ua = omega arith
+table_not_down e channel own Dm = omega arith
+table_not_down e channel own Uih = omega arith
+table_not_down e channel own Disc = mode_not_down Responder e (is_opened own)
+table_not_down e channel own Sabm =
+    few_if is_down 0 ((e == 0) || is_opened channel) (ua_or_dm Responder e true ∷ msc_after_opening Responder e) (ua_or_dm Responder e false ∷ [])
+    (let a = mode_not_down Responder e true in let c = status_not_down Responder e in omega (arith, a, c)) (mode_not_down Responder e false)
+
+-- what calls for the response to a CLD is a CLD, while 0 is Opened
+pub down_called : (state : ℕ → State) (f : Frame) → is_stopping (state 0) ≡ false → 1 ≤ many is_down (by_frame Responder state f) → (is_opened (state 0) ≡ true) × (brings_command cld f ≡ true)
+down_called state f t h = by_on (is_on Uih 0 f) refl h
+  where
+    by_on : (b : Bool) → is_on Uih 0 f ≡ b → 1 ≤ many is_down (if b then by_message Responder (state 0) f else by_table Responder f.dlci (state 0) (state f.dlci) f.kind) → (is_opened (state 0) ≡ true) × (brings_command cld f ≡ true)
+    by_on true e h =
+        let p = message_down Responder (state 0) f t h in
+        let same : octet_is (λ n. n) cld (message_of f.info) ≡ true = sym (ap (λ (b : Bool). octet_is (λ n. n) cld (if b then message_of f.info else None)) e) ∙ p.1 in
+        (p.0, and_from (is_on Uih 0 f) (octet_is (λ n. n) cld (message_of f.info)) e same)
+    by_on false e h = let none = table_not_down f.dlci (state 0) (state f.dlci) f.kind in absurd (omega (arith, h, none))
+
+-- a CLD is answered by its response
+pub cld_answer : (f g : Frame) → brings_command cld f ≡ true → is_shaped g ≡ true → answers f g ≡ true → is_down g ≡ true
+cld_answer f g c shape h =
+    let p = and_parts (is_on Uih 0 f) (octet_is (λ n. n) cld (message_of f.info)) c in
+    by_message (message_in f) refl (ap (λ (b : Bool). octet_is (λ n. n) cld (if b then message_of f.info else None)) p.0 ∙ p.1)
+  where
+    by_answer : (m : Message) → message_in f ≡ Some m → (m.octet == cld) ≡ true → (q : Option Message) → message_in g ≡ q → both_respond (Some m) q ≡ true → is_down g ≡ true
+    by_answer m e o None is k = cc
+    by_answer m e o (Some n) is k =
+        let r = and_parts (message_asks (Some m)) (responds m n) k in
+        let octet = eqb-true m.octet cld o in
+        let one = one_response m n r.0 (ap shaped_message (sym is) ∙ shape) r.1 in
+        let back : n.octet ≡ response_of cld = one.0 ∙ ap (λ x. response_octet (is_supported x) x) octet in
+        let read : octet_is command_of cld (message_in g) ≡ true = ap (octet_is command_of cld) is ∙ ap (λ x. command_of x == cld) back in
+        down_by (is_on Uih 0 g) refl read
+      where
+        down_by : (b : Bool) → is_on Uih 0 g ≡ b → octet_is command_of cld (if b then message_of g.info else None) ≡ true → (b && octet_is command_of cld (message_of g.info)) ≡ true
+        down_by true e h = h
+        down_by false e h = h
+
+    by_message : (o : Option Message) → message_in f ≡ o → octet_is (λ n. n) cld o ≡ true → is_down g ≡ true
+    by_message None e k = cc
+    by_message (Some m) e k =
+        or_elim ((is_mode_command f && is_mode_answer g) && (f.dlci == g.dlci)) (both_respond (message_in f) (message_in g)) h
+        (λ x.
+          let y = and_parts (is_mode_command f) (is_mode_answer g) (and_parts (is_mode_command f && is_mode_answer g) (f.dlci == g.dlci) x).0 in
+          absurd (let z : true ≡ false = sym y.0 ∙ (message_no_mode f m e).0 in cc))
+        (λ x. by_answer m e k (message_in g) refl (sym (ap (λ (o : Option Message). both_respond o (message_in g)) e) ∙ x))

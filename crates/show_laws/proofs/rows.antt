@@ -1,0 +1,2 @@
+-- Worked lines, computed.
+pub mod LineRowFacts
