@@ -1,4 +1,5 @@
 -- Texts and octets that the program reads.
+pub mod AnswerLines
 pub mod Dumps
 pub mod ReadFrames
 pub mod ReadOctets

@@ -1,3 +1,4 @@
+pub mod AnswerTexts
 pub mod Bench
 pub mod Dump
 pub mod Framing

@@ -4,7 +4,7 @@
 //! # Layout
 //!
 //! - `runs`, `stop`, `reasons`, `input`, `writing`: a run over a reader and two writers, and how it ends.
-//! - `dump`, `framing`: `frames`. `script`, `dialect_runs`, `texts`: `replay`. `bench/`, `steps`: `bench`.
+//! - `dump`, `framing`: `frames`. `script`, `dialect_runs`, `texts`: `replay`. `bench/`: `bench`. `steps`, `own_answers`: files for `sim`.
 //! - `laws`.
 #![tactic(auto)]
 
@@ -14,6 +14,7 @@ mod dump;
 mod framing;
 mod input;
 pub mod laws;
+mod own_answers;
 mod reasons;
 mod runs;
 mod script;
@@ -26,6 +27,7 @@ pub use bench::{bench_run, bench_run_explained};
 pub use dialect_runs::{dialect_from, replay_with_dialect_run, replay_with_dialect_run_explained};
 pub use modem_bench::Cause;
 pub use modem_texts::LineFault;
+pub use own_answers::{AnswerPart, AnswersStop, answers_from, read_answers};
 pub use runs::{frames_run, frames_run_explained, replay_run, replay_run_explained};
 pub use script::read_script;
 pub use steps::{read_steps, steps_from};

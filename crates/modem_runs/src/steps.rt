@@ -35,7 +35,7 @@ fn decimal_of(text: &str) -> Option<u64>
 }
 
 /// The same in octets.
-fn number_of(word: &[u8]) -> Option<u64>
+pub(crate) fn number_of(word: &[u8]) -> Option<u64>
     ensures { MatchOption result ((n : ℕ) → n < 2 ^ 64 → word.now ≢ decimal n) (λ n. word.now ≡ decimal n) }
 {
     match str::from_utf8(word) {

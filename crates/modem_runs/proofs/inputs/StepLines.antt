@@ -124,7 +124,7 @@ lacks_both : (c : ℕ) (front back : List ℕ) → LacksByte c front → LacksBy
 lacks_both c [] back h i = i
 lacks_both c (x ∷ front) back h i = lacks_cons c x (front ++ back) (lacks_head c x front h) (lacks_both c front back (lacks_tail c x front h) i)
 
-lacks_decimal : (n : ℕ) → n < 2 ^ 64 → LacksByte 32 (decimal n)
+pub lacks_decimal : (n : ℕ) → n < 2 ^ 64 → LacksByte 32 (decimal n)
 lacks_decimal n h =
     decimal_by_steps (λ m ds. LacksByte 32 ds)
     (λ m l. lacks_cons 32 (48 + m) [] (λ e. omega (arith, e)) (lacks_nil 32))
