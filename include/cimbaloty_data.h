@@ -47,7 +47,7 @@ enum cimbaloty_data_status {
 	CIMBALOTY_DATA_UNDER_WAY = 7,       /* a lane is under way on the connection */
 	CIMBALOTY_DATA_UNREAD = 8,          /* data of the last lane wasn't read */
 	CIMBALOTY_DATA_NOT_OPEN = 9,        /* the connection isn't open */
-	CIMBALOTY_DATA_LINES = 10,          /* lines come: no lane began, or its CONNECT line hasn't come */
+	CIMBALOTY_DATA_LINES = 10,          /* lines: no lane is under way, or no octet came behind its CONNECT line */
 	CIMBALOTY_DATA_NO_RELAY = 16,       /* there is no relay */
 	CIMBALOTY_DATA_HAS_RELAY = 17,      /* there is a relay already */
 	CIMBALOTY_DATA_BAD_DLCI = 18        /* a connection is 0 to 61 */

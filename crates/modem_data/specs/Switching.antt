@@ -27,7 +27,7 @@ abbrev pub is_idle : Carries → Bool
 is_idle Idle = true
 is_idle _ = false
 
--- the CONNECT line has ended: what goes and comes is data
+-- the CONNECT line has ended: what comes is data, and data may go once some came
 abbrev pub is_behind_lines : Carries → Bool
 is_behind_lines (Ended by) = true
 is_behind_lines Data = true
