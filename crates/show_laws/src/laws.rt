@@ -3,7 +3,7 @@ ghost use Rattle.std.specs.Prelude.{ℕ, List};
 ghost use Rattle.modem_history.specs.Calls.{Setting};
 ghost use Rattle.show_laws.specs.Lines.{LineAct};
 ghost use Rattle.show_laws.specs.LineRows.{AreRight};
-ghost use Rattle.show_laws.specs.Laws.{AnswersAll, AnswersAsks, CarriesText, FitsN1, SendsWhileOpen};
+ghost use Rattle.show_laws.specs.Laws.{AnswersAll, AnswersAsks, BothSendWhileOpen, CarriesText, FitsN1, SendsWhileOpen};
 
 /// No frame between a driver that keeps its laws and a modem that keeps the responder's tables is judged an answer that nothing waits
 /// for.
@@ -45,4 +45,11 @@ pub fn worked_lines()
 #[tactic(auto, using(crate::proofs::answered::NoneWaits::answers_all))]
 pub fn answered()
     ensures { (s : Setting) (n1 : ℕ) (line : List LineAct) → AnswersAll s n1 line }
+{}
+
+/// No data of either end is judged so where, beyond this, the modem does at once what each act calls for, sends no SABM, DISC or CLD of its
+/// own, and isn't told of a loss of the line.
+#[tactic(auto, using(crate::proofs::openings::BothOpen::both_send_while_open))]
+pub fn openings_of_both()
+    ensures { (s : Setting) (n1 : ℕ) (line : List LineAct) → BothSendWhileOpen s n1 line }
 {}

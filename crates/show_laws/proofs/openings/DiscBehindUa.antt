@@ -119,7 +119,7 @@ disc_never d r state f =
 flow_never : (d : ℕ) (r : Role) (state : ℕ → State) (e signals : ℕ) → many (discs d) (by_flow r state e signals) ≤ 0
 flow_never d r state e signals = few_if (discs d) 0 (is_opened (state e)) (msc_frame r e signals ∷ []) [] (omega arith) (omega arith)
 
-once_many : (t : Frame → Bool) (fs : List Frame) → many t fs ≤ length (filter t fs)
+pub once_many : (t : Frame → Bool) (fs : List Frame) → many t fs ≤ length (filter t fs)
 once_many t [] = omega arith
 once_many t (f ∷ fs) = by_test (t f) (once_many t fs)
   where

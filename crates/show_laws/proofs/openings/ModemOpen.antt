@@ -91,7 +91,7 @@ none_asks d (f ∷ fs) h =
     off true b e = cc
     off false b e = refl
 
-asks_parts : (d : ℕ) (fs : List Frame) → many (ask_on d) fs ≤ many (is_on Sabm d) fs + many (is_on Disc d) fs
+pub asks_parts : (d : ℕ) (fs : List Frame) → many (ask_on d) fs ≤ many (is_on Sabm d) fs + many (is_on Disc d) fs
 asks_parts d [] = omega arith
 asks_parts d (f ∷ fs) = let x = parts (is_kind f.kind Sabm) (is_kind f.kind Disc) (f.dlci == d) in let y = asks_parts d fs in omega (arith, x, y)
   where
@@ -115,7 +115,7 @@ driver_answers_none s n1 d line h =
     omega (arith, sent, came, none)
 
 -- a DISC was sent behind the modem's UA
-disc_after : (s : Setting) (n1 d : ℕ) (line : List LineAct) → IsSteadyLine s n1 line → 1 ≤ many (is_on Disc d) (frames_sent (wire (driver_past line))) → 1 ≤ many (is_on Ua d) (frames_sent (modem_past line))
+pub disc_after : (s : Setting) (n1 d : ℕ) (line : List LineAct) → IsSteadyLine s n1 line → 1 ≤ many (is_on Disc d) (frames_sent (wire (driver_past line))) → 1 ≤ many (is_on Ua d) (frames_sent (modem_past line))
 disc_after s n1 d line h some =
     let got = disc_behind s d (driver_past line) h.lawful.is_initiator h.lawful.driver_lawful h.once some in
     let came = came_few (is_on Ua d) (modem_past line) (wire (driver_past line)) (both_ways line h.lawful.one_line).at_driver in

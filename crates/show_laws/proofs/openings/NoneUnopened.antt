@@ -24,7 +24,7 @@ data_gated : (s : Setting) (past : List Act) (f : Frame) → Lawful s (Sent f �
 unfolding Lawful
 data_gated s past f l is = subst (λ (b : Bool). When b (Gated s past (owed s past) f)) is l.0.gated
 
-driver_open : (s : Setting) (n1 : ℕ) (stamps : ℕ → Stamp) (f : Frame) (line : List LineAct) → IsOnceLine s n1 (AtDriver (Sent f) ∷ line) → is_unopened (captured stamps line) (caught (stamps (length (captured stamps line))) ToModem f) ≡ false
+pub driver_open : (s : Setting) (n1 : ℕ) (stamps : ℕ → Stamp) (f : Frame) (line : List LineAct) → IsOnceLine s n1 (AtDriver (Sent f) ∷ line) → is_unopened (captured stamps line) (caught (stamps (length (captured stamps line))) ToModem f) ≡ false
 driver_open s n1 stamps f line h =
     by_data (is_data_frame f) (is_open Initiator f.dlci (seen_by stamps line)) (is_in_doubt f.dlci (waiting Responder (captured stamps line))) (λ is.
       let gated = data_gated s (driver_past line) f h.lawful.driver_lawful is in
