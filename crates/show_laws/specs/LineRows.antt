@@ -1,22 +1,26 @@
 -- Worked lines, N1 31.
-use Rattle.std.specs.Prelude.{◌≡◌, ℕ, List, [], ◌∷◌, ◌++◌, codes, map, reverse}
+use Rattle.std.specs.Prelude.{◌≡◌, ℕ, false, List, [], ◌∷◌, ◌++◌, codes, map, reverse}
+use Rattle.std.specs.List.{list_any}
 use Rattle.mux_frame.specs.declared.frame.Kind.{Kind}
 use Rattle.mux_frame.specs.declared.frame.Kind.TheVariants.{Sabm, Ua, Uih}
 use Rattle.mux_capture.specs.Passing.{Caught}
 use Rattle.mux_capture.specs.declared.packet.Stamp.{Stamp}
 use Rattle.mux_station.specs.declared.role.Role.TheVariants.{Initiator, Responder}
 use Rattle.mux_station.specs.Acts as station
+use Rattle.mux_station.specs.Sending.{is_loss}
 use Rattle.mux_station.specs.Written.{written}
 use Rattle.modem_desk.specs.declared.request.Ask.TheVariants.{OpenChannel, Command, Stop}
 use Rattle.modem_desk.specs.declared.request.Answer.TheVariants.{Opened, Closed, Stopped}
 use Rattle.modem_history.specs.Acts as driver
-use Rattle.modem_history.specs.Acts.{Given}
+use Rattle.modem_history.specs.Acts.{Given, wire}
 use Rattle.modem_history.specs.Calls.{replaying}
 use Rattle.modem_history.specs.Rows as row
 use Rattle.modem_history.specs.Rows.{takes, tells, tells_done, zero, one}
+use Rattle.modem_history.specs.TwoEnds.{AsksOnce, TakesCommandLines}
 use Rattle.modem_show.specs.Judging.{faults_from, unanswered}
 use Rattle.modem_show.specs.Rows.{never_answered, sound}
-use Rattle.show_laws.specs.Lines.{AtDriver, AtModem, IsLawfulLine, LineAct, captured}
+use Rattle.show_laws.specs.Laws.{IsPrompt, NeverClosesDown, OffersText, OpensAndClosesNothing, TakesShortProbes}
+use Rattle.show_laws.specs.Lines.{AtDriver, AtModem, IsDone, IsLawfulLine, LineAct, ReadsWhileOpen, captured, driver_past, modem_past, responding}
 
 -- the line after these acts, of which the first comes first
 abbrev pub after : List LineAct → List LineAct → List LineAct
@@ -90,6 +94,21 @@ pub record IsRight (acts : List LineAct) : Type 0 where
   pub of_driver : never_answered (unanswered Initiator (frames_of acts)) ≡ []
   pub of_modem : never_answered (unanswered Responder (frames_of acts)) ≡ []
 
+-- all that the laws ask of a line
+pub record MeetsAll (acts : List LineAct) : Type 0 where
+  pub once : AsksOnce (wire (driver_past (after [] acts)))
+  pub stays : NeverClosesDown (modem_past (after [] acts))
+  pub steady : OpensAndClosesNothing (modem_past (after [] acts))
+  pub prompt : IsPrompt (responding 31) (modem_past (after [] acts))
+  pub live : list_any is_loss (modem_past (after [] acts)) ≡ false
+  pub commands : TakesCommandLines (driver_past (after [] acts))
+  pub offers : OffersText (modem_past (after [] acts))
+  pub probes : TakesShortProbes (driver_past (after [] acts))
+  pub done : IsDone (replaying 31) 31 (after [] acts)
+  pub at_driver : ReadsWhileOpen Initiator (wire (driver_past (after [] acts)))
+  pub at_modem : ReadsWhileOpen Responder (modem_past (after [] acts))
+
 pub record AreRight : Type 0 where
   pub talks : IsRight one_command
+  pub talks_by_all : MeetsAll one_command
   pub stops : IsRight stopped_early
