@@ -1,10 +1,10 @@
 -- No data is judged to be on a connection that isn't open.
-use Rattle.std.specs.Prelude.{◌≡◌, ℕ, ◌&&◌, ◌||◌, not, Bool, true, false, List, [], ◌∷◌, ◌≤◌, length, refl}
+use Rattle.std.specs.Prelude.{◌≡◌, ℕ, ◌&&◌, ◌||◌, not, Bool, true, false, List, [], ◌∷◌, length, refl}
 use Rattle.std.specs.List.{list_any}
-use Rattle.std.proofs.Common.{ap, arith, sym, ◌∙◌, subst}
+use Rattle.std.proofs.Common.{ap, arith}
 use Rattle.std.proofs.lemmas.Bool.{or_parts}
 use Rattle.mux_frame.specs.Frames.{Frame}
-use Rattle.mux_capture.specs.declared.packet.Direction.TheVariants.{ToModem, FromModem}
+use Rattle.mux_capture.specs.declared.packet.Direction.TheVariants.{FromModem}
 use Rattle.mux_capture.specs.declared.packet.Stamp.{Stamp}
 use Rattle.mux_station.specs.declared.role.Role.TheVariants.{Initiator, Responder}
 use Rattle.mux_station.specs.Acts as station
@@ -22,11 +22,11 @@ use Rattle.modem_show.specs.Asking.{is_in_doubt, is_mode_command, waiting}
 use Rattle.modem_show.specs.Ends.{own}
 use Rattle.modem_show.specs.Judging.{is_unopened}
 use Rattle.modem_show.specs.Ways.{caught}
-use Rattle.show_laws.specs.Lines.{AtDriver, AtModem, LineAct, captured, driver_past, modem_past, responding}
-use Rattle.show_laws.specs.Laws.{BothSendWhileOpen, NeverClosesDown, OpensAndClosesNothing, opens_or_closes}
+use Rattle.show_laws.specs.Lines.{AtDriver, AtModem, LineAct, captured, modem_past, responding}
+use Rattle.show_laws.specs.Laws.{BothSendWhileOpen, opens_or_closes}
 use Rattle.show_laws.proofs.lines.EveryFrame.{every}
 use Rattle.show_laws.proofs.openings.DriverOpen.{IsOnceLine}
-use Rattle.show_laws.proofs.openings.ModemFollows.{FollowsM, IsReady, coming, there}
+use Rattle.show_laws.proofs.openings.ModemFollows.{IsReady, coming, there}
 use Rattle.show_laws.proofs.openings.ModemLine.{modem_line}
 use Rattle.show_laws.proofs.openings.ModemOpen.{IsSteadyLine, steady_line_before}
 use Rattle.show_laws.proofs.openings.NoneUnopened.{driver_open}
@@ -51,9 +51,9 @@ data_gated n1 past f l is = rw is at l.0
 modem_open : (s : Setting) (n1 : ℕ) (stamps : ℕ → Stamp) (f : Frame) (line : List LineAct) → IsSteadyLine s n1 (AtModem (station.Sent f) ∷ line) → is_unopened (captured stamps line) (caught (stamps (length (captured stamps line))) FromModem f) ≡ false
 modem_open s n1 stamps f line h =
     by_data (is_data_frame f) (is_open Responder f.dlci (own Responder (captured stamps line))) (is_in_doubt f.dlci (waiting Initiator (captured stamps line))) (λ is.
-      let gated = data_gated n1 (modem_past line) f h.lawful.modem_lawful is in
-      let k = modem_line s n1 stamps line (steady_line_before s n1 (AtModem (station.Sent f)) line h) f.dlci in
-      is_there gated (k.opens gated.is_open))
+    let gated = data_gated n1 (modem_past line) f h.lawful.modem_lawful is in
+    let k = modem_line s n1 stamps line (steady_line_before s n1 (AtModem (station.Sent f)) line h) f.dlci in
+    is_there gated (k.opens gated.is_open))
   where
     is_there : StationGated (responding n1) (modem_past line) f → IsReady f.dlci (own Responder (captured stamps line)) (owed_frames (responding n1) (modem_past line)) → is_open Responder f.dlci (own Responder (captured stamps line)) ≡ true
     is_there g (there e) = e

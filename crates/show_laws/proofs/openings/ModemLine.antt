@@ -7,39 +7,36 @@ use Rattle.mux_frame.specs.Frames.{Frame}
 use Rattle.mux_frame.specs.declared.frame.Kind.{Kind}
 use Rattle.mux_frame.specs.declared.frame.Kind.TheVariants.{Sabm, Ua, Dm, Disc, Uih}
 use Rattle.mux_capture.specs.declared.packet.Stamp.{Stamp}
-use Rattle.mux_station.specs.declared.role.Role.{Role}
 use Rattle.mux_station.specs.declared.role.Role.TheVariants.{Initiator, Responder}
 use Rattle.mux_station.specs.Acts as station
-use Rattle.mux_station.specs.Messages.{Message, cld, msc, nsc, brings_command, brings_response, is_command, message_in, message_of, octet_is, response_of}
-use Rattle.mux_station.specs.Opening.{ends, ends_itself, is_mode_frame_on, opens}
-use Rattle.mux_station.specs.Sending.{Sends, StationGated, StationLawful, called_frames, frames_asked, frames_seeing, is_loss, owed_frames, refused, station_view}
-use Rattle.mux_station.specs.States.{State, is_opened, is_stopping, state_of}
-use Rattle.mux_station.specs.Tables.{by_frame, is_supported, message_frame, response_to}
-use Rattle.mux_station.specs.Written.{is_data_frame, is_kind, is_on, written}
+use Rattle.mux_station.specs.Messages.{Message, cld, nsc, brings_command, is_command, message_in, message_of, octet_is}
+use Rattle.mux_station.specs.Opening.{ends, ends_itself, is_mode_frame_on}
+use Rattle.mux_station.specs.Sending.{Sends, StationLawful, called_frames, frames_seeing, is_loss, owed_frames, refused, station_view}
+use Rattle.mux_station.specs.States.{is_opened, state_of}
+use Rattle.mux_station.specs.Tables.{by_frame}
+use Rattle.mux_station.specs.Written.{is_data_frame, is_kind, is_on}
 use Rattle.mux_station.proofs.states.OpenByPlaces.{zero_same}
 use Rattle.mux_station.proofs.states.OpenedStates.{opened_is_open}
 use Rattle.modem_history.specs.Acts as driver
 use Rattle.modem_history.specs.Acts.{wire}
 use Rattle.modem_history.specs.Calls.{Setting}
 use Rattle.modem_history.specs.TwoEnds.{frames_got, frames_sent}
-use Rattle.modem_history.proofs.connections.InformationGrowth.{opens_none}
 use Rattle.modem_show.specs.Asking.{Ask, answered_by, answers, is_again, is_ask, is_mode_answer, is_mode_command, message_asks, waiting}
 use Rattle.modem_show.specs.Ends.{come, handled, own}
 use Rattle.show_laws.specs.Lines.{AtDriver, AtModem, LineAct, captured, driver_past, modem_past, responding}
 use Rattle.show_laws.specs.Laws.{OpensAndClosesNothing}
-use Rattle.show_laws.proofs.asks.AnswerShapes.{is_shaped, or_elim}
+use Rattle.show_laws.proofs.asks.AnswerShapes.{is_shaped}
 use Rattle.show_laws.proofs.asks.AnswersCalled.{AnyProbe}
 use Rattle.show_laws.proofs.asks.NoneUnasked.{modem_shaped}
 use Rattle.show_laws.proofs.asks.WaitingAsks.{frames_of, frames_to}
-use Rattle.show_laws.proofs.counts.ManyFrames.{few_if, many, none_one, unit}
+use Rattle.show_laws.proofs.counts.ManyFrames.{many, unit}
 use Rattle.show_laws.proofs.counts.BalancedTables.{is_command_octet, none_of_tick}
 use Rattle.show_laws.proofs.counts.StationCounts.{asked, called, station_sends}
 use Rattle.show_laws.proofs.lines.CapturedFrames.{both_ways, came_few, shows}
-use Rattle.show_laws.proofs.openings.FreshAsks.{Fresh}
-use Rattle.show_laws.proofs.openings.ModeAnswers.{is_ending, modes_few}
-use Rattle.show_laws.proofs.openings.ModemFollows.{FollowsM, IsSabm, answer_on, ask_on, call_step, come_step, control_step, data_step, open_m, still_step, uas_fewer, zero_m}
+use Rattle.show_laws.proofs.openings.ModeAnswers.{modes_few}
+use Rattle.show_laws.proofs.openings.ModemFollows.{FollowsM, IsSabm, answer_on, ask_on, call_step, come_step, control_step, data_step, open_m, still_step, zero_m}
 use Rattle.show_laws.proofs.openings.ModemOpen.{IsSteadyLine, above, asks_parts, disc_after, has_fresh, never_stops, steady_line_before}
-use Rattle.show_laws.proofs.openings.QuietFrames.{EndsNone, Quiet, ender_ends, ends_none, is_ender}
+use Rattle.show_laws.proofs.openings.QuietFrames.{EndsNone, Quiet, ender_ends, ends_none}
 use Rattle.show_laws.proofs.openings.DriverOpen.{quiet_one}
 use Rattle.show_laws.proofs.openings.DiscBehindUa.{once_many}
 use Rattle.show_laws.proofs.openings.ResponderCalls.{answer_balanced, answer_modes, cld_answer, down_balanced, down_called, every, is_down, opening_answered, tail_none}
@@ -231,16 +228,16 @@ modem_got s n1 stamps f line h d before =
     (λ o. let p = and_parts (is_on Sabm d f) ((d == 0) || z) o in opening_answered d (λ e. state_of Responder e past) f p.0 (sym (ap (λ (b : Bool). (d == 0) || b) zero_is) ∙ p.1))
     (λ o some. fresh_by (is_on Sabm d f) refl o (one_true (ask_on d f) (omega (arith, some, few))))
     (λ some apart.
-      let a = one_true (ask_on 0 f) (omega (arith, some, few0)) in
-      let p = and_parts (is_mode_command f) (f.dlci == 0) a in
-      let away : (f.dlci == d) ≡ false = ap (λ n. n == d) (eqb-true f.dlci 0 p.1) ∙ swapped apart in
-      shut_by (is_on Sabm d f) ((d == 0) || z) (open_m d past) (ends z d (station.Got f)) (second (is_kind f.kind Sabm) (f.dlci == d) away)
-      (ender_ends z d f (and_from (is_mode_command f) ((f.dlci == d) || (f.dlci == 0)) p.0 (either (f.dlci == d) (f.dlci == 0) p.1))))
+    let a = one_true (ask_on 0 f) (omega (arith, some, few0)) in
+    let p = and_parts (is_mode_command f) (f.dlci == 0) a in
+    let away : (f.dlci == d) ≡ false = ap (λ n. n == d) (eqb-true f.dlci 0 p.1) ∙ swapped apart in
+    shut_by (is_on Sabm d f) ((d == 0) || z) (open_m d past) (ends z d (station.Got f)) (second (is_kind f.kind Sabm) (f.dlci == d) away)
+    (ender_ends z d f (and_from (is_mode_command f) ((f.dlci == d) || (f.dlci == 0)) p.0 (either (f.dlci == d) (f.dlci == 0) p.1))))
     (λ some.
-      let p = down_called (λ e. state_of Responder e past) f (never_stops past (steady_of h)) some in
-      let open_zero : z ≡ true = zero_is ∙ p.0 in
-      shut_by (is_on Sabm d f) ((d == 0) || z) (open_m d past) (ends z d (station.Got f)) (uih_no_sabm f.kind (f.dlci == d) (f.dlci == 0) (octet_is (λ n. n) cld (message_of f.info)) p.1)
-      (ap (λ (b : Bool). b || (not (d == 0) && ends_itself z 0 (station.Got f))) (down_ends (is_on Disc d f) (is_on Dm d f) (is_on Sabm d f) z (brings_command cld f) open_zero p.1)))
+    let p = down_called (λ e. state_of Responder e past) f (never_stops past (steady_of h)) some in
+    let open_zero : z ≡ true = zero_is ∙ p.0 in
+    shut_by (is_on Sabm d f) ((d == 0) || z) (open_m d past) (ends z d (station.Got f)) (uih_no_sabm f.kind (f.dlci == d) (f.dlci == 0) (octet_is (λ n. n) cld (message_of f.info)) p.1)
+    (ap (λ (b : Bool). b || (not (d == 0) && ends_itself z 0 (station.Got f))) (down_ends (is_on Disc d f) (is_on Dm d f) (is_on Sabm d f) z (brings_command cld f) open_zero p.1)))
     (tail_none d (λ e. state_of Responder e past) f))
   where
     steady_of : IsSteadyLine s n1 (AtModem (station.Got f) ∷ line) → OpensAndClosesNothing (modem_past line)

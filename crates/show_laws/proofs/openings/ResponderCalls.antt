@@ -1,22 +1,22 @@
 -- The answers that a responder's frames and calls bring about.
-use Rattle.std.specs.Prelude.{◌≡◌, ℕ, ◌+◌, ◌*◌, ◌-◌, ◌==◌, ◌≤◌, ◌&&◌, ◌||◌, not, Bool, true, false, List, [], ◌∷◌, drop, length, Option, Some, None, refl, if◌then◌else◌}
+use Rattle.std.specs.Prelude.{◌≡◌, ℕ, ◌+◌, ◌*◌, ◌==◌, ◌≤◌, ◌&&◌, ◌||◌, not, Bool, true, false, List, [], ◌∷◌, drop, Option, Some, None, refl, if◌then◌else◌}
 use Rattle.std.proofs.Common.{ap, arith, sym, ◌∙◌, subst, eqb-true}
-use Rattle.std.proofs.lemmas.Bool.{and_from, and_parts, or_parts, eq-eqb}
+use Rattle.std.proofs.lemmas.Bool.{and_from, and_parts, eq-eqb}
 use Rattle.mux_frame.specs.Frames.{Frame}
 use Rattle.mux_frame.specs.declared.frame.Kind.{Kind}
 use Rattle.mux_frame.specs.declared.frame.Kind.TheVariants.{Sabm, Ua, Dm, Disc, Uih}
 use Rattle.mux_station.specs.declared.role.Role.{Role}
-use Rattle.mux_station.specs.declared.role.Role.TheVariants.{Initiator, Responder}
-use Rattle.mux_station.specs.Written.{is_data_frame, is_kind, is_on, written}
+use Rattle.mux_station.specs.declared.role.Role.TheVariants.{Responder}
+use Rattle.mux_station.specs.Written.{is_data_frame, is_kind, is_on}
 use Rattle.mux_station.specs.Messages.{Message, cld, msc, nsc, test, brings_command, brings_response, command_of, is_command, message_in, message_of, octet_is, response_of}
 use Rattle.mux_station.specs.States.{State, IsShut, IsOpening, IsOpened, IsClosing, IsStopping, is_opened, is_stopping}
-use Rattle.mux_station.specs.Tables.{by_frame, by_message, by_table, is_opening, is_supported, message_frame, msc_after_opening, msc_frame, ready, response_to, ua_or_dm}
+use Rattle.mux_station.specs.Tables.{by_frame, by_message, by_table, is_supported, message_frame, msc_after_opening, msc_frame, ready, response_to, ua_or_dm}
 use Rattle.modem_show.specs.Asking.{answers, both_respond, is_mode_answer, is_mode_command, message_asks, responds}
 use Rattle.show_laws.proofs.asks.AnswerShapes.{is_shaped, message_no_mode, one_response, or_elim, response_octet, shaped_message, supported_by}
 use Rattle.show_laws.proofs.asks.AnswersCalled.{AnyProbe, IsRead, as_it_is, is_read, unread}
 use Rattle.show_laws.proofs.counts.ManyFrames.{few_dropped, few_if, many, none_one, unit}
 use Rattle.show_laws.proofs.counts.BalancedTables.{Balanced, is_command_octet}
-use Rattle.show_laws.proofs.openings.ModeAnswers.{OfModes, messaged, modes_balanced, modes_few}
+use Rattle.show_laws.proofs.openings.ModeAnswers.{OfModes, messaged, modes_balanced}
 use Rattle.show_laws.proofs.openings.ModemFollows.{answer_on, ask_on}
 
 -- ## UA and DM
@@ -206,8 +206,8 @@ cld_answer f g c shape h =
     by_message (Some m) e k =
         or_elim ((is_mode_command f && is_mode_answer g) && (f.dlci == g.dlci)) (both_respond (message_in f) (message_in g)) h
         (λ x.
-          let y = and_parts (is_mode_command f) (is_mode_answer g) (and_parts (is_mode_command f && is_mode_answer g) (f.dlci == g.dlci) x).0 in
-          absurd (let z : true ≡ false = sym y.0 ∙ (message_no_mode f m e).0 in cc))
+        let y = and_parts (is_mode_command f) (is_mode_answer g) (and_parts (is_mode_command f && is_mode_answer g) (f.dlci == g.dlci) x).0 in
+        absurd (let z : true ≡ false = sym y.0 ∙ (message_no_mode f m e).0 in cc))
         (λ x. by_answer m e k (message_in g) refl (sym (ap (λ (o : Option Message). both_respond o (message_in g)) e) ∙ x))
 
 -- ## The response to a CLD, by counts

@@ -18,7 +18,7 @@ use Rattle.modem_history.specs.Rows.{takes, tells, tells_done, zero, one}
 use Rattle.modem_history.specs.TwoEnds.{AsksOnce, ComesInOrder, frames_got, frames_sent}
 use Rattle.modem_history.proofs.rows.HistoryTests.{good}
 use Rattle.show_laws.specs.Lines.{IsOneLine, LineAct, driver_past, modem_past, responding}
-use Rattle.show_laws.specs.LineRows.{AreRight, IsRight, MeetsAll, after, one_command, stopped_early}
+use Rattle.show_laws.specs.LineRows.{AreRight, MeetsAll, after, one_command, stopped_early}
 
 -- ## One line
 
@@ -52,13 +52,22 @@ command_line = next refl refl (next refl refl (next refl refl (next refl refl (n
 
 command_station : StationLawful (responding 31) (modem_past (after [] one_command))
 unfolding StationLawful Sends
-command_station =
-    (record { later = []; is_next = refl },
-    (record { live = refl; is_open = refl; goes = refl; as_written = refl; some = refl; fits = refl; behind = refl; later = []; is_offered = refl },
-    (record { later = []; is_next = refl },
-    (record { later = []; is_next = refl },
-    (record { later = written Responder Uih 0 (row.msc_command 1 0x8d) ∷ []; is_next = refl },
-    (record { later = []; is_next = refl }, tt))))))
+command_station = (
+  record { later = []; is_next = refl },
+  (
+    record { live = refl; is_open = refl; goes = refl; as_written = refl; some = refl; fits = refl; behind = refl; later = []; is_offered = refl },
+    (
+      record { later = []; is_next = refl },
+      (
+        record { later = []; is_next = refl },
+        (
+          record { later = written Responder Uih 0 (row.msc_command 1 0x8d) ∷ []; is_next = refl },
+          (record { later = []; is_next = refl }, tt),
+        ),
+      ),
+    ),
+  ),
+)
 
 -- ## A stop
 
@@ -73,11 +82,16 @@ stop_line = next refl refl (next refl refl (next refl refl (next refl refl (next
 
 stop_station : StationLawful (responding 31) (modem_past (after [] stopped_early))
 unfolding StationLawful Sends
-stop_station =
-    (record { later = []; is_next = refl },
-    (record { later = []; is_next = refl },
-    (record { later = written Responder Uih 0 (row.msc_command 1 0x8d) ∷ []; is_next = refl },
-    (record { later = []; is_next = refl }, tt))))
+stop_station = (
+  record { later = []; is_next = refl },
+  (
+    record { later = []; is_next = refl },
+    (
+      record { later = written Responder Uih 0 (row.msc_command 1 0x8d) ∷ []; is_next = refl },
+      (record { later = []; is_next = refl }, tt),
+    ),
+  ),
+)
 
 -- ## What the laws ask
 
