@@ -1,12 +1,12 @@
 -- What is never wrong with a frame of a lawful line.
-use Rattle.std.specs.Prelude.{◌≡◌, ℕ, ◌≤◌, ◌||◌, nat_le, Bool, true, false, List, [], ◌∷◌, length}
+use Rattle.std.specs.Prelude.{◌≡◌, ℕ, ◌≤◌, ◌||◌, nat_le, Bool, true, false, List, [], ◌∷◌, length, ◌==◌, ◌&&◌, Option, None, Some}
 use Rattle.std.specs.List.{list_all, list_any}
 use Rattle.mux_capture.specs.declared.packet.Direction.TheVariants.{ToModem}
 use Rattle.mux_capture.specs.declared.packet.Stamp.{Stamp}
 use Rattle.mux_station.specs.declared.role.Role.TheVariants.{Initiator, Responder}
 use Rattle.mux_station.specs.Acts as station
 use Rattle.mux_frame.specs.Frames.{Frame}
-use Rattle.mux_station.specs.Messages.{cld, brings_command}
+use Rattle.mux_station.specs.Messages.{Message, brings_command, cld, fcoff, message_in, msc, msc_stops}
 use Rattle.mux_station.specs.Sending.{StationSetting, is_loss, owed_frames}
 use Rattle.modem_desk.specs.declared.request.Ask.{Ask}
 use Rattle.modem_desk.specs.declared.request.Ask.TheVariants.{Probe}
@@ -15,7 +15,7 @@ use Rattle.modem_history.specs.Acts.{wire}
 use Rattle.modem_history.specs.Calls.{Setting}
 use Rattle.modem_history.specs.TwoEnds.{AsksOnce, TakesCommandLines, frames_sent}
 use Rattle.modem_history.specs.Wholes.{taken_requests}
-use Rattle.modem_show.specs.declared.rule.Rule.TheVariants.{Unasked, Unopened, TooLong, Astray}
+use Rattle.modem_show.specs.declared.rule.Rule.TheVariants.{Unasked, Unopened, Unstopped, TooLong, Astray}
 use Rattle.modem_show.specs.Asking.{is_mode_command}
 use Rattle.modem_show.specs.Judging.{is_text, unanswered}
 use Rattle.show_laws.specs.Lines.{IsDone, IsLawfulLine, ReadsWhileOpen, LineAct, NoneBreaks, NoneBreaksIn, captured, driver_past, modem_past, responding}
@@ -98,3 +98,20 @@ BothSendWhileOpen s n1 line =
     IsLawfulLine s n1 line → AsksOnce (wire (driver_past line)) → OpensAndClosesNothing (modem_past line)
     → IsPrompt (responding n1) (modem_past line) → list_any is_loss (modem_past line) ≡ false
     → (stamps : ℕ → Stamp) (most : ℕ) → NoneBreaks Unopened most (captured stamps line)
+
+-- ## Stops
+
+-- a message stops connections: an MSC with FC, or FCoff
+abbrev pub message_stops : Option Message → Bool
+message_stops None = false
+message_stops (Some m) = ((m.octet == msc) && msc_stops m.value) || (m.octet == fcoff)
+
+-- no message that stops was sent
+abbrev pub StopsNothing : List station.Act → Type 0
+StopsNothing past = list_any (λ f. message_stops (message_in f)) (frames_sent past) ≡ false
+
+-- no data is sent on a connection that is stopped, where neither end stops any
+unfoldable pub NeverStopped : Setting → ℕ → List LineAct → Type 0
+NeverStopped s n1 line =
+    IsLawfulLine s n1 line → StopsNothing (wire (driver_past line)) → StopsNothing (modem_past line)
+    → (stamps : ℕ → Stamp) (most : ℕ) → NoneBreaks Unstopped most (captured stamps line)

@@ -3,7 +3,7 @@ ghost use Rattle.std.specs.Prelude.{ℕ, List};
 ghost use Rattle.modem_history.specs.Calls.{Setting};
 ghost use Rattle.show_laws.specs.Lines.{LineAct};
 ghost use Rattle.show_laws.specs.LineRows.{AreRight};
-ghost use Rattle.show_laws.specs.Laws.{AnswersAll, AnswersAsks, BothSendWhileOpen, CarriesText, FitsN1, SendsWhileOpen};
+ghost use Rattle.show_laws.specs.Laws.{AnswersAll, AnswersAsks, BothSendWhileOpen, CarriesText, FitsN1, NeverStopped, SendsWhileOpen};
 
 /// No frame between a driver that keeps its laws and a modem that keeps the responder's tables is judged an answer that nothing waits
 /// for.
@@ -52,4 +52,10 @@ pub fn answered()
 #[tactic(auto, using(crate::proofs::openings::BothOpen::both_send_while_open))]
 pub fn openings_of_both()
     ensures { (s : Setting) (n1 : ℕ) (line : List LineAct) → BothSendWhileOpen s n1 line }
+{}
+
+/// No data is judged to be on a stopped connection, where neither end stops any.
+#[tactic(auto, using(crate::proofs::stops::NoneStopped::never_stopped))]
+pub fn stops()
+    ensures { (s : Setting) (n1 : ℕ) (line : List LineAct) → NeverStopped s n1 line }
 {}

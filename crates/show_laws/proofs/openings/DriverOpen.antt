@@ -60,7 +60,7 @@ removed_fewer t p (a ∷ asks) = by_test (p a.frame) (removed_fewer t p asks)
         let next : many_asks t (remove (a ∷ asks) (1 + n)) ≡ unit (t a.frame) + many_asks t (remove asks n) = let one : 1 + n ≡ suc n = omega arith in ap (λ m. many_asks t (remove (a ∷ asks) m)) one in
         omega (arith, k, next)
 
-waiting_few : (t : Frame → Bool) (r : Role) (line : List Caught) → many_asks t (waiting r line) ≤ many t (frames_of r line)
+pub waiting_few : (t : Frame → Bool) (r : Role) (line : List Caught) → many_asks t (waiting r line) ≤ many t (frames_of r line)
 waiting_few t r [] = omega arith
 waiting_few t r (c ∷ line) = by_way (is_from r c) (waiting_few t r line)
   where
@@ -75,7 +75,7 @@ waiting_few t r (c ∷ line) = by_way (is_from r c) (waiting_few t r line)
         let x = removed_fewer t (λ f. answers f c.frame) (waiting r line) in
         omega (arith, e, x, k)
 
-found_one : (t p : Frame → Bool) (asks : List Ask) (a : Ask) → find (λ x. p x.frame) asks ≡ Some a → many_asks t asks ≤ 0 → (p a.frame ≡ true) × (t a.frame ≡ false)
+pub found_one : (t p : Frame → Bool) (asks : List Ask) (a : Ask) → find (λ x. p x.frame) asks ≡ Some a → many_asks t asks ≤ 0 → (p a.frame ≡ true) × (t a.frame ≡ false)
 found_one t p [] a e none = cc
 found_one t p (x ∷ asks) a e none = by_test (p x.frame) refl e (λ k. found_one t p asks a k (omega (arith, none)))
   where
