@@ -7,3 +7,4 @@ pub mod openings
 pub mod rows
 pub mod answered
 pub mod stops
+pub mod sound

@@ -3,7 +3,7 @@ ghost use Rattle.std.specs.Prelude.{ℕ, List};
 ghost use Rattle.modem_history.specs.Calls.{Setting};
 ghost use Rattle.show_laws.specs.Lines.{LineAct};
 ghost use Rattle.show_laws.specs.LineRows.{AreRight};
-ghost use Rattle.show_laws.specs.Laws.{AnswersAll, AnswersAsks, BothSendWhileOpen, CarriesText, FitsN1, NeverStopped, SendsWhileOpen};
+ghost use Rattle.show_laws.specs.Laws.{AllSound, AnswersAll, AnswersAsks, BothSendWhileOpen, CarriesText, FitsN1, NeverStopped, SendsWhileOpen};
 
 /// No frame between a driver that keeps its laws and a modem that keeps the responder's tables is judged an answer that nothing waits
 /// for.
@@ -58,4 +58,10 @@ pub fn openings_of_both()
 #[tactic(auto, using(crate::proofs::stops::NoneStopped::never_stopped))]
 pub fn stops()
     ensures { (s : Setting) (n1 : ℕ) (line : List LineAct) → NeverStopped s n1 line }
+{}
+
+/// Nothing is judged wrong with any frame of a line on which all this holds.
+#[tactic(auto, using(crate::proofs::sound::AllFrames::all_sound))]
+pub fn frames()
+    ensures { (s : Setting) (n1 : ℕ) (line : List LineAct) → AllSound s n1 line }
 {}
