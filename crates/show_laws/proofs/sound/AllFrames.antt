@@ -1,18 +1,17 @@
 -- Nothing is wrong with a frame that breaks none of the five rules.
-use Rattle.std.specs.Prelude.{◌≡◌, ℕ, ◌≤◌, ◌||◌, Bool, true, false, List, [], ◌∷◌, ◌++◌, length, map, reverse, refl}
+use Rattle.std.specs.Prelude.{◌≡◌, ℕ, false, List, [], ◌∷◌, ◌++◌, map, reverse, refl}
 use Rattle.std.specs.List.{list_any}
-use Rattle.std.proofs.Common.{ap, sym, ◌∙◌}
+use Rattle.std.proofs.Common.{ap, ◌∙◌}
 use Rattle.std.proofs.lemmas.Bool.{or_parts}
-use Rattle.mux_capture.specs.declared.packet.Stamp.{Stamp}
 use Rattle.mux_capture.specs.Passing.{Caught}
 use Rattle.modem_history.specs.Calls.{Setting}
 use Rattle.modem_show.specs.declared.faults.Faults.{Faults}
 use Rattle.modem_show.specs.declared.rule.Rule.{Rule}
 use Rattle.modem_show.specs.declared.rule.Rule.TheVariants.{Unasked, Unopened, Unstopped, TooLong, Astray}
-use Rattle.modem_show.specs.Judging.{faults_from, faults_of}
+use Rattle.modem_show.specs.Judging.{faults_from}
 use Rattle.modem_show.specs.Rows.{sound}
 use Rattle.modem_show.specs.Rules.{breaks}
-use Rattle.show_laws.specs.Lines.{LineAct, NoneBreaks, captured}
+use Rattle.show_laws.specs.Lines.{LineAct, captured}
 use Rattle.show_laws.specs.Laws.{AllSound}
 use Rattle.show_laws.proofs.asks.NoneUnasked.{answers_asks}
 use Rattle.show_laws.proofs.lines.JudgedFrames.{turned}
@@ -20,7 +19,6 @@ use Rattle.show_laws.proofs.openings.BothOpen.{both_send_while_open}
 use Rattle.show_laws.proofs.sizes.NoneTooLong.{fits_n1}
 use Rattle.show_laws.proofs.stops.NoneStopped.{never_stopped}
 use Rattle.show_laws.proofs.texts.NoneAstray.{carries_text}
-use Rattle.modem_show.specs.declared.faults.Faults as faults
 use Rattle.show_laws.specs.Laws.{AnswersAsks, BothSendWhileOpen, CarriesText, FitsN1, NeverStopped}
 
 abbrev Kept : Rule → List Faults → Type 0

@@ -1,8 +1,8 @@
 -- No data is judged to be on a stopped connection, where neither end stops any.
 use Rattle.std.specs.Prelude.{◌≡◌, ℕ, ◌+◌, ◌==◌, ◌≤◌, ◌&&◌, ◌||◌, not, Bool, true, false, List, [], ◌∷◌, ◌++◌, length, Option, Some, None, refl, unwrap_or, if◌then◌else◌}
-use Rattle.std.specs.List.{find, list_any}
-use Rattle.std.proofs.Common.{ap, arith, sym, ◌∙◌, subst, eqb-true}
-use Rattle.std.proofs.lemmas.Bool.{and_parts, or_parts}
+use Rattle.std.specs.List.{list_any}
+use Rattle.std.proofs.Common.{ap, arith, ◌∙◌}
+use Rattle.std.proofs.lemmas.Bool.{or_parts}
 use Rattle.mux_frame.specs.Frames.{Frame}
 use Rattle.mux_capture.specs.declared.packet.Direction.{Direction}
 use Rattle.mux_capture.specs.declared.packet.Direction.TheVariants.{ToModem, FromModem}
@@ -10,8 +10,7 @@ use Rattle.mux_capture.specs.declared.packet.Stamp.{Stamp}
 use Rattle.mux_capture.specs.Passing.{Caught, is_same}
 use Rattle.mux_station.specs.declared.role.Role.{Role}
 use Rattle.mux_station.specs.declared.role.Role.TheVariants.{Initiator, Responder}
-use Rattle.mux_station.specs.Acts as station
-use Rattle.mux_station.specs.Acts.{Act, Call, Called, Got, Sent, Tick, Lost, Given}
+use Rattle.mux_station.specs.Acts.{Act, Called, Got, Sent, Tick, Lost, Given}
 use Rattle.mux_station.specs.Messages.{Message, fcoff, fcon, message_in, msc, msc_dlci, msc_stops}
 use Rattle.mux_station.specs.Opening.{belongs, is_open, opens_now, since, since_after}
 use Rattle.mux_station.specs.Stopping.{flow_says, got_says, if_message, is_stopped, last_said, msc_says}
@@ -26,9 +25,9 @@ use Rattle.modem_show.specs.Asking.{Ask, answered_by, answers, is_again, is_ask,
 use Rattle.modem_show.specs.Ends.{come, handled, own}
 use Rattle.modem_show.specs.Judging.{is_unstopped}
 use Rattle.modem_show.specs.Ways.{caught, is_from, other, way_of}
-use Rattle.show_laws.specs.Lines.{AtDriver, AtModem, IsLawfulLine, LineAct, captured, driver_past, modem_past}
+use Rattle.show_laws.specs.Lines.{AtDriver, AtModem, LineAct, captured, driver_past, modem_past}
 use Rattle.show_laws.specs.Laws.{NeverStopped, StopsNothing, message_stops}
-use Rattle.show_laws.proofs.asks.WaitingAsks.{frames_of, frames_to, many_asks}
+use Rattle.show_laws.proofs.asks.WaitingAsks.{frames_of, frames_to}
 use Rattle.show_laws.proofs.counts.ManyFrames.{many, unit}
 use Rattle.show_laws.proofs.lines.CapturedFrames.{shows}
 use Rattle.show_laws.proofs.lines.EveryFrame.{every}
