@@ -1,13 +1,11 @@
 -- Worked lines, N1 31.
-use Rattle.std.specs.Prelude.{◌≡◌, ℕ, false, List, [], ◌∷◌, ◌++◌, codes, map, reverse}
-use Rattle.std.specs.List.{list_any}
+use Rattle.std.specs.Prelude.{◌≡◌, ℕ, List, [], ◌∷◌, ◌++◌, codes, map, reverse}
 use Rattle.mux_frame.specs.declared.frame.Kind.{Kind}
 use Rattle.mux_frame.specs.declared.frame.Kind.TheVariants.{Sabm, Ua, Uih}
 use Rattle.mux_capture.specs.Passing.{Caught}
 use Rattle.mux_capture.specs.declared.packet.Stamp.{Stamp}
 use Rattle.mux_station.specs.declared.role.Role.TheVariants.{Initiator, Responder}
 use Rattle.mux_station.specs.Acts as station
-use Rattle.mux_station.specs.Sending.{is_loss}
 use Rattle.mux_station.specs.Written.{written}
 use Rattle.modem_desk.specs.declared.request.Ask.TheVariants.{OpenChannel, Command, Stop}
 use Rattle.modem_desk.specs.declared.request.Answer.TheVariants.{Opened, Closed, Stopped}
@@ -16,11 +14,10 @@ use Rattle.modem_history.specs.Acts.{Given, wire}
 use Rattle.modem_history.specs.Calls.{replaying}
 use Rattle.modem_history.specs.Rows as row
 use Rattle.modem_history.specs.Rows.{takes, tells, tells_done, zero, one}
-use Rattle.modem_history.specs.TwoEnds.{AsksOnce, TakesCommandLines}
 use Rattle.modem_show.specs.Judging.{faults_from, unanswered}
 use Rattle.modem_show.specs.Rows.{never_answered, sound}
-use Rattle.show_laws.specs.Laws.{IsPrompt, NeverClosesDown, OffersText, OpensAndClosesNothing, TakesShortProbes}
-use Rattle.show_laws.specs.Lines.{AtDriver, AtModem, IsDone, IsLawfulLine, LineAct, ReadsWhileOpen, captured, driver_past, modem_past, responding}
+use Rattle.show_laws.specs.Laws.{IsPlainLine, NeverClosesDown}
+use Rattle.show_laws.specs.Lines.{AtDriver, AtModem, IsDone, IsLawfulLine, LineAct, ReadsWhileOpen, captured, driver_past, modem_past}
 
 -- the line after these acts, of which the first comes first
 abbrev pub after : List LineAct → List LineAct → List LineAct
@@ -96,14 +93,8 @@ pub record IsRight (acts : List LineAct) : Type 0 where
 
 -- all that the laws ask of a line
 pub record MeetsAll (acts : List LineAct) : Type 0 where
-  pub once : AsksOnce (wire (driver_past (after [] acts)))
+  pub plain : IsPlainLine (replaying 31) 31 (after [] acts)
   pub stays : NeverClosesDown (modem_past (after [] acts))
-  pub steady : OpensAndClosesNothing (modem_past (after [] acts))
-  pub prompt : IsPrompt (responding 31) (modem_past (after [] acts))
-  pub live : list_any is_loss (modem_past (after [] acts)) ≡ false
-  pub commands : TakesCommandLines (driver_past (after [] acts))
-  pub offers : OffersText (modem_past (after [] acts))
-  pub probes : TakesShortProbes (driver_past (after [] acts))
   pub done : IsDone (replaying 31) 31 (after [] acts)
   pub at_driver : ReadsWhileOpen Initiator (wire (driver_past (after [] acts)))
   pub at_modem : ReadsWhileOpen Responder (modem_past (after [] acts))

@@ -33,8 +33,8 @@ pub fn openings()
     ensures { (s : Setting) (n1 : ℕ) (line : List LineAct) → SendsWhileOpen s n1 line }
 {}
 
-/// Worked lines that are lawful, on which no frame is judged wrong and nothing is left unanswered: a command and a stop, and a stop while a
-/// connection is being opened.
+/// Worked lines that are lawful, on which no frame is judged wrong and nothing is left unanswered: a command and a stop, which meets all that
+/// these laws ask, and a stop while a connection is being opened.
 #[tactic(auto, using(crate::proofs::rows::LineRowFacts::are_right))]
 pub fn worked_lines()
     ensures { AreRight }

@@ -110,14 +110,20 @@ command_once d = at_most_one (1 == d) (0 == d) _ _ (λ first second. two_numbers
 meets_all : MeetsAll one_command
 unfolding command_acts StationComplete
 meets_all = record {
-  once = command_once;
+  plain =
+      record {
+        lawful = record { is_initiator = refl; driver_lawful = (good (replaying 31) command_acts refl refl refl).lawful; modem_lawful = command_station; one_line = command_line };
+        once = command_once;
+        steady = refl;
+        prompt = (refl, (refl, (refl, (refl, (refl, (refl, (refl, tt)))))));
+        live = refl;
+        driver_stops = refl;
+        modem_stops = refl;
+        commands = (λ d e. cc, (λ d e. refl, (λ d e. cc, (λ d e. cc, tt))));
+        offers = (refl, tt);
+        probes = refl;
+      };
   stays = refl;
-  steady = refl;
-  prompt = (refl, (refl, (refl, (refl, (refl, (refl, (refl, tt)))))));
-  live = refl;
-  commands = (λ d e. cc, (λ d e. refl, (λ d e. cc, (λ d e. cc, tt))));
-  offers = (refl, tt);
-  probes = refl;
   done =
       record {
         driver_live = refl;
