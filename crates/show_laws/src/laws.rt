@@ -33,20 +33,6 @@ pub fn openings()
     ensures { (s : Setting) (n1 : ℕ) (line : List LineAct) → SendsWhileOpen s n1 line }
 {}
 
-/// Worked lines that are lawful, on which no frame is judged wrong and nothing is left unanswered: a command and a stop, which meets all that
-/// these laws ask, and a stop while a connection is being opened.
-#[tactic(auto, using(crate::proofs::rows::LineRowFacts::are_right))]
-pub fn worked_lines()
-    ensures { AreRight }
-{}
-
-/// Where nothing is under way on such a line no ask is judged unanswered, where each control command came while 0 was open at the end to
-/// which it came.
-#[tactic(auto, using(crate::proofs::answered::NoneWaits::answers_all))]
-pub fn answered()
-    ensures { (s : Setting) (n1 : ℕ) (line : List LineAct) → AnswersAll s n1 line }
-{}
-
 /// No data of either end is judged so where, beyond this, the modem does at once what each act calls for, sends no SABM, DISC or CLD of its
 /// own, and isn't told of a loss of the line.
 #[tactic(auto, using(crate::proofs::openings::BothOpen::both_send_while_open))]
@@ -64,4 +50,18 @@ pub fn stops()
 #[tactic(auto, using(crate::proofs::sound::AllFrames::all_sound))]
 pub fn frames()
     ensures { (s : Setting) (n1 : ℕ) (line : List LineAct) → AllSound s n1 line }
+{}
+
+/// Where nothing is under way on a lawful line no ask is judged unanswered, where each control command came while 0 was open at the end to
+/// which it came.
+#[tactic(auto, using(crate::proofs::answered::NoneWaits::answers_all))]
+pub fn answered()
+    ensures { (s : Setting) (n1 : ℕ) (line : List LineAct) → AnswersAll s n1 line }
+{}
+
+/// Worked lines that are lawful, on which no frame is judged wrong and nothing is left unanswered: a command and a stop, which meets all that
+/// these laws ask, and a stop while a connection is being opened.
+#[tactic(auto, using(crate::proofs::rows::LineRowFacts::are_right))]
+pub fn worked_lines()
+    ensures { AreRight }
 {}
