@@ -3,7 +3,9 @@ ghost use Rattle.std.specs.Prelude.{◌≡◌, false, IfOk};
 ghost use Rattle.mux_frame.specs.Frames.{frame_of};
 ghost use Rattle.modem_show.specs.Asking.{answers, drops, excuses, excused_by, is_again, is_ask, is_answer, is_mode_command, is_mode_answer};
 
-use crate::message::{answers_close_down, both_respond, closes_down, is_kind, is_mode_frame_on, message_in};
+use crate::message::{
+    answers_close_down, both_respond, closes_down, is_kind, is_mode_frame_on, message_in,
+};
 use mux_capture::Stamp;
 use mux_frame::{FrameBuf, FrameView, Kind};
 use std::alloc::{AllocError, Global};

@@ -144,9 +144,7 @@ pub(crate) fn answers_close_down(frame: FrameView<'_>) -> bool
 pub(crate) fn is_text(octets: &[u8]) -> bool
     ensures { result ≡ is_text octets.now }
 {
-    octets
-        .iter()
-        .all(|octet| (0x20..=0x7E).contains(octet) || *octet == 13 || *octet == 10)
+    octets.iter().all(|octet| (0x20..=0x7E).contains(octet) || *octet == 13 || *octet == 10)
 }
 
 /// Whether information is one whole control message, of a supported type.

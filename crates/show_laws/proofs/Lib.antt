@@ -6,3 +6,5 @@ pub mod texts
 pub mod openings
 pub mod rows
 pub mod answered
+pub mod stops
+pub mod sound

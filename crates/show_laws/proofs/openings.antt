@@ -11,3 +11,5 @@ pub mod FreshAsks
 pub mod ModemFollows
 pub mod ResponderCalls
 pub mod ModemOpen
+pub mod ModemLine
+pub mod BothOpen

@@ -1,12 +1,12 @@
 -- What is never wrong with a frame of a lawful line.
-use Rattle.std.specs.Prelude.{◌≡◌, ℕ, ◌≤◌, ◌||◌, nat_le, Bool, true, false, List, [], ◌∷◌, length}
+use Rattle.std.specs.Prelude.{◌≡◌, ℕ, ◌≤◌, ◌||◌, nat_le, Bool, true, false, List, [], ◌∷◌, length, ◌==◌, ◌&&◌, Option, None, Some, map, reverse}
 use Rattle.std.specs.List.{list_all, list_any}
 use Rattle.mux_capture.specs.declared.packet.Direction.TheVariants.{ToModem}
 use Rattle.mux_capture.specs.declared.packet.Stamp.{Stamp}
 use Rattle.mux_station.specs.declared.role.Role.TheVariants.{Initiator, Responder}
 use Rattle.mux_station.specs.Acts as station
 use Rattle.mux_frame.specs.Frames.{Frame}
-use Rattle.mux_station.specs.Messages.{cld, brings_command}
+use Rattle.mux_station.specs.Messages.{Message, brings_command, cld, fcoff, message_in, msc, msc_stops}
 use Rattle.mux_station.specs.Sending.{StationSetting, is_loss, owed_frames}
 use Rattle.modem_desk.specs.declared.request.Ask.{Ask}
 use Rattle.modem_desk.specs.declared.request.Ask.TheVariants.{Probe}
@@ -15,9 +15,10 @@ use Rattle.modem_history.specs.Acts.{wire}
 use Rattle.modem_history.specs.Calls.{Setting}
 use Rattle.modem_history.specs.TwoEnds.{AsksOnce, TakesCommandLines, frames_sent}
 use Rattle.modem_history.specs.Wholes.{taken_requests}
-use Rattle.modem_show.specs.declared.rule.Rule.TheVariants.{Unasked, Unopened, TooLong, Astray}
+use Rattle.modem_show.specs.declared.rule.Rule.TheVariants.{Unasked, Unopened, Unstopped, TooLong, Astray}
 use Rattle.modem_show.specs.Asking.{is_mode_command}
-use Rattle.modem_show.specs.Judging.{is_text, unanswered}
+use Rattle.modem_show.specs.Judging.{faults_from, is_text, unanswered}
+use Rattle.modem_show.specs.Rows.{sound}
 use Rattle.show_laws.specs.Lines.{IsDone, IsLawfulLine, ReadsWhileOpen, LineAct, NoneBreaks, NoneBreaksIn, captured, driver_past, modem_past, responding}
 
 -- each answer answers something that waits for it, whatever N1 the line is judged by
@@ -98,3 +99,41 @@ BothSendWhileOpen s n1 line =
     IsLawfulLine s n1 line → AsksOnce (wire (driver_past line)) → OpensAndClosesNothing (modem_past line)
     → IsPrompt (responding n1) (modem_past line) → list_any is_loss (modem_past line) ≡ false
     → (stamps : ℕ → Stamp) (most : ℕ) → NoneBreaks Unopened most (captured stamps line)
+
+-- ## Stops
+
+-- a message stops connections: an MSC with FC, or FCoff
+abbrev pub message_stops : Option Message → Bool
+message_stops None = false
+message_stops (Some m) = ((m.octet == msc) && msc_stops m.value) || (m.octet == fcoff)
+
+-- no message that stops was sent
+abbrev pub StopsNothing : List station.Act → Type 0
+StopsNothing past = list_any (λ f. message_stops (message_in f)) (frames_sent past) ≡ false
+
+-- no data is sent on a connection that is stopped, where neither end stops any
+unfoldable pub NeverStopped : Setting → ℕ → List LineAct → Type 0
+NeverStopped s n1 line =
+    IsLawfulLine s n1 line → StopsNothing (wire (driver_past line)) → StopsNothing (modem_past line)
+    → (stamps : ℕ → Stamp) (most : ℕ) → NoneBreaks Unstopped most (captured stamps line)
+
+-- ## All rules of a frame
+
+-- a lawful line on which all this holds
+pub record IsPlainLine (s : Setting) (n1 : ℕ) (line : List LineAct) : Type 0 where
+  pub lawful : IsLawfulLine s n1 line
+  pub once : AsksOnce (wire (driver_past line))
+  pub steady : OpensAndClosesNothing (modem_past line)
+  pub prompt : IsPrompt (responding n1) (modem_past line)
+  pub live : list_any is_loss (modem_past line) ≡ false
+  pub driver_stops : StopsNothing (wire (driver_past line))
+  pub modem_stops : StopsNothing (modem_past line)
+  pub commands : TakesCommandLines (driver_past line)
+  pub offers : OffersText (modem_past line)
+  pub probes : TakesShortProbes (driver_past line)
+
+-- nothing is wrong with any frame, where neither end has a greater N1 than this, and a probe fits
+unfoldable pub AllSound : Setting → ℕ → List LineAct → Type 0
+AllSound s n1 line =
+    IsPlainLine s n1 line → (stamps : ℕ → Stamp) (most : ℕ) → 18 ≤ most → s.n1 ≤ most → n1 ≤ most
+    → faults_from most [] (reverse (captured stamps line)) ≡ map (λ c. sound) (captured stamps line)

@@ -10,13 +10,14 @@ use Rattle.mux_station.specs.Written.{written}
 use Rattle.modem_desk.specs.declared.request.Ask.TheVariants.{OpenChannel, Command, Stop}
 use Rattle.modem_desk.specs.declared.request.Answer.TheVariants.{Opened, Closed, Stopped}
 use Rattle.modem_history.specs.Acts as driver
-use Rattle.modem_history.specs.Acts.{Given}
+use Rattle.modem_history.specs.Acts.{Given, wire}
 use Rattle.modem_history.specs.Calls.{replaying}
 use Rattle.modem_history.specs.Rows as row
 use Rattle.modem_history.specs.Rows.{takes, tells, tells_done, zero, one}
 use Rattle.modem_show.specs.Judging.{faults_from, unanswered}
 use Rattle.modem_show.specs.Rows.{never_answered, sound}
-use Rattle.show_laws.specs.Lines.{AtDriver, AtModem, IsLawfulLine, LineAct, captured}
+use Rattle.show_laws.specs.Laws.{IsPlainLine, NeverClosesDown}
+use Rattle.show_laws.specs.Lines.{AtDriver, AtModem, IsDone, IsLawfulLine, LineAct, ReadsWhileOpen, captured, driver_past, modem_past}
 
 -- the line after these acts, of which the first comes first
 abbrev pub after : List LineAct → List LineAct → List LineAct
@@ -90,6 +91,15 @@ pub record IsRight (acts : List LineAct) : Type 0 where
   pub of_driver : never_answered (unanswered Initiator (frames_of acts)) ≡ []
   pub of_modem : never_answered (unanswered Responder (frames_of acts)) ≡ []
 
+-- all that the laws ask of a line
+pub record MeetsAll (acts : List LineAct) : Type 0 where
+  pub plain : IsPlainLine (replaying 31) 31 (after [] acts)
+  pub stays : NeverClosesDown (modem_past (after [] acts))
+  pub done : IsDone (replaying 31) 31 (after [] acts)
+  pub at_driver : ReadsWhileOpen Initiator (wire (driver_past (after [] acts)))
+  pub at_modem : ReadsWhileOpen Responder (modem_past (after [] acts))
+
 pub record AreRight : Type 0 where
   pub talks : IsRight one_command
+  pub talks_by_all : MeetsAll one_command
   pub stops : IsRight stopped_early

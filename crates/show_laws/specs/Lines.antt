@@ -1,5 +1,5 @@
 -- A line between a driver and a modem that keeps the responder's tables, and what a capture has of it (27.010, 5.4).
-use Rattle.std.specs.Prelude.{◌≡◌, ℕ, Bool, true, false, List, [], ◌∷◌, length, reverse, if◌then◌else◌}
+use Rattle.std.specs.Prelude.{◌≡◌, ℕ, true, false, List, [], ◌∷◌, length, reverse, if◌then◌else◌}
 use Rattle.std.specs.List.{list_any}
 use Rattle.mux_frame.specs.Frames.{Frame}
 use Rattle.mux_capture.specs.declared.packet.Direction.{Direction}

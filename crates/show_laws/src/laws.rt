@@ -3,7 +3,7 @@ ghost use Rattle.std.specs.Prelude.{ℕ, List};
 ghost use Rattle.modem_history.specs.Calls.{Setting};
 ghost use Rattle.show_laws.specs.Lines.{LineAct};
 ghost use Rattle.show_laws.specs.LineRows.{AreRight};
-ghost use Rattle.show_laws.specs.Laws.{AnswersAll, AnswersAsks, CarriesText, FitsN1, SendsWhileOpen};
+ghost use Rattle.show_laws.specs.Laws.{AllSound, AnswersAll, AnswersAsks, BothSendWhileOpen, CarriesText, FitsN1, NeverStopped, SendsWhileOpen};
 
 /// No frame between a driver that keeps its laws and a modem that keeps the responder's tables is judged an answer that nothing waits
 /// for.
@@ -33,16 +33,35 @@ pub fn openings()
     ensures { (s : Setting) (n1 : ℕ) (line : List LineAct) → SendsWhileOpen s n1 line }
 {}
 
-/// Worked lines that are lawful, on which no frame is judged wrong and nothing is left unanswered: a command and a stop, and a stop while a
-/// connection is being opened.
-#[tactic(auto, using(crate::proofs::rows::LineRowFacts::are_right))]
-pub fn worked_lines()
-    ensures { AreRight }
+/// No data of either end is judged so where, beyond this, the modem does at once what each act calls for, sends no SABM, DISC or CLD of its
+/// own, and isn't told of a loss of the line.
+#[tactic(auto, using(crate::proofs::openings::BothOpen::both_send_while_open))]
+pub fn openings_of_both()
+    ensures { (s : Setting) (n1 : ℕ) (line : List LineAct) → BothSendWhileOpen s n1 line }
 {}
 
-/// Where nothing is under way on such a line no ask is judged unanswered, where each control command came while 0 was open at the end to
+/// No data is judged to be on a stopped connection, where neither end stops any.
+#[tactic(auto, using(crate::proofs::stops::NoneStopped::never_stopped))]
+pub fn stops()
+    ensures { (s : Setting) (n1 : ℕ) (line : List LineAct) → NeverStopped s n1 line }
+{}
+
+/// Nothing is judged wrong with any frame of a line on which all this holds.
+#[tactic(auto, using(crate::proofs::sound::AllFrames::all_sound))]
+pub fn frames()
+    ensures { (s : Setting) (n1 : ℕ) (line : List LineAct) → AllSound s n1 line }
+{}
+
+/// Where nothing is under way on a lawful line no ask is judged unanswered, where each control command came while 0 was open at the end to
 /// which it came.
 #[tactic(auto, using(crate::proofs::answered::NoneWaits::answers_all))]
 pub fn answered()
     ensures { (s : Setting) (n1 : ℕ) (line : List LineAct) → AnswersAll s n1 line }
+{}
+
+/// Worked lines that are lawful, on which no frame is judged wrong and nothing is left unanswered: a command and a stop, which meets all that
+/// these laws ask, and a stop while a connection is being opened.
+#[tactic(auto, using(crate::proofs::rows::LineRowFacts::are_right))]
+pub fn worked_lines()
+    ensures { AreRight }
 {}

@@ -1,6 +1,6 @@
 -- The tables answer each ask, a message where 0 is Opened.
-use Rattle.std.specs.Prelude.{◌≡◌, ℕ, ◌+◌, ◌*◌, ◌-◌, ◌/◌, ◌%◌, ◌==◌, ◌≤◌, ◌&&◌, ◌||◌, not, nat_le, Bool, true, false, List, [], ◌∷◌, length, take, Option, Some, None, refl, unwrap_or, if◌then◌else◌}
-use Rattle.std.proofs.Common.{ap, arith, sym, ◌∙◌, subst, eqb-true}
+use Rattle.std.specs.Prelude.{◌≡◌, ℕ, ◌+◌, ◌*◌, ◌/◌, ◌%◌, ◌==◌, ◌≤◌, ◌&&◌, ◌||◌, not, nat_le, Bool, true, false, List, [], ◌∷◌, length, take, Option, Some, None, refl, unwrap_or, if◌then◌else◌}
+use Rattle.std.proofs.Common.{ap, arith, ◌∙◌, subst}
 use Rattle.std.proofs.lemmas.Bool.{and_from, and_parts, eq-eqb, le-leb}
 use Rattle.std.proofs.lemmas.List.{take_all}
 use Rattle.mux_frame.specs.Frames.{Frame}
@@ -9,11 +9,11 @@ use Rattle.mux_frame.specs.declared.frame.Kind.TheVariants.{Sabm, Ua, Dm, Disc, 
 use Rattle.mux_station.specs.declared.role.Role.{Role}
 use Rattle.mux_station.specs.declared.role.Role.TheVariants.{Initiator, Responder}
 use Rattle.mux_station.specs.Written.{is_kind, is_on}
-use Rattle.mux_station.specs.Messages.{Message, message_in, message_of, if_good, is_msc, is_good_msc, is_command, response_of, msc, nsc, cld, test}
+use Rattle.mux_station.specs.Messages.{Message, message_in, message_of, is_msc, is_good_msc, is_command, response_of, nsc}
 use Rattle.mux_station.specs.States.{State, IsShut, IsOpening, IsOpened, IsClosing, IsStopping, is_opened}
 use Rattle.mux_station.specs.Tables.{by_frame, by_message, by_table, is_supported, message_frame, msc_after_opening, response_to, ua_or_dm}
 use Rattle.modem_show.specs.Asking.{is_answer, is_ask, is_mode_command, message_answers, message_asks}
-use Rattle.show_laws.proofs.asks.AnswerShapes.{message_no_mode, or_elim, supported_by}
+use Rattle.show_laws.proofs.asks.AnswerShapes.{message_no_mode, supported_by}
 use Rattle.show_laws.proofs.counts.ManyFrames.{many, unit}
 use Rattle.show_laws.proofs.counts.BalancedTables.{is_command_octet}
 

@@ -1,24 +1,21 @@
 -- Where nothing is under way no ask waits.
-use Rattle.std.specs.Prelude.{◌≡◌, suc, ℕ, ◌+◌, ◌≤◌, ◌&&◌, not, is_none, Bool, true, false, List, [], ◌∷◌, ◌++◌, length, map, filter, Option, Some, None, refl, if◌then◌else◌}
+use Rattle.std.specs.Prelude.{◌≡◌, suc, ℕ, ◌+◌, ◌≤◌, ◌&&◌, not, is_none, Bool, true, false, List, [], ◌∷◌, ◌++◌, length, map, filter, Some, refl, if◌then◌else◌}
 use Rattle.std.specs.List.{find, position_or_len, remove}
-use Rattle.std.proofs.Common.{ap, arith, sym, ◌∙◌, subst}
+use Rattle.std.proofs.Common.{ap, arith, sym, subst}
 use Rattle.mux_frame.specs.Frames.{Frame}
 use Rattle.mux_capture.specs.declared.packet.Direction.TheVariants.{ToModem, FromModem}
 use Rattle.mux_capture.specs.declared.packet.Stamp.{Stamp}
 use Rattle.mux_capture.specs.Passing.{Caught}
 use Rattle.mux_station.specs.declared.role.Role.{Role}
 use Rattle.mux_station.specs.declared.role.Role.TheVariants.{Initiator, Responder}
-use Rattle.mux_station.specs.Acts as station
 use Rattle.mux_station.specs.Sending.{StationComplete, owed_frames}
-use Rattle.modem_history.specs.Acts as driver
 use Rattle.modem_history.specs.Acts.{wire}
 use Rattle.modem_history.specs.Calls.{Setting}
 use Rattle.modem_history.specs.Lawful.{Complete, owed}
 use Rattle.modem_history.specs.TwoEnds.{frames_got, frames_sent}
 use Rattle.modem_show.specs.Asking.{Ask, answered_by, answers, asked_with, excused_by, is_answer, is_ask, unanswered_by, waiting}
-use Rattle.modem_show.specs.Judging.{unanswered}
 use Rattle.modem_show.specs.Ways.{caught, is_from}
-use Rattle.show_laws.specs.Lines.{AtDriver, AtModem, IsDone, IsLawfulLine, LineAct, ReadsWhileOpen, captured, driver_past, modem_past, responding}
+use Rattle.show_laws.specs.Lines.{IsLawfulLine, LineAct, ReadsWhileOpen, captured, driver_past, modem_past, responding}
 use Rattle.show_laws.specs.Laws.{AnswersAll}
 use Rattle.show_laws.proofs.answered.EnoughSent.{driver_enough, station_enough}
 use Rattle.show_laws.proofs.asks.NoneUnasked.{driver_answers, modem_answers}
@@ -89,11 +86,11 @@ few_wait : (s : Setting) (n1 : ℕ) (stamps : ℕ → Stamp) (line : List LineAc
 few_wait s n1 stamps line h =
     over (IsLawfulLine s n1) (λ x line k. lawful_before s n1 x line k) (λ (c : List Caught). Few Initiator c × Few Responder c) stamps (omega arith, omega arith)
     (λ f line k q.
-      let c = caught (stamps (length (captured stamps line))) ToModem f in
-      (from_step Initiator c (captured stamps line) refl q.0, to_step Responder c (captured stamps line) refl (driver_answers s n1 stamps f line (stamps (length (captured stamps line))) k) q.1))
+    let c = caught (stamps (length (captured stamps line))) ToModem f in
+    (from_step Initiator c (captured stamps line) refl q.0, to_step Responder c (captured stamps line) refl (driver_answers s n1 stamps f line (stamps (length (captured stamps line))) k) q.1))
     (λ f line k q.
-      let c = caught (stamps (length (captured stamps line))) FromModem f in
-      (to_step Initiator c (captured stamps line) refl (modem_answers s n1 stamps f line (stamps (length (captured stamps line))) k) q.0, from_step Responder c (captured stamps line) refl q.1))
+    let c = caught (stamps (length (captured stamps line))) FromModem f in
+    (to_step Initiator c (captured stamps line) refl (modem_answers s n1 stamps f line (stamps (length (captured stamps line))) k) q.0, from_step Responder c (captured stamps line) refl q.1))
     line h
 
 -- ## At the end
@@ -123,6 +120,7 @@ answers_all s n1 line h done at_driver at_modem stamps =
     let to_driver : many is_answer (frames_to Initiator (captured stamps line)) ≡ many is_answer (frames_sent (modem_past line)) = ap (many is_answer) seen.to_driver in
     let to_modem : many is_answer (frames_to Responder (captured stamps line)) ≡ many is_answer (frames_sent (wire past)) = ap (many is_answer) seen.to_modem in
     let first = few.0 in
-    let last = few.1 in
-    (ap open_asks (none_left (waiting Initiator (captured stamps line)) (omega (arith, first, of_driver, to_driver, came_at_modem, by_modem, none_at_modem))),
-    ap open_asks (none_left (waiting Responder (captured stamps line)) (omega (arith, last, of_modem, to_modem, came, by_driver, none_owed))))
+    let last = few.1 in (
+      ap open_asks (none_left (waiting Initiator (captured stamps line)) (omega (arith, first, of_driver, to_driver, came_at_modem, by_modem, none_at_modem))),
+      ap open_asks (none_left (waiting Responder (captured stamps line)) (omega (arith, last, of_modem, to_modem, came, by_driver, none_owed))),
+    )

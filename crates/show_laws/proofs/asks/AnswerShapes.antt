@@ -1,5 +1,5 @@
 -- The answers that the tables give, and which asks each of them answers.
-use Rattle.std.specs.Prelude.{◌≡◌, ℕ, ◌+◌, ◌-◌, ◌/◌, ◌%◌, ◌==◌, ◌≤◌, ◌&&◌, ◌||◌, not, nat_le, Bool, true, false, List, [], ◌∷◌, length, take, Option, Some, None, refl, if◌then◌else◌}
+use Rattle.std.specs.Prelude.{◌≡◌, ℕ, ◌+◌, ◌/◌, ◌%◌, ◌==◌, ◌≤◌, ◌&&◌, ◌||◌, not, Bool, true, false, List, [], ◌∷◌, Option, Some, None, refl, if◌then◌else◌}
 use Rattle.std.specs.Str.{bytes_eq}
 use Rattle.std.proofs.Common.{ap, arith, sym, ◌∙◌, subst, eqb-true}
 use Rattle.std.proofs.lemmas.Bool.{and_from, and_parts, eq-eqb}
@@ -88,8 +88,8 @@ pub answered_asks : (f g : Frame) → answers f g ≡ true → is_ask f ≡ true
 answered_asks f g h =
     or_elim ((is_mode_command f && is_mode_answer g) && (f.dlci == g.dlci)) (both_respond (message_in f) (message_in g)) h
     (λ k.
-      let e = (and_parts (is_mode_command f) (is_mode_answer g) (and_parts (is_mode_command f && is_mode_answer g) (f.dlci == g.dlci) k).0).0 in
-      ap (λ (b : Bool). b || message_asks (message_in f)) e)
+    let e = (and_parts (is_mode_command f) (is_mode_answer g) (and_parts (is_mode_command f && is_mode_answer g) (f.dlci == g.dlci) k).0).0 in
+    ap (λ (b : Bool). b || message_asks (message_in f)) e)
     (λ k. either (is_mode_command f) (message_asks (message_in f)) (asks_of (message_in f) (message_in g) k))
   where
     either : (a b : Bool) → b ≡ true → (a || b) ≡ true
@@ -128,13 +128,13 @@ named octet (c ∷ []) h n r =
     let parts = and_parts (is_command_octet c) (not (is_supported c)) r in
     or_elim (c == octet) (c == response_of octet) n
     (λ k.
-      let e = eqb-true c octet k in
-      (ap (λ (x : ℕ). x ∷ []) e, turned (is_supported octet) (subst (λ (x : ℕ). not (is_supported x) ≡ true) e parts.1)))
+    let e = eqb-true c octet k in
+    (ap (λ (x : ℕ). x ∷ []) e, turned (is_supported octet) (subst (λ (x : ℕ). not (is_supported x) ≡ true) e parts.1)))
     (λ k.
-      let e = eqb-true c (response_of octet) k in
-      let off = no_command_back octet h in
-      let on : is_command_octet (response_of octet) ≡ true = subst (λ (x : ℕ). is_command_octet x ≡ true) e parts.0 in
-      absurd (let x : true ≡ false = sym on ∙ off in cc))
+    let e = eqb-true c (response_of octet) k in
+    let off = no_command_back octet h in
+    let on : is_command_octet (response_of octet) ≡ true = subst (λ (x : ℕ). is_command_octet x ≡ true) e parts.0 in
+    absurd (let x : true ≡ false = sym on ∙ off in cc))
   where
     turned : (b : Bool) → not b ≡ true → b ≡ false
     turned false h = refl
@@ -146,14 +146,14 @@ one_response a m asks shape r =
     let ask = and_parts (is_command a) (not (a.octet == nsc)) asks in
     or_elim ((m.octet == response_of a.octet) && (not (is_supported a.octet) || bytes_eq m.value a.value)) ((m.octet == response_of nsc) && names a.octet m.value) r
     (λ k.
-      let p = and_parts (m.octet == response_of a.octet) (not (is_supported a.octet) || bytes_eq m.value a.value) k in
-      own (is_supported a.octet) refl ask (eqb-true m.octet (response_of a.octet) p.0) p.1)
+    let p = and_parts (m.octet == response_of a.octet) (not (is_supported a.octet) || bytes_eq m.value a.value) k in
+    own (is_supported a.octet) refl ask (eqb-true m.octet (response_of a.octet) p.0) p.1)
     (λ k.
-      let p = and_parts (m.octet == response_of nsc) (names a.octet m.value) k in
-      let e = eqb-true m.octet (response_of nsc) p.0 in
-      let refused : is_refused_type m.value ≡ true = subst (λ (x : ℕ). (is_command_octet x || (is_supported (x + 2) || ((x == response_of nsc) && is_refused_type m.value))) ≡ true) e shape in
-      let n = named a.octet m.value ask.0 p.1 refused in
-      (e ∙ ap (λ (b : Bool). response_octet b a.octet) (sym n.1), n.0 ∙ ap (λ (b : Bool). response_value b a) (sym n.1)))
+    let p = and_parts (m.octet == response_of nsc) (names a.octet m.value) k in
+    let e = eqb-true m.octet (response_of nsc) p.0 in
+    let refused : is_refused_type m.value ≡ true = subst (λ (x : ℕ). (is_command_octet x || (is_supported (x + 2) || ((x == response_of nsc) && is_refused_type m.value))) ≡ true) e shape in
+    let n = named a.octet m.value ask.0 p.1 refused in
+    (e ∙ ap (λ (b : Bool). response_octet b a.octet) (sym n.1), n.0 ∙ ap (λ (b : Bool). response_value b a) (sym n.1)))
   where
     own : (b : Bool) → is_supported a.octet ≡ b → (is_command a ≡ true) × (not (a.octet == nsc) ≡ true) → m.octet ≡ response_of a.octet → (not b || bytes_eq m.value a.value) ≡ true
         → (m.octet ≡ response_octet b a.octet) × (m.value ≡ response_value b a)

@@ -10,14 +10,14 @@ use Rattle.mux_frame.specs.declared.frame.Kind.{Kind}
 use Rattle.mux_frame.specs.declared.frame.Kind.TheVariants.{Sabm, Ua, Dm, Disc, Uih}
 use Rattle.mux_station.specs.declared.role.Role.{Role}
 use Rattle.mux_station.specs.declared.role.Role.TheVariants.{Initiator, Responder}
-use Rattle.mux_station.specs.Written.{is_data_frame, is_kind, is_on, written}
-use Rattle.mux_station.specs.Messages.{Message, message_in, message_of, if_good, is_msc, is_good_msc, is_command, response_of, spelled_message, msc, nsc, cld, test, brings_command}
+use Rattle.mux_station.specs.Written.{is_data_frame, is_kind, is_on}
+use Rattle.mux_station.specs.Messages.{Message, message_in, message_of, is_msc, is_good_msc, is_command, response_of, msc, nsc, cld, test, brings_command}
 use Rattle.mux_station.specs.States.{State, IsShut, IsOpening, IsOpened, IsClosing, IsStopping, is_opened}
-use Rattle.mux_station.specs.Tables.{by_frame, by_message, by_table, is_opening, is_supported, message_frame, msc_after_opening, msc_frame, ready, response, response_to, ua_or_dm}
+use Rattle.mux_station.specs.Tables.{by_message, by_table, is_opening, is_supported, message_frame, msc_after_opening, msc_frame, ready, response_to, ua_or_dm}
 use Rattle.modem_show.specs.Asking.{answers, both_respond, is_answer, is_mode_answer, is_mode_command, message_asks, names, responds}
 use Rattle.show_laws.proofs.counts.ManyFrames.{few_if, many, none_one, unit}
 use Rattle.show_laws.proofs.counts.BalancedTables.{Balanced, is_command_octet}
-use Rattle.show_laws.proofs.asks.AnswerShapes.{answer_no_command, is_alike, is_refused_type, is_shaped, message_no_mode, same_message, shaped_message, supported_by}
+use Rattle.show_laws.proofs.asks.AnswerShapes.{answer_no_command, is_alike, is_refused_type, is_shaped, same_message, shaped_message, supported_by}
 
 abbrev pub AnyProbe : List ℕ → Type 0
 AnyProbe octets = Unit {0}

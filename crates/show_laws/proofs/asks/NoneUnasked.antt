@@ -1,12 +1,11 @@
 -- No frame of a lawful line is an answer that nothing waits for.
-use Rattle.std.specs.Prelude.{◌≡◌, ℕ, ◌+◌, ◌==◌, ◌≤◌, ◌&&◌, ◌||◌, not, is_none, Bool, true, false, List, [], ◌∷◌, length, Option, Some, None, refl}
+use Rattle.std.specs.Prelude.{◌≡◌, ℕ, ◌==◌, ◌≤◌, ◌&&◌, ◌||◌, not, is_none, Bool, true, false, List, [], ◌∷◌, length, Option, Some, None, refl}
 use Rattle.std.specs.Str.{bytes_eq}
 use Rattle.std.specs.List.{list_all}
-use Rattle.std.proofs.Common.{ap, arith, sym, ◌∙◌, subst}
+use Rattle.std.proofs.Common.{ap, arith, ◌∙◌}
 use Rattle.std.proofs.lemmas.Bool.{and_from, and_parts, eq-eqb}
 use Rattle.std.proofs.lemmas.Slice.Eq.{bytes_eq-Decides}
 use Rattle.mux_frame.specs.Frames.{Frame}
-use Rattle.mux_capture.specs.declared.packet.Direction.{Direction}
 use Rattle.mux_capture.specs.declared.packet.Direction.TheVariants.{ToModem, FromModem}
 use Rattle.mux_capture.specs.declared.packet.Stamp.{Stamp}
 use Rattle.mux_capture.specs.Passing.{Caught}
@@ -25,8 +24,8 @@ use Rattle.modem_history.specs.TwoEnds.{frames_got, frames_sent}
 use Rattle.modem_show.specs.declared.rule.Rule.TheVariants.{Unasked}
 use Rattle.modem_show.specs.Asking.{answers, answered_by, is_answer, is_mode_answer, message_answers, waiting}
 use Rattle.modem_show.specs.Judging.{is_unasked}
-use Rattle.modem_show.specs.Ways.{caught, other, sender}
-use Rattle.show_laws.specs.Lines.{AtDriver, AtModem, IsLawfulLine, LineAct, NoneBreaks, captured, driver_past, modem_past, responding}
+use Rattle.modem_show.specs.Ways.{caught}
+use Rattle.show_laws.specs.Lines.{AtDriver, AtModem, IsLawfulLine, LineAct, captured, driver_past, modem_past, responding}
 use Rattle.show_laws.specs.Laws.{AnswersAsks}
 use Rattle.show_laws.proofs.counts.ManyFrames.{many, unit}
 use Rattle.show_laws.proofs.counts.DriverCounts.{AsksProbe, TakesProbes, driver_sends}
@@ -115,24 +114,24 @@ by_answer false c h = refl
 pub driver_answers : (s : Setting) (n1 : ℕ) (stamps : ℕ → Stamp) (g : Frame) (line : List LineAct) (stamp : Stamp) → IsLawfulLine s n1 (AtDriver (driver.Sent g) ∷ line) → is_unasked (captured stamps line) (caught stamp ToModem g) ≡ false
 driver_answers s n1 stamps g line stamp h =
     by_answer (is_answer g) (is_none (answered_by g (waiting Responder (captured stamps line)))) (λ answer.
-      let past = driver_past line in
-      let seen = shows stamps line in
-      let there = both_ways line h.one_line.1 in
-      waits Responder g (captured stamps line) (frames_sent (wire past)) (frames_got (wire past)) (frames_sent (modem_past line)) answer
-      (driver_shaped s (driver.Sent g ∷ past) h.driver_lawful) seen.modem_frames seen.to_modem
-      (driver_sends AnyProbe s (is_alike g) (λ f. answers f g) (answers_balanced s.n1 s.role g answer) (driver.Sent g ∷ past) h.driver_lawful (any_probes (driver.Sent g ∷ past)))
-      (came_few (λ f. answers f g) (modem_past line) (wire past) there.at_driver))
+    let past = driver_past line in
+    let seen = shows stamps line in
+    let there = both_ways line h.one_line.1 in
+    waits Responder g (captured stamps line) (frames_sent (wire past)) (frames_got (wire past)) (frames_sent (modem_past line)) answer
+    (driver_shaped s (driver.Sent g ∷ past) h.driver_lawful) seen.modem_frames seen.to_modem
+    (driver_sends AnyProbe s (is_alike g) (λ f. answers f g) (answers_balanced s.n1 s.role g answer) (driver.Sent g ∷ past) h.driver_lawful (any_probes (driver.Sent g ∷ past)))
+    (came_few (λ f. answers f g) (modem_past line) (wire past) there.at_driver))
 
 pub modem_answers : (s : Setting) (n1 : ℕ) (stamps : ℕ → Stamp) (g : Frame) (line : List LineAct) (stamp : Stamp) → IsLawfulLine s n1 (AtModem (station.Sent g) ∷ line) → is_unasked (captured stamps line) (caught stamp FromModem g) ≡ false
 modem_answers s n1 stamps g line stamp h =
     by_answer (is_answer g) (is_none (answered_by g (waiting Initiator (captured stamps line)))) (λ answer.
-      let past = modem_past line in
-      let seen = shows stamps line in
-      let there = both_ways line h.one_line.1 in
-      waits Initiator g (captured stamps line) (frames_sent past) (frames_got past) (frames_sent (wire (driver_past line))) answer
-      (modem_shaped n1 (station.Sent g ∷ past) h.modem_lawful) seen.driver_frames seen.to_driver
-      (station_sends AnyProbe (responding n1) (is_alike g) (λ f. answers f g) (answers_balanced n1 Responder g answer) (station.Sent g ∷ past) h.modem_lawful)
-      (came_few (λ f. answers f g) (wire (driver_past line)) past there.at_modem))
+    let past = modem_past line in
+    let seen = shows stamps line in
+    let there = both_ways line h.one_line.1 in
+    waits Initiator g (captured stamps line) (frames_sent past) (frames_got past) (frames_sent (wire (driver_past line))) answer
+    (modem_shaped n1 (station.Sent g ∷ past) h.modem_lawful) seen.driver_frames seen.to_driver
+    (station_sends AnyProbe (responding n1) (is_alike g) (λ f. answers f g) (answers_balanced n1 Responder g answer) (station.Sent g ∷ past) h.modem_lawful)
+    (came_few (λ f. answers f g) (wire (driver_past line)) past there.at_modem))
 
 pub answers_asks : (s : Setting) (n1 : ℕ) (line : List LineAct) → AnswersAsks s n1 line
 unfolding AnswersAsks

@@ -1,12 +1,11 @@
 -- Two tests of frames, of which the first is of frames that the tables call for where frames of the second come.
-use Rattle.std.specs.Prelude.{◌≡◌, zero, suc, ℕ, ◌+◌, ◌*◌, ◌/◌, ◌%◌, ◌==◌, ◌≤◌, ◌&&◌, nat_le, Bool, true, false, List, [], ◌∷◌, ◌++◌, length, Option, Some, None, refl, if◌then◌else◌}
-use Rattle.std.proofs.Common.{ap, arith}
+use Rattle.std.specs.Prelude.{◌≡◌, zero, suc, ℕ, ◌+◌, ◌*◌, ◌/◌, ◌%◌, ◌==◌, ◌≤◌, nat_le, Bool, true, false, List, [], ◌∷◌, length, Some, None, refl, if◌then◌else◌}
+use Rattle.std.proofs.Common.{arith}
 use Rattle.mux_frame.specs.Frames.{Frame}
-use Rattle.mux_frame.specs.declared.frame.Kind.{Kind}
 use Rattle.mux_frame.specs.declared.frame.Kind.TheVariants.{Sabm, Disc}
 use Rattle.mux_station.specs.declared.role.Role.{Role}
 use Rattle.mux_station.specs.Written.{is_data_frame, written}
-use Rattle.mux_station.specs.Messages.{cld, msc, test}
+use Rattle.mux_station.specs.Messages.{msc, test}
 use Rattle.mux_station.specs.States.{State, IsShut, IsOpening, IsOpened, IsClosing, IsStopping, is_opened}
 use Rattle.mux_station.specs.Tables.{again, by_flow, by_frame, has_room, if_room, message_frame, msc_frame, octets_of, ticked}
 use Rattle.show_laws.proofs.counts.ManyFrames.{few_both, few_if, many, none_one, unit}

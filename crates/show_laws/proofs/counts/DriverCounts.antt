@@ -1,6 +1,6 @@
 -- A driver sends no more frames of the first of two balanced tests than frames of the second came.
-use Rattle.std.specs.Prelude.{◌≡◌, ℕ, ◌+◌, ◌≤◌, not, nat_le, IsTrue, Bool, true, false, List, [], ◌∷◌, ◌++◌, map, drop, length, refl, is_none, if◌then◌else◌}
-use Rattle.std.proofs.Common.{ap, arith, sym, ◌∙◌}
+use Rattle.std.specs.Prelude.{◌≡◌, ℕ, ◌+◌, ◌≤◌, not, Bool, true, false, List, [], ◌∷◌, ◌++◌, map, drop, refl, is_none, if◌then◌else◌}
+use Rattle.std.proofs.Common.{ap, arith, ◌∙◌}
 use Rattle.mux_frame.specs.Frames.{Frame}
 use Rattle.mux_frame.specs.declared.frame.Kind.TheVariants.{Sabm, Disc}
 use Rattle.mux_station.specs.declared.role.Role.{Role}

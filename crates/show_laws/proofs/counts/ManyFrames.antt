@@ -1,5 +1,5 @@
 -- How many frames pass a test.
-use Rattle.std.specs.Prelude.{◌≡◌, ℕ, ◌+◌, ◌≤◌, Bool, true, false, List, [], ◌∷◌, ◌++◌, drop, refl, if◌then◌else◌}
+use Rattle.std.specs.Prelude.{◌≡◌, ℕ, ◌+◌, ◌≤◌, Bool, true, false, List, [], ◌∷◌, ◌++◌, drop, if◌then◌else◌}
 use Rattle.std.proofs.Common.{ap, arith}
 use Rattle.mux_frame.specs.Frames.{Frame}
 

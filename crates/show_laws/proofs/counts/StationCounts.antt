@@ -1,5 +1,5 @@
 -- A station sends no more frames of the first of two balanced tests than frames of the second came.
-use Rattle.std.specs.Prelude.{◌≡◌, ℕ, ◌+◌, ◌*◌, ◌==◌, ◌≤◌, ◌&&◌, not, nat_le, Bool, true, false, List, [], ◌∷◌, ◌++◌, drop, length, Option, Some, None, refl, is_none, is_some, if◌then◌else◌}
+use Rattle.std.specs.Prelude.{◌≡◌, ℕ, ◌+◌, ◌*◌, ◌==◌, ◌≤◌, not, nat_le, Bool, true, false, List, [], ◌∷◌, ◌++◌, drop, length, Option, Some, None, refl, is_none, is_some, if◌then◌else◌}
 use Rattle.std.specs.List.{list_any}
 use Rattle.std.proofs.Common.{ap, arith}
 use Rattle.mux_frame.specs.Frames.{Frame}
@@ -8,12 +8,12 @@ use Rattle.mux_station.specs.declared.error.StationError.{StationError}
 use Rattle.mux_station.specs.declared.error.StationError.TheVariants.{NotOpen, Busy, TooLong}
 use Rattle.mux_station.specs.Acts.{Call, Open, Close, Probe, Stop, Flow, Offer, Act, Called, Got, Sent, Tick, Lost, Given}
 use Rattle.mux_station.specs.Messages.{cld, msc, test}
-use Rattle.mux_station.specs.Sending.{Sends, StationGated, StationLawful, StationSetting, StationView, called_frames, frames_asked, frames_seeing, if_no_room, is_loss, or_else, owed_frames, refused, refused_by_state, station_view}
+use Rattle.mux_station.specs.Sending.{Sends, StationLawful, StationSetting, StationView, called_frames, frames_asked, frames_seeing, if_no_room, is_loss, or_else, owed_frames, refused, station_view}
 use Rattle.mux_station.specs.States.{is_opened}
 use Rattle.mux_station.specs.Tables.{held_up, message_frame, msc_frame, ready}
 use Rattle.mux_station.specs.Written.{is_data_frame, written}
 use Rattle.modem_history.specs.TwoEnds.{frames_got, frames_sent}
-use Rattle.show_laws.proofs.counts.ManyFrames.{few_if, few_both, few_dropped, many, many_both, none_one, unit}
+use Rattle.show_laws.proofs.counts.ManyFrames.{few_if, many, many_both, none_one, unit}
 use Rattle.show_laws.proofs.counts.BalancedTables.{Balanced, none_of_tick}
 
 of_all : (P : List ℕ → Type 0) (s : StationSetting) (u t : Frame → Bool) → Balanced P s.n1 s.role u t → (go : Bool) → u (message_frame s.role (if go then 0xa3 else 0x63) []) ≡ false

@@ -1,5 +1,5 @@
 -- What a capture has of each end is what that end sent.
-use Rattle.std.specs.Prelude.{◌≡◌, ℕ, ◌+◌, ◌≤◌, Bool, List, [], ◌∷◌, ◌++◌, refl}
+use Rattle.std.specs.Prelude.{◌≡◌, ℕ, ◌≤◌, Bool, List, [], ◌∷◌, ◌++◌, refl}
 use Rattle.std.proofs.Common.{ap, arith, sym, ◌∙◌}
 use Rattle.mux_frame.specs.Frames.{Frame}
 use Rattle.mux_capture.specs.declared.packet.Stamp.{Stamp}

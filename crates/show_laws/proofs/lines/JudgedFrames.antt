@@ -1,7 +1,7 @@
 -- Frames that are judged one after the other.
-use Rattle.std.specs.Prelude.{◌≡◌, ℕ, ◌&&◌, ◌||◌, Bool, true, false, List, [], ◌∷◌, ◌++◌, reverse, refl, if◌then◌else◌}
+use Rattle.std.specs.Prelude.{◌≡◌, ℕ, ◌||◌, Bool, true, false, List, [], ◌∷◌, ◌++◌, reverse, refl, if◌then◌else◌}
 use Rattle.std.specs.List.{list_any}
-use Rattle.std.proofs.Common.{ap, sym, ◌∙◌}
+use Rattle.std.proofs.Common.{ap, ◌∙◌}
 use Rattle.std.proofs.lemmas.List.{reverse-append}
 use Rattle.std.proofs.lemmas.List.Folds.{list_any-append}
 use Rattle.mux_capture.specs.declared.packet.Direction.{Direction}
@@ -21,7 +21,7 @@ faults_on : (n1 : ℕ) (line xs ys : List Caught) → faults_from n1 line (xs ++
 faults_on n1 line [] ys = refl
 faults_on n1 line (c ∷ xs) ys = ap (λ (fs : List Faults). faults_of n1 line c ∷ fs) (faults_on n1 (c ∷ line) xs ys)
 
-turned : (c : Caught) (line : List Caught) → reverse (c ∷ line) ≡ reverse line ++ c ∷ []
+pub turned : (c : Caught) (line : List Caught) → reverse (c ∷ line) ≡ reverse line ++ c ∷ []
 turned c line = reverse-append (c ∷ []) line
 
 onto_both : (line xs ys : List Caught) → onto line (xs ++ ys) ≡ onto (onto line xs) ys

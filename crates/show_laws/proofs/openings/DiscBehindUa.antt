@@ -1,5 +1,5 @@
 -- A driver sends no DISC on a connection before a UA on it came, where it asks for each connection once.
-use Rattle.std.specs.Prelude.{◌≡◌, zero, suc, ℕ, ◌+◌, ◌==◌, ◌≤◌, ◌&&◌, ◌||◌, not, nat_le, Bool, true, false, List, [], ◌∷◌, ◌++◌, drop, length, filter, Option, Some, None, refl, is_none, if◌then◌else◌}
+use Rattle.std.specs.Prelude.{◌≡◌, zero, suc, ℕ, ◌+◌, ◌==◌, ◌≤◌, ◌&&◌, ◌||◌, not, nat_le, Bool, true, false, List, [], ◌∷◌, ◌++◌, drop, length, filter, Some, None, refl, is_none, if◌then◌else◌}
 use Rattle.std.proofs.Common.{ap, arith, sym, ◌∙◌, subst, eqb-true}
 use Rattle.std.proofs.lemmas.Bool.{and_parts}
 use Rattle.mux_frame.specs.Frames.{Frame}
@@ -8,11 +8,10 @@ use Rattle.mux_frame.specs.declared.frame.Kind.TheVariants.{Sabm, Ua, Dm, Disc, 
 use Rattle.mux_station.specs.declared.role.Role.{Role}
 use Rattle.mux_station.specs.declared.role.Role.TheVariants.{Initiator}
 use Rattle.mux_station.specs.States.{State, IsShut, IsOpening, IsOpened, IsClosing, IsStopping, is_opened, is_shut, state_of}
-use Rattle.mux_station.specs.Tables.{again, by_flow, by_frame, by_tick, has_room, held_up, if_room, message_frame, msc_frame, octets_of, ready, ticked, ua_or_dm}
+use Rattle.mux_station.specs.Tables.{again, by_flow, by_frame, has_room, held_up, if_room, msc_frame, octets_of, ready, ticked, ua_or_dm}
 use Rattle.mux_station.specs.Written.{is_data_frame, is_kind, is_on, written}
 use Rattle.modem_desk.specs.declared.request.Ask.{Ask}
 use Rattle.modem_desk.specs.declared.request.Ask.TheVariants.{OpenChannel, CloseChannel, Command, Probe, Stop}
-use Rattle.modem_desk.specs.declared.request.Answer.{Answer}
 use Rattle.modem_desk.specs.declared.request.Answer.TheVariants.{LineLost, Busy, ControlChannel, NotOpen}
 use Rattle.modem_desk.specs.declared.request.Request.{Request}
 use Rattle.modem_history.specs.Acts.{Act, Took, Got, Sent, Told, Heard, Tick, Lost, Held, Freed, Given, wire}
@@ -20,7 +19,7 @@ use Rattle.modem_history.specs.Calls.{HistoryView, Setting, all_have_room, askin
 use Rattle.modem_history.specs.Lawful.{IsNext, Lawful, When, owed, unsent}
 use Rattle.modem_history.specs.TwoEnds.{AsksOnce, frames_got, frames_sent}
 use Rattle.modem_history.proofs.commands.FramesOnLine.{asks_fewer}
-use Rattle.show_laws.proofs.counts.ManyFrames.{few_if, many, many_both, none_one, unit}
+use Rattle.show_laws.proofs.counts.ManyFrames.{few_if, many, many_both, unit}
 use Rattle.show_laws.proofs.counts.DriverCounts.{called, dropped, sends, sends_both, unsent_none}
 use Rattle.show_laws.proofs.openings.DriverStates.{Says, state_says}
 use Rattle.show_laws.proofs.openings.ModeAnswers.{modes_few}
@@ -119,7 +118,7 @@ disc_never d r state f =
 flow_never : (d : ℕ) (r : Role) (state : ℕ → State) (e signals : ℕ) → many (discs d) (by_flow r state e signals) ≤ 0
 flow_never d r state e signals = few_if (discs d) 0 (is_opened (state e)) (msc_frame r e signals ∷ []) [] (omega arith) (omega arith)
 
-once_many : (t : Frame → Bool) (fs : List Frame) → many t fs ≤ length (filter t fs)
+pub once_many : (t : Frame → Bool) (fs : List Frame) → many t fs ≤ length (filter t fs)
 once_many t [] = omega arith
 once_many t (f ∷ fs) = by_test (t f) (once_many t fs)
   where
@@ -210,8 +209,8 @@ behind s d (Tick ∷ past) is l once some =
     let one = once d in
     calls_on s d past Tick
     (λ k.
-      tick_disc s.role s.n1 d v.state (λ n c. from_closing (uas d past) (many (is_on Sabm d) (frames_sent (wire past))) n (state_of s.role d (wire past)) says c)
-      (λ n o three. from_opening (uas d past) (many (is_on Sabm d) (frames_sent (wire past))) n (state_of s.role d (wire past)) says o three (omega (arith, few, one))) v.queued 0 62 k)
+    tick_disc s.role s.n1 d v.state (λ n c. from_closing (uas d past) (many (is_on Sabm d) (frames_sent (wire past))) n (state_of s.role d (wire past)) says c)
+    (λ n o three. from_opening (uas d past) (many (is_on Sabm d) (frames_sent (wire past))) n (state_of s.role d (wire past)) says o three (omega (arith, few, one))) v.queued 0 62 k)
     (behind s d past is l.1 once) some
 
 -- once a DISC on d was sent a UA on d has come

@@ -1,5 +1,5 @@
 -- What an initiator's connection is by what passed, beside what it is by its past, act by act.
-use Rattle.std.specs.Prelude.{◌≡◌, ℕ, ◌+◌, ◌==◌, ◌≤◌, ◌&&◌, ◌||◌, not, Bool, true, false, List, [], ◌∷◌, ◌++◌, Option, Some, None, refl, if◌then◌else◌}
+use Rattle.std.specs.Prelude.{◌≡◌, ℕ, ◌+◌, ◌==◌, ◌≤◌, ◌&&◌, ◌||◌, not, Bool, true, false, List, ◌∷◌, Option, Some, None, refl, if◌then◌else◌}
 use Rattle.std.proofs.Common.{ap, arith, sym, ◌∙◌}
 use Rattle.std.proofs.lemmas.Bool.{and_from, and_parts, or_parts}
 use Rattle.mux_frame.specs.Frames.{Frame}
@@ -9,7 +9,7 @@ use Rattle.mux_station.specs.Acts.{Act, Got, Sent}
 use Rattle.mux_station.specs.Messages.{Message, cld, brings_command, message_in}
 use Rattle.mux_station.specs.Opening.{ends, is_mode_frame_on}
 use Rattle.mux_station.specs.Written.{is_kind, is_on}
-use Rattle.modem_show.specs.Asking.{is_ask, is_mode_command, message_asks}
+use Rattle.modem_show.specs.Asking.{is_mode_command, message_asks}
 use Rattle.modem_show.specs.Ends.{come}
 use Rattle.show_laws.proofs.asks.AnswerShapes.{message_no_mode, or_elim}
 use Rattle.show_laws.proofs.counts.ManyFrames.{unit}
@@ -77,9 +77,10 @@ off_sum true b e = cc
 off_sum false b e = refl
 
 sent_closed : (d : ℕ) (f : Frame) (p : List Act) → open_at d p ≡ false → asked_at d p ≡ false → is_on Sabm d f ≡ false → (open_at d (Sent f ∷ p) ≡ false) × (asked_at d (Sent f ∷ p) ≡ false)
-sent_closed d f p o a s =
-    (off_sum (open_at d p) (not (ends (zero_at d p) d (Sent f))) o,
-    both (is_on Sabm d f) (asked_at d p) (not (is_mode_frame_on d f || ends (zero_at d p) d (Sent f))) s a)
+sent_closed d f p o a s = (
+  off_sum (open_at d p) (not (ends (zero_at d p) d (Sent f))) o,
+  both (is_on Sabm d f) (asked_at d p) (not (is_mode_frame_on d f || ends (zero_at d p) d (Sent f))) s a,
+)
   where
     both : (x y w : Bool) → x ≡ false → y ≡ false → (x || (y && w)) ≡ false
     both true y w e g = cc

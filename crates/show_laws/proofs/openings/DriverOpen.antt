@@ -1,8 +1,8 @@
 -- The driver sends data where what passed says that the connection is open.
-use Rattle.std.specs.Prelude.{◌≡◌, ℕ, ◌+◌, ◌==◌, ◌≤◌, ◌&&◌, ◌||◌, not, Bool, true, false, List, [], ◌∷◌, ◌++◌, drop, filter, length, map, suc, unwrap_or, Option, Some, None, refl, is_none, if◌then◌else◌}
+use Rattle.std.specs.Prelude.{◌≡◌, ℕ, ◌+◌, ◌==◌, ◌≤◌, ◌&&◌, ◌||◌, not, Bool, true, false, List, [], ◌∷◌, ◌++◌, drop, filter, map, suc, unwrap_or, Option, Some, None, refl, is_none, if◌then◌else◌}
 use Rattle.std.specs.List.{find, list_any, position_or_len, remove}
 use Rattle.std.proofs.Common.{ap, arith, sym, ◌∙◌, subst, eqb-true}
-use Rattle.std.proofs.lemmas.Bool.{and_from, and_parts, or_parts}
+use Rattle.std.proofs.lemmas.Bool.{and_parts, or_parts}
 use Rattle.mux_frame.specs.Frames.{Frame}
 use Rattle.mux_frame.specs.declared.frame.Kind.{Kind}
 use Rattle.mux_frame.specs.declared.frame.Kind.TheVariants.{Sabm, Ua, Dm, Disc, Uih}
@@ -15,30 +15,29 @@ use Rattle.mux_station.specs.Messages.{Message, cld, brings_command, message_in}
 use Rattle.mux_station.specs.Opening.{ends, is_mode_frame_on}
 use Rattle.mux_station.specs.Tables.{held_up, ready}
 use Rattle.mux_station.specs.Written.{is_data_frame, is_kind, is_on}
-use Rattle.modem_history.specs.Acts as driver
 use Rattle.modem_history.specs.Acts.{Act, Took, Got, Sent, Told, Heard, Tick, Lost, Held, Freed, Given, wire}
 use Rattle.modem_history.specs.Calls.{Setting, asking, at_once, calls_behind, frames_by, seen_behind}
-use Rattle.modem_history.specs.Lawful.{Gated, IsNext, Lawful, When, owed, owes_frame, unsent}
+use Rattle.modem_history.specs.Lawful.{IsNext, Lawful, When, owed, owes_frame, unsent}
 use Rattle.modem_history.specs.TwoEnds.{AsksOnce, frames_got, frames_sent}
 use Rattle.modem_history.proofs.commands.FramesOnLine.{asked_first, asks_fewer}
 use Rattle.modem_show.specs.Asking.{Ask, answered_by, answers, asked_with, excused_by, both_respond, is_again, is_ask, is_mode_answer, is_mode_command, unanswered_by, waiting}
 use Rattle.modem_show.specs.Ends.{handled, own}
 use Rattle.modem_show.specs.Ways.{is_from}
-use Rattle.show_laws.specs.Lines.{AtDriver, AtModem, IsLawfulLine, LineAct, captured, driver_past, modem_past, responding}
+use Rattle.show_laws.specs.Lines.{AtDriver, AtModem, IsLawfulLine, LineAct, captured, driver_past, modem_past}
 use Rattle.show_laws.specs.Laws.{NeverClosesDown}
 use Rattle.show_laws.proofs.asks.AnswerShapes.{message_no_mode, or_elim}
 use Rattle.show_laws.proofs.asks.AnswersCalled.{AnyProbe}
 use Rattle.show_laws.proofs.asks.NoneUnasked.{any_asked}
 use Rattle.show_laws.proofs.asks.WaitingAsks.{excused_many, frames_of, many_asks}
-use Rattle.show_laws.proofs.counts.ManyFrames.{few_if, many, none_one, unit}
-use Rattle.show_laws.proofs.counts.BalancedTables.{Balanced, none_of_flow, none_of_tick}
+use Rattle.show_laws.proofs.counts.ManyFrames.{few_if, many, unit}
+use Rattle.show_laws.proofs.counts.BalancedTables.{none_of_flow, none_of_tick}
 use Rattle.show_laws.proofs.counts.DriverCounts.{asked, called, dropped, sends, sends_both, unsent_none}
 use Rattle.show_laws.proofs.lines.CapturedFrames.{both_ways, came_few, shows}
 use Rattle.show_laws.proofs.lines.EveryFrame.{lawful_before}
 use Rattle.show_laws.proofs.openings.ModeAnswers.{ending_balanced, is_ending, sabm_never}
 use Rattle.show_laws.proofs.openings.UaBehindSabm.{ua_behind}
 use Rattle.show_laws.proofs.openings.QuietFrames.{Quiet, asked_at, is_ender, open_at, quiet_asked, quiet_open, zero_at}
-use Rattle.show_laws.proofs.openings.DriverFollows.{Follows, Ready, fewer_step, got_step, passed_step, sent_step}
+use Rattle.show_laws.proofs.openings.DriverFollows.{Follows, fewer_step, got_step, passed_step, sent_step}
 
 -- ## What waits was sent
 
@@ -61,7 +60,7 @@ removed_fewer t p (a ∷ asks) = by_test (p a.frame) (removed_fewer t p asks)
         let next : many_asks t (remove (a ∷ asks) (1 + n)) ≡ unit (t a.frame) + many_asks t (remove asks n) = let one : 1 + n ≡ suc n = omega arith in ap (λ m. many_asks t (remove (a ∷ asks) m)) one in
         omega (arith, k, next)
 
-waiting_few : (t : Frame → Bool) (r : Role) (line : List Caught) → many_asks t (waiting r line) ≤ many t (frames_of r line)
+pub waiting_few : (t : Frame → Bool) (r : Role) (line : List Caught) → many_asks t (waiting r line) ≤ many t (frames_of r line)
 waiting_few t r [] = omega arith
 waiting_few t r (c ∷ line) = by_way (is_from r c) (waiting_few t r line)
   where
@@ -76,7 +75,7 @@ waiting_few t r (c ∷ line) = by_way (is_from r c) (waiting_few t r line)
         let x = removed_fewer t (λ f. answers f c.frame) (waiting r line) in
         omega (arith, e, x, k)
 
-found_one : (t p : Frame → Bool) (asks : List Ask) (a : Ask) → find (λ x. p x.frame) asks ≡ Some a → many_asks t asks ≤ 0 → (p a.frame ≡ true) × (t a.frame ≡ false)
+pub found_one : (t p : Frame → Bool) (asks : List Ask) (a : Ask) → find (λ x. p x.frame) asks ≡ Some a → many_asks t asks ≤ 0 → (p a.frame ≡ true) × (t a.frame ≡ false)
 found_one t p [] a e none = cc
 found_one t p (x ∷ asks) a e none = by_test (p x.frame) refl e (λ k. found_one t p asks a k (omega (arith, none)))
   where
@@ -117,11 +116,11 @@ pub quiet_one : (d : ℕ) (f g : Frame) → answers f g ≡ true → is_ending d
 quiet_one d f g h e no_cld =
     or_elim ((is_mode_command f && is_mode_answer g) && (f.dlci == g.dlci)) (both_respond (message_in f) (message_in g)) h
     (λ k.
-      let p = and_parts (is_mode_command f && is_mode_answer g) (f.dlci == g.dlci) k in
-      let q = and_parts (is_mode_command f) (is_mode_answer g) p.0 in
-      let same = eqb-true f.dlci g.dlci p.1 in
-      let away = or_parts (g.dlci == d) (g.dlci == 0) (sym (ap (λ (b : Bool). b && ((g.dlci == d) || (g.dlci == 0))) q.1) ∙ e) in
-      record { mode = at d (ap (λ n. n == d) same ∙ away.0); mode_of_zero = at 0 (ap (λ n. n == 0) same ∙ away.1); no_cld = no_cld })
+    let p = and_parts (is_mode_command f && is_mode_answer g) (f.dlci == g.dlci) k in
+    let q = and_parts (is_mode_command f) (is_mode_answer g) p.0 in
+    let same = eqb-true f.dlci g.dlci p.1 in
+    let away = or_parts (g.dlci == d) (g.dlci == 0) (sym (ap (λ (b : Bool). b && ((g.dlci == d) || (g.dlci == 0))) q.1) ∙ e) in
+    record { mode = at d (ap (λ n. n == d) same ∙ away.0); mode_of_zero = at 0 (ap (λ n. n == 0) same ∙ away.1); no_cld = no_cld })
     (λ k. by_message (message_in f) refl k)
   where
     at : (n : ℕ) → (f.dlci == n) ≡ false → is_mode_frame_on n f ≡ false

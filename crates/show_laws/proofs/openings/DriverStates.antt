@@ -1,19 +1,16 @@
 -- What the state of an initiator's connection says of the frames on it: where it is Opened or Closing a UA came, and where it is Opening so many
 -- SABM were sent.
-use Rattle.std.specs.Prelude.{◌≡◌, zero, suc, ℕ, ◌+◌, ◌==◌, ◌≤◌, ◌&&◌, ◌||◌, not, nat_le, Bool, true, false, List, [], ◌∷◌, length, filter, Option, Some, None, refl, is_none, if◌then◌else◌}
-use Rattle.std.specs.List.{list_any}
-use Rattle.std.proofs.Common.{ap, arith, sym, ◌∙◌, subst, eqb-true}
-use Rattle.std.proofs.lemmas.Bool.{and_parts}
-use Rattle.mux_frame.specs.Frames.{Frame}
+use Rattle.std.specs.Prelude.{◌≡◌, ℕ, ◌+◌, ◌==◌, ◌≤◌, ◌&&◌, Bool, true, false, List, [], ◌∷◌, refl, if◌then◌else◌}
+use Rattle.std.proofs.Common.{ap, arith, sym, subst, eqb-true}
 use Rattle.mux_frame.specs.declared.frame.Kind.{Kind}
 use Rattle.mux_frame.specs.declared.frame.Kind.TheVariants.{Sabm, Ua, Dm, Disc, Uih}
 use Rattle.mux_station.specs.declared.role.Role.TheVariants.{Initiator}
-use Rattle.mux_station.specs.Acts.{Act, Call, Called, Got, Sent, Tick, Lost, Given}
+use Rattle.mux_station.specs.Acts.{Act, Called, Got, Sent, Tick, Lost, Given}
 use Rattle.mux_station.specs.Messages.{cld, brings_command, brings_response}
 use Rattle.mux_station.specs.Opening.{ends_itself}
 use Rattle.mux_station.specs.States.{State, IsShut, IsOpening, IsOpened, IsClosing, IsStopping, at_close_down, at_got, at_sent, at_tick, got_by, is_opened, own_after, state_of}
 use Rattle.mux_station.specs.Written.{is_kind, is_on}
-use Rattle.mux_station.proofs.states.StatesAfterActs.{next_state, state_next}
+use Rattle.mux_station.proofs.states.StatesAfterActs.{state_next}
 use Rattle.modem_history.specs.TwoEnds.{frames_got, frames_sent}
 use Rattle.show_laws.proofs.counts.ManyFrames.{many, unit}
 

@@ -1,18 +1,16 @@
 -- A SABM that was sent and isn't answered is the ask that the next UA or DM on its connection answers.
-use Rattle.std.specs.Prelude.{◌≡◌, suc, ℕ, ◌+◌, ◌==◌, ◌≤◌, ◌&&◌, ◌||◌, not, Bool, true, false, List, [], ◌∷◌, ◌++◌, map, Option, Some, None, refl, if◌then◌else◌}
-use Rattle.std.specs.List.{find, list_any, position_or_len, remove}
-use Rattle.std.proofs.Common.{ap, arith, sym, ◌∙◌, subst, eqb-true}
+use Rattle.std.specs.Prelude.{◌≡◌, suc, ℕ, ◌+◌, ◌==◌, ◌&&◌, ◌||◌, not, Bool, true, false, List, [], ◌∷◌, ◌++◌, map, Option, Some, None, refl, if◌then◌else◌}
+use Rattle.std.specs.List.{find, position_or_len, remove}
+use Rattle.std.proofs.Common.{ap, arith, sym, ◌∙◌, eqb-true}
 use Rattle.std.proofs.lemmas.Bool.{and_from, and_parts, eq-eqb}
 use Rattle.mux_frame.specs.Frames.{Frame}
 use Rattle.mux_frame.specs.declared.frame.Kind.{Kind}
 use Rattle.mux_frame.specs.declared.frame.Kind.TheVariants.{Sabm, Ua, Dm, Disc, Uih}
 use Rattle.mux_capture.specs.declared.packet.Stamp.{Stamp}
-use Rattle.mux_capture.specs.Passing.{Caught}
 use Rattle.mux_station.specs.Messages.{Message, cld, brings_command, brings_response, message_in, message_of}
 use Rattle.mux_station.specs.Opening.{is_mode_frame_on}
 use Rattle.mux_station.specs.Written.{is_kind, is_on}
 use Rattle.modem_show.specs.Asking.{Ask, answered_by, answers, asked_with, both_respond, drops, excused_by, excuses, is_ask, message_asks, is_mode_answer, is_mode_command, unanswered_by}
-use Rattle.show_laws.proofs.asks.AnswerShapes.{or_elim}
 
 -- the ask that each UA or DM on d answers
 pub record Fresh (d : ℕ) (asks : List Ask) : Type 0 where

@@ -1,17 +1,16 @@
 -- What a responder's connection is by what passed, beside what it is by its past, act by act.
-use Rattle.std.specs.Prelude.{◌≡◌, ℕ, ◌+◌, ◌==◌, ◌≤◌, ◌&&◌, ◌||◌, not, Bool, true, false, List, [], ◌∷◌, ◌++◌, drop, Option, Some, None, refl, if◌then◌else◌}
-use Rattle.std.proofs.Common.{ap, arith, sym, ◌∙◌, subst, eqb-true}
-use Rattle.std.proofs.lemmas.Bool.{and_from, and_parts, or_parts}
+use Rattle.std.specs.Prelude.{◌≡◌, ℕ, ◌+◌, ◌==◌, ◌≤◌, ◌&&◌, ◌||◌, not, Bool, true, false, List, [], ◌∷◌, ◌++◌, drop, Option, Some, refl, if◌then◌else◌}
+use Rattle.std.proofs.Common.{ap, arith, sym, ◌∙◌, eqb-true}
+use Rattle.std.proofs.lemmas.Bool.{and_from, and_parts}
 use Rattle.mux_frame.specs.Frames.{Frame}
-use Rattle.mux_frame.specs.declared.frame.Kind.{Kind}
-use Rattle.mux_frame.specs.declared.frame.Kind.TheVariants.{Sabm, Ua, Dm, Disc, Uih}
+use Rattle.mux_frame.specs.declared.frame.Kind.TheVariants.{Sabm, Ua, Dm}
 use Rattle.mux_station.specs.declared.role.Role.TheVariants.{Responder}
 use Rattle.mux_station.specs.Acts.{Act, Got, Sent}
-use Rattle.mux_station.specs.Messages.{cld, brings_command, brings_response}
+use Rattle.mux_station.specs.Messages.{cld, brings_response}
 use Rattle.mux_station.specs.Opening.{ends, is_open, standings}
 use Rattle.mux_station.specs.Written.{is_kind, is_on}
 use Rattle.mux_station.proofs.states.OpenByPlaces.{zero_same}
-use Rattle.modem_show.specs.Asking.{Ask, is_again, is_mode_answer, is_mode_command}
+use Rattle.modem_show.specs.Asking.{Ask, is_mode_answer, is_mode_command}
 use Rattle.modem_show.specs.Ends.{handled}
 use Rattle.show_laws.proofs.asks.AnswerShapes.{or_elim}
 use Rattle.show_laws.proofs.counts.ManyFrames.{few_dropped, many, unit}

@@ -1,8 +1,8 @@
 -- The modem sends data where what passed says that the connection is open.
-use Rattle.std.specs.Prelude.{◌≡◌, ℕ, ◌+◌, ◌==◌, ◌≤◌, ◌&&◌, ◌||◌, not, is_none, Bool, true, false, List, [], ◌∷◌, ◌++◌, drop, length, filter, map, Option, Some, None, refl, if◌then◌else◌}
-use Rattle.std.specs.List.{find, list_all, list_any}
-use Rattle.std.proofs.Common.{ap, arith, sym, ◌∙◌, subst, eqb-true, append-nil}
-use Rattle.std.proofs.lemmas.Bool.{and_from, and_parts, or_parts}
+use Rattle.std.specs.Prelude.{◌≡◌, ℕ, ◌+◌, ◌==◌, ◌≤◌, ◌&&◌, ◌||◌, not, Bool, true, false, List, [], ◌∷◌, ◌++◌, length, map, refl, if◌then◌else◌}
+use Rattle.std.specs.List.{list_any}
+use Rattle.std.proofs.Common.{ap, arith, sym, ◌∙◌, eqb-true}
+use Rattle.std.proofs.lemmas.Bool.{and_parts, or_parts}
 use Rattle.mux_frame.specs.Frames.{Frame}
 use Rattle.mux_frame.specs.declared.frame.Kind.{Kind}
 use Rattle.mux_frame.specs.declared.frame.Kind.TheVariants.{Sabm, Ua, Dm, Disc, Uih}
@@ -10,38 +10,33 @@ use Rattle.mux_capture.specs.declared.packet.Stamp.{Stamp}
 use Rattle.mux_capture.specs.Passing.{Caught}
 use Rattle.mux_station.specs.declared.role.Role.TheVariants.{Initiator, Responder}
 use Rattle.mux_station.specs.Acts as station
-use Rattle.mux_station.specs.Messages.{Message, cld, brings_command, brings_response, is_command, message_in, message_of, nsc, octet_is}
-use Rattle.mux_station.specs.Opening.{ends, ends_itself, is_mode_frame_on, is_open, standings}
-use Rattle.mux_station.specs.Sending.{Sends, StationLawful, called_frames, frames_seeing, is_loss, owed_frames, refused, station_view}
-use Rattle.mux_station.specs.States.{State, IsShut, IsOpening, IsOpened, IsClosing, IsStopping, at_answered, at_close_down, at_sent, at_tick, is_opened, is_stopping, own_after, state_of, states}
-use Rattle.mux_station.specs.Tables.{by_frame}
-use Rattle.mux_station.specs.Written.{is_data_frame, is_kind, is_on}
+use Rattle.mux_station.specs.Messages.{cld, brings_command, brings_response, message_of, octet_is}
+use Rattle.mux_station.specs.Opening.{ends, ends_itself}
+use Rattle.mux_station.specs.Sending.{is_loss}
+use Rattle.mux_station.specs.States.{State, IsShut, IsOpening, IsOpened, IsClosing, IsStopping, at_answered, at_close_down, at_sent, at_tick, is_stopping, own_after, state_of, states}
+use Rattle.mux_station.specs.Written.{is_kind, is_on}
 use Rattle.mux_station.proofs.states.OpenByPlaces.{zero_same}
 use Rattle.mux_station.proofs.states.StatesAfterActs.{zero_own}
-use Rattle.mux_station.proofs.states.OpenedStates.{opened_is_open}
 use Rattle.modem_history.specs.Acts as driver
 use Rattle.modem_history.specs.Acts.{wire}
 use Rattle.modem_history.specs.Calls.{Setting}
-use Rattle.modem_history.specs.TwoEnds.{AsksOnce, frames_got, frames_sent}
-use Rattle.modem_show.specs.Asking.{Ask, answered_by, answers, asked_with, both_respond, excused_by, is_ask, is_mode_answer, is_mode_command, message_asks, unanswered_by, waiting}
-use Rattle.modem_show.specs.Ends.{come, handled, own}
+use Rattle.modem_history.specs.TwoEnds.{AsksOnce, frames_sent}
+use Rattle.modem_show.specs.Asking.{asked_with, excused_by, is_mode_command, unanswered_by, waiting}
 use Rattle.show_laws.specs.Lines.{AtDriver, AtModem, IsLawfulLine, LineAct, captured, driver_past, modem_past, responding}
 use Rattle.show_laws.specs.Laws.{IsPrompt, OpensAndClosesNothing, opens_or_closes}
-use Rattle.show_laws.proofs.asks.AnswerShapes.{is_shaped, or_elim}
+use Rattle.show_laws.proofs.asks.AnswerShapes.{or_elim}
 use Rattle.show_laws.proofs.asks.AnswersCalled.{AnyProbe}
-use Rattle.show_laws.proofs.asks.NoneUnasked.{any_probes, modem_shaped}
+use Rattle.show_laws.proofs.asks.NoneUnasked.{any_probes}
 use Rattle.show_laws.proofs.asks.WaitingAsks.{frames_of, frames_to}
 use Rattle.show_laws.proofs.counts.ManyFrames.{many, unit}
 use Rattle.show_laws.proofs.counts.DriverCounts.{driver_sends}
-use Rattle.show_laws.proofs.counts.StationCounts.{station_sends}
 use Rattle.show_laws.proofs.lines.CapturedFrames.{both_ways, came_few, shows}
 use Rattle.show_laws.proofs.lines.EveryFrame.{lawful_before, over}
 use Rattle.show_laws.proofs.openings.DiscBehindUa.{disc_behind}
 use Rattle.show_laws.proofs.openings.DriverOpen.{once_before}
-use Rattle.show_laws.proofs.openings.FreshAsks.{Aside, Fresh, other_answers, other_asks, sabm_asks}
-use Rattle.show_laws.proofs.openings.ModemFollows.{FollowsM, answer_on, ask_on, open_m, uas_fewer, zero_m}
+use Rattle.show_laws.proofs.openings.FreshAsks.{Fresh, other_answers, other_asks, sabm_asks}
+use Rattle.show_laws.proofs.openings.ModemFollows.{answer_on, ask_on, open_m, uas_fewer, zero_m}
 use Rattle.show_laws.proofs.openings.ResponderCalls.{answer_balanced}
-use Rattle.show_laws.proofs.openings.UaBehindSabm.{ua_behind}
 
 -- ## The line
 
@@ -91,7 +86,7 @@ none_asks d (f ∷ fs) h =
     off true b e = cc
     off false b e = refl
 
-asks_parts : (d : ℕ) (fs : List Frame) → many (ask_on d) fs ≤ many (is_on Sabm d) fs + many (is_on Disc d) fs
+pub asks_parts : (d : ℕ) (fs : List Frame) → many (ask_on d) fs ≤ many (is_on Sabm d) fs + many (is_on Disc d) fs
 asks_parts d [] = omega arith
 asks_parts d (f ∷ fs) = let x = parts (is_kind f.kind Sabm) (is_kind f.kind Disc) (f.dlci == d) in let y = asks_parts d fs in omega (arith, x, y)
   where
@@ -115,7 +110,7 @@ driver_answers_none s n1 d line h =
     omega (arith, sent, came, none)
 
 -- a DISC was sent behind the modem's UA
-disc_after : (s : Setting) (n1 d : ℕ) (line : List LineAct) → IsSteadyLine s n1 line → 1 ≤ many (is_on Disc d) (frames_sent (wire (driver_past line))) → 1 ≤ many (is_on Ua d) (frames_sent (modem_past line))
+pub disc_after : (s : Setting) (n1 d : ℕ) (line : List LineAct) → IsSteadyLine s n1 line → 1 ≤ many (is_on Disc d) (frames_sent (wire (driver_past line))) → 1 ≤ many (is_on Ua d) (frames_sent (modem_past line))
 disc_after s n1 d line h some =
     let got = disc_behind s d (driver_past line) h.lawful.is_initiator h.lawful.driver_lawful h.once some in
     let came = came_few (is_on Ua d) (modem_past line) (wire (driver_past line)) (both_ways line h.lawful.one_line).at_driver in
@@ -322,9 +317,9 @@ zero_open d (station.Got f ∷ past) apart o =
     let z = zero_m d past in
     or_elim (is_on Sabm d f && ((d == 0) || z)) (open_m d past && not (ends z d (station.Got f))) o
     (λ s.
-      let p = and_parts (is_on Sabm d f) ((d == 0) || z) s in
-      let there : z ≡ true = sym (ap (λ (b : Bool). b || z) apart) ∙ p.1 in
-      kept_zero (is_on Sabm 0 f && true) z (ends z 0 (station.Got f)) there (sabm_elsewhere z d f p.0 apart))
+    let p = and_parts (is_on Sabm d f) ((d == 0) || z) s in
+    let there : z ≡ true = sym (ap (λ (b : Bool). b || z) apart) ∙ p.1 in
+    kept_zero (is_on Sabm 0 f && true) z (ends z 0 (station.Got f)) there (sabm_elsewhere z d f p.0 apart))
     (λ s. let p = unended (open_m d past) (ends z d (station.Got f)) s in kept_zero (is_on Sabm 0 f && true) z (ends z 0 (station.Got f)) (zero_open d past apart p.0) (itself_zero z (station.Got f) d apart p.1))
 zero_open d (station.Sent f ∷ past) apart o = let z = zero_m d past in let p = unended (open_m d past) (ends z d (station.Sent f)) o in kept_zero false z (ends z 0 (station.Sent f)) (zero_open d past apart p.0) (itself_zero z (station.Sent f) d apart p.1)
 zero_open d (station.Called c ∷ past) apart o = let z = zero_m d past in let p = unended (open_m d past) (ends z d (station.Called c)) o in kept_zero false z (ends z 0 (station.Called c)) (zero_open d past apart p.0) (itself_zero z (station.Called c) d apart p.1)

@@ -1,7 +1,7 @@
 -- Frames that change nothing of a connection of the initiator, and frames that end it.
-use Rattle.std.specs.Prelude.{◌≡◌, ℕ, ◌==◌, ◌&&◌, ◌||◌, not, Bool, true, false, List, [], ◌∷◌, refl}
+use Rattle.std.specs.Prelude.{◌≡◌, ℕ, ◌==◌, ◌&&◌, ◌||◌, not, Bool, true, false, List, ◌∷◌, refl}
 use Rattle.std.proofs.Common.{ap, sym, ◌∙◌, eqb-true}
-use Rattle.std.proofs.lemmas.Bool.{and_from, and_parts, or_parts}
+use Rattle.std.proofs.lemmas.Bool.{and_parts, or_parts}
 use Rattle.mux_frame.specs.Frames.{Frame}
 use Rattle.mux_frame.specs.declared.frame.Kind.{Kind}
 use Rattle.mux_frame.specs.declared.frame.Kind.TheVariants.{Sabm, Ua, Dm, Disc, Uih}
@@ -11,7 +11,6 @@ use Rattle.mux_station.specs.Messages.{cld, brings_command}
 use Rattle.mux_station.specs.Opening.{ends, ends_itself, is_mode_frame_on, is_open, standings}
 use Rattle.mux_station.specs.Written.{is_kind, is_on}
 use Rattle.modem_show.specs.Asking.{is_mode_command}
-use Rattle.show_laws.proofs.asks.AnswerShapes.{or_elim}
 
 -- whether d is open at an initiator of this past, is asked for, and 0 is open
 abbrev pub open_at : ℕ → List Act → Bool

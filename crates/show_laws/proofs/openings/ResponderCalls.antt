@@ -1,22 +1,22 @@
 -- The answers that a responder's frames and calls bring about.
-use Rattle.std.specs.Prelude.{◌≡◌, ℕ, ◌+◌, ◌*◌, ◌-◌, ◌==◌, ◌≤◌, ◌&&◌, ◌||◌, not, Bool, true, false, List, [], ◌∷◌, drop, length, Option, Some, None, refl, if◌then◌else◌}
+use Rattle.std.specs.Prelude.{◌≡◌, ℕ, ◌+◌, ◌*◌, ◌==◌, ◌≤◌, ◌&&◌, ◌||◌, not, Bool, true, false, List, [], ◌∷◌, drop, Option, Some, None, refl, if◌then◌else◌}
 use Rattle.std.proofs.Common.{ap, arith, sym, ◌∙◌, subst, eqb-true}
-use Rattle.std.proofs.lemmas.Bool.{and_from, and_parts, or_parts, eq-eqb}
+use Rattle.std.proofs.lemmas.Bool.{and_from, and_parts, eq-eqb}
 use Rattle.mux_frame.specs.Frames.{Frame}
 use Rattle.mux_frame.specs.declared.frame.Kind.{Kind}
 use Rattle.mux_frame.specs.declared.frame.Kind.TheVariants.{Sabm, Ua, Dm, Disc, Uih}
 use Rattle.mux_station.specs.declared.role.Role.{Role}
-use Rattle.mux_station.specs.declared.role.Role.TheVariants.{Initiator, Responder}
-use Rattle.mux_station.specs.Written.{is_data_frame, is_kind, is_on, written}
+use Rattle.mux_station.specs.declared.role.Role.TheVariants.{Responder}
+use Rattle.mux_station.specs.Written.{is_data_frame, is_kind, is_on}
 use Rattle.mux_station.specs.Messages.{Message, cld, msc, nsc, test, brings_command, brings_response, command_of, is_command, message_in, message_of, octet_is, response_of}
 use Rattle.mux_station.specs.States.{State, IsShut, IsOpening, IsOpened, IsClosing, IsStopping, is_opened, is_stopping}
-use Rattle.mux_station.specs.Tables.{by_frame, by_message, by_table, is_opening, is_supported, message_frame, msc_after_opening, msc_frame, ready, response_to, ua_or_dm}
+use Rattle.mux_station.specs.Tables.{by_frame, by_message, by_table, is_supported, message_frame, msc_after_opening, msc_frame, ready, response_to, ua_or_dm}
 use Rattle.modem_show.specs.Asking.{answers, both_respond, is_mode_answer, is_mode_command, message_asks, responds}
 use Rattle.show_laws.proofs.asks.AnswerShapes.{is_shaped, message_no_mode, one_response, or_elim, response_octet, shaped_message, supported_by}
 use Rattle.show_laws.proofs.asks.AnswersCalled.{AnyProbe, IsRead, as_it_is, is_read, unread}
 use Rattle.show_laws.proofs.counts.ManyFrames.{few_dropped, few_if, many, none_one, unit}
-use Rattle.show_laws.proofs.counts.BalancedTables.{Balanced}
-use Rattle.show_laws.proofs.openings.ModeAnswers.{OfModes, messaged, modes_balanced, modes_few}
+use Rattle.show_laws.proofs.counts.BalancedTables.{Balanced, is_command_octet}
+use Rattle.show_laws.proofs.openings.ModeAnswers.{OfModes, messaged, modes_balanced}
 use Rattle.show_laws.proofs.openings.ModemFollows.{answer_on, ask_on}
 
 -- ## UA and DM
@@ -206,6 +206,64 @@ cld_answer f g c shape h =
     by_message (Some m) e k =
         or_elim ((is_mode_command f && is_mode_answer g) && (f.dlci == g.dlci)) (both_respond (message_in f) (message_in g)) h
         (λ x.
-          let y = and_parts (is_mode_command f) (is_mode_answer g) (and_parts (is_mode_command f && is_mode_answer g) (f.dlci == g.dlci) x).0 in
-          absurd (let z : true ≡ false = sym y.0 ∙ (message_no_mode f m e).0 in cc))
+        let y = and_parts (is_mode_command f) (is_mode_answer g) (and_parts (is_mode_command f && is_mode_answer g) (f.dlci == g.dlci) x).0 in
+        absurd (let z : true ≡ false = sym y.0 ∙ (message_no_mode f m e).0 in cc))
         (λ x. by_answer m e k (message_in g) refl (sym (ap (λ (o : Option Message). both_respond o (message_in g)) e) ∙ x))
+
+-- ## The response to a CLD, by counts
+
+abbrev pub every : Frame → Bool
+every f = true
+
+at_most_one : (f : Frame) → many is_down (f ∷ []) ≤ 1
+at_most_one f = by_test (is_down f)
+  where
+    by_test : (b : Bool) → unit b + 0 ≤ 1
+    by_test true = omega arith
+    by_test false = omega arith
+
+down_responses : (r : Role) (o : Option Message) → many is_down (response_to r o) ≤ 1
+down_responses r None = omega arith
+down_responses r (Some m) =
+    few_if is_down 1 (is_supported m.octet) (message_frame r (response_of m.octet) m.value ∷ []) (if is_command m && not (m.octet == nsc) then message_frame r (response_of nsc) (m.octet ∷ []) ∷ [] else [])
+    (at_most_one (message_frame r (response_of m.octet) m.value))
+    (few_if is_down 1 (is_command m && not (m.octet == nsc)) (message_frame r (response_of nsc) (m.octet ∷ []) ∷ []) [] (at_most_one (message_frame r (response_of nsc) (m.octet ∷ []))) (omega arith))
+
+down_frames : (r : Role) (s : State) (f : Frame) → many is_down (by_message r s f) ≤ 1
+down_frames r IsOpened f = down_responses r (message_in f)
+down_frames r (IsStopping n) f = few_if is_down 1 (brings_command cld f) (response_to r (message_in f)) [] (down_responses r (message_in f)) (omega arith)
+down_frames r IsShut f = omega arith
+down_frames r (IsOpening n) f = omega arith
+down_frames r (IsClosing n) f = omega arith
+
+data_bare : (f : Frame) → is_data_frame f ≡ true → is_down f ≡ false
+data_bare f h = off (is_kind f.kind Uih) (f.dlci == 0) (octet_is command_of cld (message_of f.info)) h
+  where
+    off : (a z c : Bool) → (a && not z) ≡ true → ((a && z) && c) ≡ false
+    off true true c h = cc
+    off true false c h = refl
+    off false z c h = refl
+
+pub down_balanced : (most : ℕ) → Balanced AnyProbe most Responder is_down every
+down_balanced most = record {
+  frame = λ state f.
+      few_if is_down 1 (is_on Uih 0 f) (by_message Responder (state 0) f) (by_table Responder f.dlci (state 0) (state f.dlci) f.kind) (down_frames Responder (state 0) f)
+      (let x = table_not_down f.dlci (state 0) (state f.dlci) f.kind in omega (arith, x));
+  plain = λ f is few. data_bare f is;
+  sabm = λ d. refl;
+  disc = λ d. refl;
+  command = λ octet value is few. message_not_down Responder octet value (no_response octet is);
+  probe = λ octets e. message_not_down Responder test octets refl;
+  short = λ octets e. tt;
+}
+  where
+    no_response : (octet : ℕ) → is_command_octet octet ≡ true → (command_of octet == cld) ≡ false
+    no_response octet h = by_test (command_of octet == cld) refl
+      where
+        by_test : (b : Bool) → (command_of octet == cld) ≡ b → b ≡ false
+        by_test false e = refl
+        by_test true e =
+            let x = eqb-true (command_of octet) cld e in
+            let y : octet ≡ 0xc1 = omega (arith, x) in
+            let z : is_command_octet 0xc1 ≡ true = subst (λ n. is_command_octet n ≡ true) y h in
+            cc

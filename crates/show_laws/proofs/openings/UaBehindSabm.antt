@@ -1,16 +1,15 @@
 -- A responder sends no UA on a connection before a SABM on it came.
 use Rattle.std.specs.Prelude.{◌≡◌, ℕ, ◌+◌, ◌==◌, ◌≤◌, ◌&&◌, ◌||◌, not, Bool, true, false, List, [], ◌∷◌, ◌++◌, drop, is_none, refl, if◌then◌else◌}
 use Rattle.std.proofs.Common.{ap, arith, sym, ◌∙◌, eqb-true}
-use Rattle.std.proofs.lemmas.Bool.{and_parts}
 use Rattle.mux_frame.specs.Frames.{Frame}
 use Rattle.mux_frame.specs.declared.frame.Kind.{Kind}
 use Rattle.mux_frame.specs.declared.frame.Kind.TheVariants.{Sabm, Ua, Dm, Disc, Uih}
 use Rattle.mux_station.specs.declared.role.Role.TheVariants.{Responder}
 use Rattle.mux_station.specs.Acts.{Act, Called, Got, Sent, Tick, Lost, Given}
 use Rattle.mux_station.specs.Opening.{ends, is_open, opens_now, standings}
-use Rattle.mux_station.specs.Sending.{Sends, StationLawful, called_frames, frames_seeing, owed_frames, refused, station_view}
-use Rattle.mux_station.specs.States.{State, is_opened, state_of}
-use Rattle.mux_station.specs.Tables.{by_frame, by_message, by_table, ua_or_dm, msc_after_opening}
+use Rattle.mux_station.specs.Sending.{Sends, StationLawful, called_frames, owed_frames, refused, station_view}
+use Rattle.mux_station.specs.States.{State, is_opened}
+use Rattle.mux_station.specs.Tables.{by_frame, by_message, by_table, ua_or_dm}
 use Rattle.mux_station.specs.Written.{is_data_frame, is_kind, is_on}
 use Rattle.mux_station.proofs.states.OpenedStates.{opened_is_open}
 use Rattle.modem_show.specs.Asking.{is_mode_command}

@@ -1,12 +1,13 @@
 -- The worked lines are lawful, and nothing is wrong with them.
-use Rattle.std.specs.Prelude.{◌≡◌, ℕ, ◌-◌, List, [], ◌∷◌, ◌++◌, codes, drop, length, refl, take}
-use Rattle.std.proofs.Common.{sym, ap, ◌∙◌}
+use Rattle.std.specs.Prelude.{◌≡◌, ℕ, ◌-◌, ◌==◌, ◌≤◌, Bool, true, false, List, [], ◌∷◌, ◌++◌, codes, drop, length, refl, take, if◌then◌else◌}
+use Rattle.std.proofs.Common.{arith, sym, ap, ◌∙◌, eqb-true}
+use Rattle.std.proofs.lemmas.Bool.Decides.{nat_tests}
 use Rattle.std.proofs.lemmas.List.{take-append-drop}
 use Rattle.mux_frame.specs.declared.frame.Kind.TheVariants.{Sabm, Ua, Uih}
 use Rattle.mux_station.specs.declared.role.Role.TheVariants.{Responder}
 use Rattle.mux_station.specs.Acts as station
 use Rattle.mux_station.specs.Written.{written}
-use Rattle.mux_station.specs.Sending.{Sends, StationLawful}
+use Rattle.mux_station.specs.Sending.{Sends, StationComplete, StationLawful}
 use Rattle.modem_desk.specs.declared.request.Ask.TheVariants.{OpenChannel, Command, Stop}
 use Rattle.modem_desk.specs.declared.request.Answer.TheVariants.{Opened, Closed, Stopped}
 use Rattle.modem_history.specs.Acts as driver
@@ -14,10 +15,10 @@ use Rattle.modem_history.specs.Acts.{Given, wire}
 use Rattle.modem_history.specs.Calls.{replaying}
 use Rattle.modem_history.specs.Rows as row
 use Rattle.modem_history.specs.Rows.{takes, tells, tells_done, zero, one}
-use Rattle.modem_history.specs.TwoEnds.{ComesInOrder, frames_got, frames_sent}
+use Rattle.modem_history.specs.TwoEnds.{AsksOnce, ComesInOrder, frames_got, frames_sent}
 use Rattle.modem_history.proofs.rows.HistoryTests.{good}
 use Rattle.show_laws.specs.Lines.{IsOneLine, LineAct, driver_past, modem_past, responding}
-use Rattle.show_laws.specs.LineRows.{AreRight, IsRight, after, one_command, stopped_early}
+use Rattle.show_laws.specs.LineRows.{AreRight, MeetsAll, after, one_command, stopped_early}
 
 -- ## One line
 
@@ -51,13 +52,22 @@ command_line = next refl refl (next refl refl (next refl refl (next refl refl (n
 
 command_station : StationLawful (responding 31) (modem_past (after [] one_command))
 unfolding StationLawful Sends
-command_station =
-    (record { later = []; is_next = refl },
-    (record { live = refl; is_open = refl; goes = refl; as_written = refl; some = refl; fits = refl; behind = refl; later = []; is_offered = refl },
-    (record { later = []; is_next = refl },
-    (record { later = []; is_next = refl },
-    (record { later = written Responder Uih 0 (row.msc_command 1 0x8d) ∷ []; is_next = refl },
-    (record { later = []; is_next = refl }, tt))))))
+command_station = (
+  record { later = []; is_next = refl },
+  (
+    record { live = refl; is_open = refl; goes = refl; as_written = refl; some = refl; fits = refl; behind = refl; later = []; is_offered = refl },
+    (
+      record { later = []; is_next = refl },
+      (
+        record { later = []; is_next = refl },
+        (
+          record { later = written Responder Uih 0 (row.msc_command 1 0x8d) ∷ []; is_next = refl },
+          (record { later = []; is_next = refl }, tt),
+        ),
+      ),
+    ),
+  ),
+)
 
 -- ## A stop
 
@@ -72,11 +82,60 @@ stop_line = next refl refl (next refl refl (next refl refl (next refl refl (next
 
 stop_station : StationLawful (responding 31) (modem_past (after [] stopped_early))
 unfolding StationLawful Sends
-stop_station =
-    (record { later = []; is_next = refl },
-    (record { later = []; is_next = refl },
-    (record { later = written Responder Uih 0 (row.msc_command 1 0x8d) ∷ []; is_next = refl },
-    (record { later = []; is_next = refl }, tt))))
+stop_station = (
+  record { later = []; is_next = refl },
+  (
+    record { later = []; is_next = refl },
+    (
+      record { later = written Responder Uih 0 (row.msc_command 1 0x8d) ∷ []; is_next = refl },
+      (record { later = []; is_next = refl }, tt),
+    ),
+  ),
+)
+
+-- ## What the laws ask
+
+two_numbers : (m n d : ℕ) → (m == n) ≡ false → m ≡ d → n ≡ d → ⊥
+two_numbers m n d apart first second = let g : (m == n) ≡ true = grind (arith, nat_tests) in let h : false ≡ true = sym apart ∙ g in cc
+
+at_most_one : {A : Type 0} (a b : Bool) (x y : A) → (a ≡ true → b ≡ true → ⊥) → length (if a then x ∷ (if b then y ∷ [] else []) else (if b then y ∷ [] else [])) ≤ 1
+at_most_one true true x y apart = absurd (apart refl refl)
+at_most_one true false x y apart = omega arith
+at_most_one false true x y apart = omega arith
+at_most_one false false x y apart = omega arith
+
+command_once : AsksOnce (wire (driver_past (after [] one_command)))
+command_once d = at_most_one (1 == d) (0 == d) _ _ (λ first second. two_numbers 1 0 d refl (eqb-true 1 d first) (eqb-true 0 d second))
+
+meets_all : MeetsAll one_command
+unfolding command_acts StationComplete
+meets_all = record {
+  plain =
+      record {
+        lawful = record { is_initiator = refl; driver_lawful = (good (replaying 31) command_acts refl refl refl).lawful; modem_lawful = command_station; one_line = command_line };
+        once = command_once;
+        steady = refl;
+        prompt = (refl, (refl, (refl, (refl, (refl, (refl, (refl, tt)))))));
+        live = refl;
+        driver_stops = refl;
+        modem_stops = refl;
+        commands = (λ d e. cc, (λ d e. refl, (λ d e. cc, (λ d e. cc, tt))));
+        offers = (refl, tt);
+        probes = refl;
+      };
+  stays = refl;
+  done =
+      record {
+        driver_live = refl;
+        modem_live = refl;
+        driver_complete = (good (replaying 31) command_acts refl refl refl).complete;
+        modem_complete = refl;
+        at_driver = refl;
+        at_modem = refl;
+      };
+  at_driver = (λ e. cc, (λ e. cc, (λ e. cc, (λ e. refl, (λ e. cc, (λ e. cc, tt))))));
+  at_modem = (λ e. refl, (λ e. cc, (λ e. cc, (λ e. refl, (λ e. cc, (λ e. cc, tt))))));
+}
 
 -- ## Both
 
@@ -90,6 +149,7 @@ are_right = record {
         of_driver = refl;
         of_modem = refl;
       };
+  talks_by_all = meets_all;
   stops =
       record {
         lawful = record { is_initiator = refl; driver_lawful = (good (replaying 31) stop_acts refl refl refl).lawful; modem_lawful = stop_station; one_line = stop_line };

@@ -1,6 +1,6 @@
 -- The tables call for no frame that is longer than what comes.
-use Rattle.std.specs.Prelude.{◌≡◌, ℕ, ◌+◌, ◌*◌, ◌/◌, ◌%◌, ◌==◌, ◌≤◌, ◌<◌, ◌&&◌, ◌||◌, not, nat_le, nat_lt, Bool, true, false, List, [], ◌∷◌, length, take, Option, Some, None, refl, if◌then◌else◌}
-use Rattle.std.proofs.Common.{ap, arith, sym, ◌∙◌}
+use Rattle.std.specs.Prelude.{◌≡◌, ℕ, ◌+◌, ◌*◌, ◌/◌, ◌%◌, ◌==◌, ◌≤◌, ◌&&◌, ◌||◌, not, nat_le, nat_lt, Bool, true, false, List, [], ◌∷◌, length, take, Option, Some, None, refl, if◌then◌else◌}
+use Rattle.std.proofs.Common.{ap, arith}
 use Rattle.std.proofs.lemmas.Bool.{leb-true, ltb-true, lt-ltb}
 use Rattle.std.proofs.lemmas.List.{length-take}
 use Rattle.mux_frame.specs.Frames.{Frame}
@@ -11,7 +11,7 @@ use Rattle.mux_station.specs.declared.role.Role.TheVariants.{Initiator, Responde
 use Rattle.mux_station.specs.Written.{is_on, written}
 use Rattle.mux_station.specs.Messages.{Message, message_in, message_of, if_good, is_msc, is_good_msc, is_command, response_of, msc, nsc, cld, test, brings_command}
 use Rattle.mux_station.specs.States.{State, IsShut, IsOpening, IsOpened, IsClosing, IsStopping, is_opened}
-use Rattle.mux_station.specs.Tables.{by_frame, by_message, by_table, is_opening, is_supported, message_frame, msc_after_opening, msc_frame, ready, response_to, ua_or_dm}
+use Rattle.mux_station.specs.Tables.{by_message, by_table, is_opening, is_supported, message_frame, msc_after_opening, msc_frame, ready, response_to, ua_or_dm}
 use Rattle.show_laws.proofs.counts.ManyFrames.{few_if, many, none_one, unit}
 use Rattle.show_laws.proofs.counts.BalancedTables.{Balanced}
 

@@ -1,11 +1,10 @@
 -- No frame of a lawful line has more information than N1 allows.
-use Rattle.std.specs.Prelude.{◌≡◌, ℕ, ◌+◌, ◌≤◌, ◌&&◌, nat_le, nat_lt, Bool, true, false, List, [], ◌∷◌, ◌++◌, length, refl}
+use Rattle.std.specs.Prelude.{◌≡◌, ℕ, ◌≤◌, Bool, true, false, List, [], ◌∷◌, ◌++◌, length, refl}
 use Rattle.std.specs.List.{list_all}
 use Rattle.std.proofs.Common.{ap, arith, sym, ◌∙◌}
 use Rattle.std.proofs.lemmas.Bool.{and_parts, leb-true}
 use Rattle.std.proofs.lemmas.List.Folds.{list_all-append}
 use Rattle.mux_frame.specs.Frames.{Frame}
-use Rattle.mux_capture.specs.declared.packet.Stamp.{Stamp}
 use Rattle.mux_station.specs.declared.role.Role.TheVariants.{Responder}
 use Rattle.mux_station.specs.Acts as station
 use Rattle.modem_desk.specs.declared.request.Ask.{Ask}
@@ -15,9 +14,9 @@ use Rattle.modem_history.specs.Acts as driver
 use Rattle.modem_history.specs.Acts.{wire}
 use Rattle.modem_history.specs.Calls.{Setting}
 use Rattle.modem_history.specs.Wholes.{taken_requests}
-use Rattle.modem_history.specs.TwoEnds.{frames_got, frames_sent}
+use Rattle.modem_history.specs.TwoEnds.{frames_sent}
 use Rattle.modem_show.specs.declared.rule.Rule.TheVariants.{TooLong}
-use Rattle.show_laws.specs.Lines.{AtDriver, AtModem, IsLawfulLine, LineAct, captured, driver_past, modem_past, responding}
+use Rattle.show_laws.specs.Lines.{AtDriver, AtModem, IsLawfulLine, LineAct, driver_past, modem_past, responding}
 use Rattle.show_laws.specs.Laws.{FitsN1, TakesShortProbes, is_short_ask}
 use Rattle.show_laws.proofs.counts.ManyFrames.{many, unit}
 use Rattle.show_laws.proofs.counts.DriverCounts.{AsksProbe, TakesProbes, driver_sends}

@@ -1,13 +1,11 @@
 -- No data of a lawful line is a control message.
-use Rattle.std.specs.Prelude.{◌≡◌, ℕ, ◌&&◌, not, nat_eq, IsTrue, Bool, true, false, List, [], ◌∷◌, ◌++◌, length, refl}
-use Rattle.std.specs.List.{concat, starts_with}
+use Rattle.std.specs.Prelude.{◌≡◌, ℕ, ◌&&◌, not, Bool, true, false, List, ◌∷◌, ◌++◌, refl}
+use Rattle.std.specs.List.{concat}
 use Rattle.std.proofs.Common.{ap, sym, ◌∙◌, subst}
 use Rattle.mux_frame.specs.Frames.{Frame}
-use Rattle.mux_capture.specs.declared.packet.Stamp.{Stamp}
-use Rattle.mux_station.specs.declared.role.Role.TheVariants.{Responder}
 use Rattle.mux_station.specs.Acts as station
 use Rattle.mux_station.specs.Messages.{message_of}
-use Rattle.mux_station.specs.Offering.{data_out, offered}
+use Rattle.mux_station.specs.Offering.{data_out}
 use Rattle.mux_station.specs.Sending.{Sends, StationLawful}
 use Rattle.mux_station.specs.Written.{is_data_frame}
 use Rattle.modem_history.specs.Acts as driver
@@ -17,7 +15,7 @@ use Rattle.modem_history.specs.Lawful.{Lawful, Once, When}
 use Rattle.modem_history.specs.TwoEnds.{TakesCommandLines}
 use Rattle.modem_show.specs.declared.rule.Rule.TheVariants.{Astray}
 use Rattle.modem_show.specs.Judging.{is_astray, is_message, is_text}
-use Rattle.show_laws.specs.Lines.{AtDriver, AtModem, IsLawfulLine, LineAct, captured, driver_past, modem_past, responding}
+use Rattle.show_laws.specs.Lines.{AtDriver, AtModem, IsLawfulLine, LineAct, driver_past, modem_past, responding}
 use Rattle.show_laws.specs.Laws.{CarriesText, OffersText}
 use Rattle.show_laws.proofs.lines.EveryFrame.{every, lawful_before}
 use Rattle.show_laws.proofs.texts.TextsSent.{accepted_text, front_text, offered_text, text_parts}

@@ -1,17 +1,15 @@
 -- What leaves each end as data is text, where what is given to it is.
-use Rattle.std.specs.Prelude.{◌≡◌, ℕ, ◌==◌, ◌&&◌, ◌||◌, not, nat_eq, nat_lt, IsTrue, Bool, true, false, List, [], ◌∷◌, ◌++◌, map, length, take, drop, Option, Some, None, refl, if◌then◌else◌}
+use Rattle.std.specs.Prelude.{◌≡◌, ℕ, ◌==◌, ◌&&◌, ◌||◌, nat_eq, nat_lt, Bool, true, false, List, [], ◌∷◌, ◌++◌, length, drop, Some, None, refl, if◌then◌else◌}
 use Rattle.std.specs.List.{concat, list_all, starts_with}
-use Rattle.std.proofs.Common.{ap, sym, ◌∙◌, subst}
+use Rattle.std.proofs.Common.{ap, sym, ◌∙◌}
 use Rattle.std.proofs.lemmas.Bool.{and_from, and_parts}
 use Rattle.std.proofs.lemmas.Bool.Decides.{Decides-eqb}
 use Rattle.std.proofs.lemmas.List.Folds.{list_all-append}
 use Rattle.std.proofs.lemmas.Slice.Eq.{starts_is}
-use Rattle.mux_frame.specs.Frames.{Frame}
 use Rattle.mux_station.specs.declared.role.Role.{Role}
 use Rattle.mux_station.specs.Acts as station
 use Rattle.mux_station.specs.Offering.{joined_octets, octets_offered, offered}
 use Rattle.mux_station.specs.Opening.{belongs, is_open, opens_now, since, since_after}
-use Rattle.at_text.specs.declared.error.TextError.{TextError}
 use Rattle.at_text.specs.declared.error.TextError.TheVariants.{NoAt, BadOctet, TooLong}
 use Rattle.at_text.specs.Commands.{has_at, is_printable, refusal_of}
 use Rattle.at_text.specs.Lines.{is_line_end}

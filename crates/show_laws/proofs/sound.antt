@@ -1,0 +1,2 @@
+-- Nothing is wrong with a frame that breaks no rule.
+pub mod AllFrames

@@ -1,0 +1,2 @@
+-- Nothing is stopped where neither end stops anything.
+pub mod NoneStopped
