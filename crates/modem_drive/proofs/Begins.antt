@@ -8,6 +8,7 @@ use Rattle.std.proofs.lemmas.List.Elements.{All-nil}
 use Rattle.at_text.specs.declared.unsolicited.UrcKind.{UrcKind}
 use Rattle.at_text.specs.Rules.{Rules, dialect_of}
 use Rattle.std.proofs.Common.{sym, subst, arith, ◌∙◌, ap, append-nil}
+use Rattle.mux_frame.specs.declared.dlci.Dlci.{Dlci}
 use Rattle.modem_desk.specs.Ends.{AreSubscribed, CallerView, DriverView, IsWhole, ListenerView, Opened, place_of, subscription_of}
 use Rattle.modem_desk.specs.declared.request.Outcome.{Outcome}
 use Rattle.modem_desk.specs.declared.request.Request.{Request}
@@ -16,16 +17,17 @@ use Rattle.modem_driver.specs.SessionStates.{FitsAll, SessionState, beginning_by
 use Rattle.modem_drive.specs.declared.users.UnderWay.{UnderWay}
 use Rattle.modem_drive.specs.declared.users.Users.{Users}
 use Rattle.modem_drive.specs.Asking.{AsksOn, HasAsked, NamesRead, PlanView, StopsOn, submitted_on}
-use Rattle.modem_drive.specs.Channels.{KeepsOrder, told_at}
+use Rattle.modem_drive.specs.Channels.{KeepsOrder, told_at, wanted_states}
 use Rattle.modem_drive.specs.declared.channels.ChannelState.{ChannelState}
 use Rattle.modem_drive.specs.declared.channels.ChannelState.TheVariants as state
-use Rattle.modem_drive.specs.Running.{Begins, DrivesInput, Drove, HasEntered, IsNewDesk, kinds_by, plan_begun}
+use Rattle.modem_drive.specs.Running.{Begins, DrivesInput, Drove, DroveFrom, HasEntered, IsNewDesk, kinds_by, plan_begun}
 use Rattle.modem_drive.specs.Ending.{HasDriven, HasEndedBy}
 use Rattle.modem_drive.specs.declared.fault.DriveFault.{DriveFault}
 use Rattle.modem_drive.specs.declared.running.Driven.{Driven}
 use Rattle.modem_drive.proofs.Asks.{all_asked, asks_same, asks_then, has_asked, names_read, names_stopped}
 use Rattle.modem_desk.specs.declared.settling.Settled.{Settled}
 use Rattle.modem_drive.proofs.Aparts.{apart_none}
+use Rattle.modem_drive.proofs.WantedStates.{long_states, none_told_more}
 use Rattle.modem_drive.specs.Showing.{AreApart, HasShown, IsAsked, IsLine, IsRightPiece, count_asked, count_on}
 
 pub begins : {X : Type 0} (look : X → LineView) (rules : Rules) (n1 : ℕ) (line : X) (d : DriverView) (s : SessionState X) (users : Users)
@@ -44,10 +46,10 @@ begins look rules n1 line d s users fits same new whole subscribed shown none_as
 }
 
 -- the same, and it was driven to its end
-pub drove : {X : Type 0} (look : X → LineView) (rules : Rules) (text : List ℕ) (n1 : ℕ) (first line last : X) (s : SessionState X) (users : Users) (input before after silent said : Option (List ℕ)) (p : PlanView) (end : Option DriveFault) (was_bad : Bool) (left : Settled)
-    → HasEntered n1 text (look first) (look line) → Begins look rules n1 line s users → HasDriven look s users (plan_begun input) p before after silent said end left last → was_bad ≡ p.was_bad
-    → Drove look rules text n1 first last input before after silent said end was_bad left
-drove {X} look rules text n1 first line last s users input before after silent said p end was_bad left entered b driven bad =
+pub drove_from : {X : Type 0} (look : X → LineView) (rules : Rules) (n1 : ℕ) (line last : X) (s : SessionState X) (users : Users) (input before after silent said : Option (List ℕ)) (p : PlanView) (end : Option DriveFault) (was_bad : Bool) (left : Settled)
+    → Begins look rules n1 line s users → HasDriven look s users (plan_begun input) p before after silent said end left last → was_bad ≡ p.was_bad
+    → DroveFrom look rules n1 line last input before after silent said end was_bad left
+drove_from {X} look rules n1 line last s users input before after silent said p end was_bad left b driven bad =
     let asks : AsksOn (plan_begun input) p users.caller.submitted driven.ends.ended.caller.submitted silent said =
     asks_then _ p p users.caller.submitted driven.mid.caller.submitted driven.ends.ended.caller.submitted silent said said driven.asks
     (asks_same p p driven.mid.caller.submitted driven.ends.ended.caller.submitted said refl (λ d. ap (submitted_on d) driven.ends.submits_none)) in
@@ -56,19 +58,8 @@ drove {X} look rules text n1 first line last s users input before after silent s
     let order : KeepsOrder driven.ends.ended.channels driven.ends.ended.caller = driven.ends.goes.orders before shown (driven.goes.orders before (b.shown before) b.order) in
     record {
       session = s;
-      entered = subst (λ (x : X). HasEntered n1 text (look first) (look x)) (sym b.at_line) entered;
       users = users;
-      begins = record {
-        new = b.new;
-        at_line = refl;
-        fits = subst (λ (x : X). FitsAll (beginning_by (dialect_of rules) n1 (look x) s.driver) look s []) (sym b.at_line) b.fits;
-        whole = b.whole;
-        subscribed = b.subscribed;
-        shown = b.shown;
-        none_asked = b.none_asked;
-        order = b.order;
-        dialect = b.dialect;
-      };
+      begins = b;
       through = p;
       driven = driven;
       read = asked;
@@ -81,25 +72,31 @@ drove {X} look rules text n1 first line last s users input before after silent s
     }
 
 -- what it named
-pub named_by : {X : Type 0} (look : X → LineView) (rules : Rules) (text : List ℕ) (n1 : ℕ) (line last : X) (input before after silent said : Option (List ℕ)) (end : Option DriveFault) (was_bad : Bool) (left : Settled)
-    → Drove look rules text n1 line last input before after silent said end was_bad left → NamesRead input silent said
-named_by look rules text n1 line last input before after silent said end was_bad left h =
+named_by : {X : Type 0} (look : X → LineView) (rules : Rules) (n1 : ℕ) (first last : X) (input before after silent said : Option (List ℕ)) (end : Option DriveFault) (was_bad : Bool) (left : Settled)
+    → DroveFrom look rules n1 first last input before after silent said end was_bad left → NamesRead input silent said
+named_by look rules n1 first last input before after silent said end was_bad left h =
     names_read input h.through h.driven.ends.ended.caller.submitted silent said h.read
 
 -- the same of what a drive that has begun came to
-pub drove_if : {X : Type 0} (look : X → LineView) (rules : Rules) (text : List ℕ) (n1 : ℕ) (first line : X) (s : SessionState X) (users : Users) (input before after silent said : Option (List ℕ)) (r : Result (X × Driven) DriveFault)
-    → HasEntered n1 text (look first) (look line) → Begins look rules n1 line s users → IfOk r (λ r. DrivesInput look s users input before after silent said r.1.fault r.1.was_bad r.1.left r.0)
-    → IfOk r (λ r. Drove look rules text n1 first r.0 input before after silent said r.1.fault r.1.was_bad r.1.left)
-drove_if look rules text n1 first line s users input before after silent said (Ok x) entered b h =
-    drove look rules text n1 first line x.0 s users input before after silent said h.through x.1.fault x.1.was_bad x.1.left entered b h.driven h.bad_is
-drove_if look rules text n1 first line s users input before after silent said (Err why) entered b h = tt
+pub from_if : {X : Type 0} (look : X → LineView) (rules : Rules) (n1 : ℕ) (line : X) (s : SessionState X) (users : Users) (input before after silent said : Option (List ℕ)) (r : Result (X × Driven) DriveFault)
+    → Begins look rules n1 line s users → IfOk r (λ r. DrivesInput look s users input before after silent said r.1.fault r.1.was_bad r.1.left r.0)
+    → IfOk r (λ r. DroveFrom look rules n1 line r.0 input before after silent said r.1.fault r.1.was_bad r.1.left)
+from_if look rules n1 line s users input before after silent said (Ok x) b h =
+    drove_from look rules n1 line x.0 s users input before after silent said h.through x.1.fault x.1.was_bad x.1.left b h.driven h.bad_is
+from_if look rules n1 line s users input before after silent said (Err why) b h = tt
 
-pub named_if : {X : Type 0} (look : X → LineView) (rules : Rules) (text : List ℕ) (n1 : ℕ) (first : X) (users : Users) (input before after silent said : Option (List ℕ)) (r : Result (X × Driven) DriveFault)
-    → IfOk r (λ r. Drove look rules text n1 first r.0 input before after silent said r.1.fault r.1.was_bad r.1.left) → users.caller.submitted ≡ [] → OnErr r (StopsOn (plan_begun input) users.caller.submitted silent said)
+pub drove_if : {X : Type 0} (look : X → LineView) (rules : Rules) (text : List ℕ) (n1 : ℕ) (first line : X) (input before after silent said : Option (List ℕ)) (r : Result (X × Driven) DriveFault)
+    → HasEntered n1 text (look first) (look line) → IfOk r (λ r. DroveFrom look rules n1 line r.0 input before after silent said r.1.fault r.1.was_bad r.1.left)
+    → IfOk r (λ r. Drove look rules text n1 first r.0 input before after silent said r.1.fault r.1.was_bad r.1.left)
+drove_if look rules text n1 first line input before after silent said (Ok x) entered h = record { first = line; entered = entered; from = h }
+drove_if look rules text n1 first line input before after silent said (Err why) entered h = tt
+
+pub named_if : {X : Type 0} (look : X → LineView) (rules : Rules) (n1 : ℕ) (first : X) (users : Users) (input before after silent said : Option (List ℕ)) (r : Result (X × Driven) DriveFault)
+    → IfOk r (λ r. DroveFrom look rules n1 first r.0 input before after silent said r.1.fault r.1.was_bad r.1.left) → users.caller.submitted ≡ [] → OnErr r (StopsOn (plan_begun input) users.caller.submitted silent said)
     → NamesRead input silent said
-named_if look rules text n1 first users input before after silent said (Ok x) h none stops =
-    named_by look rules text n1 first x.0 input before after silent said x.1.fault x.1.was_bad x.1.left h
-named_if look rules text n1 first users input before after silent said (Err why) h none stops =
+named_if look rules n1 first users input before after silent said (Ok x) h none stops =
+    named_by look rules n1 first x.0 input before after silent said x.1.fault x.1.was_bad x.1.left h
+named_if look rules n1 first users input before after silent said (Err why) h none stops =
     names_stopped input (plan_begun input) users.caller.submitted silent said refl none stops
 
 -- ## The desk that is opened
@@ -135,7 +132,8 @@ pub record AreUsers (kinds : List UrcKind) (d : DriverView) (cs : List CallerVie
   pub listeners : u.listeners.items ≡ ls
   pub none : u.under_way.items ≡ []
   pub asked : u.asked ≡ None
-  pub channels : u.channels ≡ replicate 62 state.Untold
+  pub wanted : List Dlci
+  pub channels : u.channels ≡ wanted_states wanted (replicate 62 state.Untold)
   pub counts : u.counts ≡ replicate 62 0
 
 pub whole_users : (kinds : List UrcKind) (d : DriverView) (cs : List CallerView) (ls : List ListenerView) (u : Users) → AreUsers kinds d cs ls u → IsWhole d.desk (map place_of (u.caller ∷ []))
@@ -187,8 +185,8 @@ new_order kinds d cs ls u h =
     let none = λ (i : ℕ) (r : Request) (at : get_elem? u.caller.submitted i ≡ some r). some-ne-none r (sym (ap (λ (x : List Request). get_elem? x i) (sym submitted) ∙ at)) in
     record {
       one_each = ap (length {A = ℕ}) fresh.3.4 ∙ sym (ap (length {A = Request}) submitted);
-      long = ap (length {A = ChannelState}) h.channels;
-      told = λ e is. absurd (false≢true (sym (none_told 62 e) ∙ ap (λ (states : List ChannelState). told_at states e) (sym h.channels) ∙ is));
+      long = ap (length {A = ChannelState}) h.channels ∙ long_states h.wanted (replicate 62 state.Untold);
+      told = λ e is. absurd (false≢true (sym (none_told_more h.wanted (replicate 62 state.Untold) refl (none_told 62) e) ∙ ap (λ (states : List ChannelState). told_at states e) (sym h.channels) ∙ is));
       opens_first = λ i r at. absurd (none i r at);
       stops_last = λ i r at. absurd (none i r at);
     }

@@ -23,7 +23,7 @@ use Rattle.modem_driver.proofs.law_proofs.GrownHistories.{fits_in, lived_grows}
 use Rattle.modem_driver.proofs.law_proofs.OneSessions.{one_session}
 use Rattle.modem_drive.specs.DeskRun.{DrivesSettle, HeardAll, RunsDesk}
 use Rattle.modem_drive.specs.Ending.{is_empty_list}
-use Rattle.modem_drive.specs.Running.{Drove, kinds_by}
+use Rattle.modem_drive.specs.Running.{DroveFrom, kinds_by}
 use Rattle.modem_drive.specs.Showing.{KeepPlaces}
 use Rattle.modem_drive.specs.declared.fault.DriveFault.{DriveFault}
 use Rattle.modem_drive.proofs.Ends.{still_subscribed, still_whole}
@@ -55,15 +55,15 @@ parted : (first : SessionView) (calls : List SessionCall) → seen_by_calls firs
 parted first [] = refl
 parted first (c ∷ calls) = refl
 
-module _ {X : Type 0} (look : X → LineView) (rules : Rules) (text : List ℕ) (n1 : ℕ) (line last : X) (input before after silent said : Option (List ℕ)) (end : Option DriveFault) (was_bad : Bool) (left : Settled)
-    (d : Drove look rules text n1 line last input before after silent said end was_bad left) where
-  one_of : HasOne look (beginning_by (dialect_of rules) n1 (look d.session.line) d.session.driver) d.session d.driven.stopped d.driven.drives.calls.calls
+module _ {X : Type 0} (look : X → LineView) (rules : Rules) (n1 : ℕ) (first last : X) (input before after silent said : Option (List ℕ)) (end : Option DriveFault) (was_bad : Bool) (left : Settled)
+    (d : DroveFrom look rules n1 first last input before after silent said end was_bad left) where
+  one_of : HasOne look (beginning_by (dialect_of rules) n1 (look first) d.session.driver) d.session d.driven.stopped d.driven.drives.calls.calls
   unfolding OneSession
-  one_of = one_session look (beginning_by (dialect_of rules) n1 (look d.session.line) d.session.driver) d.session d.driven.stopped d.driven.drives.calls.calls d.begins.fits d.driven.drives.calls.called
+  one_of = one_session look (beginning_by (dialect_of rules) n1 (look first) d.session.driver) d.session d.driven.stopped d.driven.drives.calls.calls d.begins.fits d.driven.drives.calls.called
 
   abbrev spell_of : Spell
   spell_of = record {
-    start = beginning_by (dialect_of rules) n1 (look d.session.line) d.session.driver;
+    start = beginning_by (dialect_of rules) n1 (look first) d.session.driver;
     session = session_view look d.driven.stopped;
     earlier = earlier_of (session_view look d.session) d.driven.drives.calls.calls;
     past = one_of.past;
@@ -138,7 +138,7 @@ module _ {X : Type 0} (look : X → LineView) (rules : Rules) (text : List ℕ) 
       ap (λ (ys : List Urc). ys ++ of_kind k d.driven.ends.offline.unannounced) took ∙ (ap (λ (us : List Urc). l.heard ++ of_kind k us) d.driven.ends.placed.lines ∙ append-nil l.heard) in
       sym (ap (map heard_as) whole) ∙ e
 
-  runs_desk : RunsDesk look rules text n1 line last input before after silent said end was_bad left d
+  runs_desk : RunsDesk look rules n1 first last input before after silent said end was_bad left d
   unfolding IsDeskHeadline
   runs_desk = record {
     spell = spell_of;
@@ -159,4 +159,4 @@ module _ {X : Type 0} (look : X → LineView) (rules : Rules) (text : List ℕ) 
 
 pub drives_settle : {X : Type 0} (look : X → LineView) → DrivesSettle look
 unfolding DrivesSettle
-drives_settle look rules text n1 line last input before after silent said end was_bad left d = runs_desk look rules text n1 line last input before after silent said end was_bad left d
+drives_settle look rules n1 first last input before after silent said end was_bad left d = runs_desk look rules n1 first last input before after silent said end was_bad left d

@@ -10,6 +10,7 @@ pub mod QueueTexts
 pub mod Lines
 pub mod Besides
 pub mod NextTurns
+mod WantedStates
 pub mod Drives
 pub mod Ends
 pub mod Begins

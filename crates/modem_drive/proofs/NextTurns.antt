@@ -14,6 +14,7 @@ use Rattle.modem_drive.specs.declared.users.Users.{Users}
 
 told_if : (s : ChannelState) → not (is_unopened s) ≡ true → is_told s ≡ true
 told_if state.Untold e = absurd (true≢false (sym e))
+told_if state.Wanted e = absurd (true≢false (sym e))
 told_if state.Shut e = absurd (true≢false (sym e))
 told_if state.Refused e = refl
 told_if state.Open e = refl

@@ -135,6 +135,7 @@ told_set states d e s within h =
 
 shut_told : (s : ChannelState) → is_told (shut_of s) ≡ is_told s
 shut_told state.Untold = refl
+shut_told state.Wanted = refl
 shut_told state.Shut = refl
 shut_told state.Refused = refl
 shut_told state.Open = refl
@@ -156,6 +157,7 @@ told_closed a states d e within h = told_before states d e (closed_by a (state_a
 
 submitted_told : (s : ChannelState) → is_told (submitted_by s) ≡ is_told s
 submitted_told state.Untold = refl
+submitted_told state.Wanted = refl
 submitted_told state.Shut = refl
 submitted_told state.Refused = refl
 submitted_told state.Open = refl

@@ -1,5 +1,5 @@
 -- What is known of connections by what a drive was told of them, and when a command may be submitted.
-use Rattle.std.specs.Prelude.{◌≡◌, ◌<◌, ℕ, Bool, true, false, List, length, slice_index_or, if◌then◌else◌}
+use Rattle.std.specs.Prelude.{◌≡◌, ◌<◌, ℕ, Bool, true, false, List, [], ◌∷◌, length, set, slice_index_or, if◌then◌else◌}
 use mathlib.Core.Option.{some}
 use lib.ListN.{get_elem?}
 use Rattle.mux_frame.specs.declared.dlci.Dlci.{Dlci}
@@ -20,6 +20,7 @@ state_at states d = slice_index_or states d state.Untold
 -- an opening of it was told something
 abbrev pub is_told : ChannelState → Bool
 is_told state.Untold = false
+is_told state.Wanted = false
 is_told state.Shut = true
 is_told state.Refused = true
 is_told state.Open = true
@@ -27,12 +28,23 @@ is_told state.Open = true
 abbrev pub told_at : List ChannelState → ℕ → Bool
 told_at states d = is_told (state_at states d)
 
+-- it is to be opened though no command waits for it
+abbrev pub is_wanted : ChannelState → Bool
+is_wanted state.Wanted = true
+is_wanted _ = false
+
+-- these connections are wanted, and the others as they were
+abbrev pub wanted_states : List Dlci → List ChannelState → List ChannelState
+wanted_states [] states = states
+wanted_states (d ∷ more) states = wanted_states more (set states d.number state.Wanted)
+
 -- it isn't open any more
 abbrev pub shut_of : ChannelState → ChannelState
 shut_of state.Open = state.Shut
 shut_of state.Shut = state.Shut
 shut_of state.Refused = state.Refused
 shut_of state.Untold = state.Untold
+shut_of state.Wanted = state.Wanted
 
 -- an opening that was told this has opened the connection, or it was open before
 abbrev pub opens : Answer → Bool
@@ -53,6 +65,7 @@ opened_by a = if opens a then state.Open else state.Refused
 -- a command on it was submitted: that its opening was refused counts for one command
 abbrev pub submitted_by : ChannelState → ChannelState
 submitted_by state.Untold = state.Untold
+submitted_by state.Wanted = state.Wanted
 submitted_by state.Shut = state.Shut
 submitted_by state.Refused = state.Shut
 submitted_by state.Open = state.Open

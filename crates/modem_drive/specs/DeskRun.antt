@@ -10,7 +10,7 @@ use Rattle.modem_history.specs.Sessions.{LineView, heard_as, heards}
 use Rattle.modem_driver.specs.DeskHeadline.{DeskHeadline, DeskRun, IsDeskSettled, Spell}
 use Rattle.modem_driver.specs.OneSession.{seen_by_calls}
 use Rattle.modem_driver.specs.SessionStates.{beginning_by, session_view}
-use Rattle.modem_drive.specs.Running.{Drove}
+use Rattle.modem_drive.specs.Running.{DroveFrom}
 use Rattle.modem_drive.specs.Showing.{HasShown}
 use Rattle.modem_drive.specs.declared.fault.DriveFault.{DriveFault}
 
@@ -22,11 +22,11 @@ HeardAll listeners past =
 -- The desk's run of a drive: its only session began with the drive's codes and N1 on its line, and was seen so between the
 -- drive's polls and ticks; its desk was settled with the drive's callers and listeners, and with what the drive was given. All that
 -- its listeners took was printed, and they took every line that was heard.
-pub record RunsDesk {X : Type 0} (look : X → LineView) (rules : Rules) (text : List ℕ) (n1 : ℕ) (line last : X)
+pub record RunsDesk {X : Type 0} (look : X → LineView) (rules : Rules) (n1 : ℕ) (first last : X)
     (input before after silent said : Option (List ℕ)) (end : Option DriveFault) (was_bad : Bool) (left : Settled)
-    (d : Drove look rules text n1 line last input before after silent said end was_bad left) : Type 0 where
+    (d : DroveFrom look rules n1 first last input before after silent said end was_bad left) : Type 0 where
   pub spell : Spell
-  pub start_is : spell.start ≡ beginning_by (dialect_of rules) n1 (look d.session.line) d.session.driver
+  pub start_is : spell.start ≡ beginning_by (dialect_of rules) n1 (look first) d.session.driver
   pub seen_are : spell.session ∷ spell.earlier
       ≡ seen_by_calls (session_view look d.session) d.driven.drives.calls.calls
   pub session_is : spell.session ≡ session_view look d.driven.stopped
@@ -48,7 +48,7 @@ pub record RunsDesk {X : Type 0} (look : X → LineView) (rules : Rules) (text :
 -- the law: each drive is a settled run of its desk, and has the headline
 unfoldable pub DrivesSettle : {X : Type 0} → (X → LineView) → Type 0
 DrivesSettle {X} look =
-    (rules : Rules) (text : List ℕ) (n1 : ℕ) (line last : X) (input before after silent said : Option (List ℕ))
+    (rules : Rules) (n1 : ℕ) (first last : X) (input before after silent said : Option (List ℕ))
     (end : Option DriveFault) (was_bad : Bool) (left : Settled)
-    (d : Drove look rules text n1 line last input before after silent said end was_bad left)
-    → RunsDesk look rules text n1 line last input before after silent said end was_bad left d
+    (d : DroveFrom look rules n1 first last input before after silent said end was_bad left)
+    → RunsDesk look rules n1 first last input before after silent said end was_bad left d

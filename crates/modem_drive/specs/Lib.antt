@@ -11,6 +11,7 @@ pub mod Turns
 pub mod Driving
 pub mod Ending
 pub mod Running
+pub mod DataDrive
 pub mod CapturedLine
 pub mod OnDevice
 pub mod DeskRun

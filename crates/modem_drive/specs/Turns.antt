@@ -1,7 +1,7 @@
 -- What connections want whose commands wait, and whose turn it is.
-use Rattle.std.specs.Prelude.{◌≡◌, ◌⊎◌, ℕ, ◌+◌, ◌<◌, ◌≤◌, ◌==◌, ◌&&◌, not, Bool, true, false, List, is_some, length}
+use Rattle.std.specs.Prelude.{◌≡◌, ◌⊎◌, ℕ, ◌+◌, ◌<◌, ◌≤◌, ◌==◌, ◌&&◌, ◌||◌, not, Bool, true, false, List, is_some, length}
 use Rattle.modem_drive.specs.Asking.{PlanView, waits_at}
-use Rattle.modem_drive.specs.Channels.{state_at}
+use Rattle.modem_drive.specs.Channels.{is_wanted, state_at}
 use Rattle.modem_drive.specs.Showing.{is_busy}
 use Rattle.modem_drive.specs.declared.channels.ChannelState.{ChannelState}
 use Rattle.modem_drive.specs.declared.channels.ChannelState.TheVariants as state
@@ -9,9 +9,10 @@ use Rattle.modem_drive.specs.declared.turns.Want.{Want}
 use Rattle.modem_drive.specs.declared.turns.Want.TheVariants as want
 use Rattle.modem_drive.specs.declared.users.Users.{Users}
 
--- it is to be opened for its next command
+-- it isn't open, and is to be opened for its next command
 abbrev pub is_unopened : ChannelState → Bool
 is_unopened state.Untold = true
+is_unopened state.Wanted = true
 is_unopened state.Shut = true
 is_unopened state.Refused = false
 is_unopened state.Open = false
@@ -19,7 +20,8 @@ is_unopened state.Open = false
 -- What connection d wants by itself, where a command of it waits: to be opened; or, once it is open or an opening was refused, that the
 -- command is submitted, but not while another of it is under way.
 abbrev pub wants : Want → List (List (List ℕ)) → Users → ℕ → Bool
-wants want.Opening waiting u d = not (length (waits_at waiting d) == 0) && is_unopened (state_at u.channels d)
+wants want.Opening waiting u d =
+    is_wanted (state_at u.channels d) || (not (length (waits_at waiting d) == 0) && is_unopened (state_at u.channels d))
 wants want.Submission waiting u d =
     not (length (waits_at waiting d) == 0) && (not (is_unopened (state_at u.channels d)) && not (is_busy d u.under_way.items))
 

@@ -1,6 +1,6 @@
 //! Which connections are open, and since when their commands wait.
 ghost use Rattle.std.specs.Prelude.{◌≡◌, ◌<◌, replicate, set};
-ghost use Rattle.modem_drive.specs.Channels.{closed_by, opened_by, shut_of, state_at, submitted_by};
+ghost use Rattle.modem_drive.specs.Channels.{closed_by, opened_by, shut_of, state_at, submitted_by, wanted_states};
 ghost use Rattle.modem_drive.specs.declared.channels.ChannelState.TheVariants as state;
 
 use modem_desk::Answer;
@@ -14,6 +14,8 @@ use std::time::{Duration, Instant};
 pub enum ChannelState {
     /// No opening of it was told anything yet.
     Untold,
+    /// The same, and it is to be opened though no command waits for it.
+    Wanted,
     /// It isn't open.
     Shut,
     /// It isn't open, and an opening for its next command was refused.
@@ -89,8 +91,8 @@ impl Model for Channels {
 }
 
 impl Channels {
-    /// Connections of which none is open.
-    pub fn new(quiet_for: Duration) -> Channels
+    /// Connections of which none is open, and none wanted.
+    fn new_untold(quiet_for: Duration) -> Channels
         ensures { result ≡ replicate 62 state.Untold }
     {
         let none = Waiting {
@@ -102,6 +104,20 @@ impl Channels {
             waiting: [none; Dlci::COUNT],
             quiet_for,
         }
+    }
+
+    /// Connections of which none is open. These are wanted.
+    #[tactic(auto, using(crate::proofs::WantedStates::wants_next, crate::proofs::WantedStates::wants_all))]
+    pub fn new(quiet_for: Duration, wanted: &[Dlci]) -> Channels
+        ensures { result ≡ wanted_states wanted.now (replicate 62 state.Untold) }
+    {
+        let mut channels = Channels::new_untold(quiet_for);
+        let mut place = 0;
+        while place < wanted.len() {
+            channels.set(wanted[place], ChannelState::Wanted);
+            place += 1;
+        }
+        channels
     }
 
     /// What is known of a connection.

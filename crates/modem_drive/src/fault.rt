@@ -69,6 +69,8 @@ pub enum DriveFault {
     NoCapture(ErrorKind),
     /// The capture can't be written. All else was done.
     Capture,
+    /// More than 8 connections are to carry data, one of them is 0, or one is named twice.
+    Data,
     /// It didn't come to its end.
     GaveUp(GiveUp),
 }
@@ -109,6 +111,9 @@ impl DriveFault {
             }
             DriveFault::NoCapture(_) => "fault: the capture can't be made",
             DriveFault::Capture => "fault: capture",
+            DriveFault::Data => {
+                "fault: at most 8 connections carry data, each named once, and not 0"
+            }
             DriveFault::GaveUp(why) => why.words(),
         }
     }

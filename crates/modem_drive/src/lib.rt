@@ -7,6 +7,7 @@
 //! # Layout
 //!
 //! - `on_device`, `device`, `settings`, `patience`: from a device's path to its status; its threads.
+//! - `data_drive`: one with files beside connections that carry data.
 //! - `running`, `driving`, `ending`, `fault`: a drive over any line. `users`, `plan`, `queues`, `turns`, `channels`,
 //!   `input`: what it asks.
 //! - `showing`, `pieces`, `saying`, `results`: what it prints. `captured_line`: what it captures.
@@ -15,6 +16,7 @@
 
 mod captured_line;
 mod channels;
+mod data_drive;
 mod device;
 mod driving;
 mod ending;
@@ -34,6 +36,7 @@ mod showing;
 mod turns;
 mod users;
 
+pub use data_drive::drive_data_over;
 pub use fault::{DriveFault, GiveUp};
 pub use on_device::{drive_run, drive_threaded};
 pub use running::{Driven, drive_over};

@@ -8,7 +8,7 @@ ghost use Rattle.modem_drive.specs.Asking.{NamesRead, StopsOn};
 ghost use Rattle.modem_drive.specs.Channels.{KeepsOrder};
 ghost use Rattle.modem_drive.specs.Ending.{HasDriven};
 ghost use Rattle.modem_drive.specs.Entry.{entry_for, given_text};
-ghost use Rattle.modem_drive.specs.Running.{Begins, DrivesInput, Drove, HasEntered, IsNewDesk, kinds_by, plan_begun};
+ghost use Rattle.modem_drive.specs.Running.{Begins, DrivesInput, Drove, DroveFrom, HasEntered, IsNewDesk, kinds_by, plan_begun};
 ghost use Rattle.modem_drive.specs.Showing.{HasShown};
 
 use crate::channels::Channels;
@@ -86,11 +86,12 @@ fn copy_of(dialect: &Dialect) -> Result<Dialect, DriveFault>
 }
 
 /// A desk of one caller and a listener for each kind of line of a modem with these codes. A connection whose commands wait for longer
-/// than that is closed.
+/// than that is closed. These connections are to be opened though no command waits for them.
 fn open_desk(
     alloc: Global,
     dialect: &Dialect,
     quiet_for: Duration,
+    wanted: &[Dlci],
 ) -> Result<(DriverEnd, Users), DriveFault>
     ensures new { IfOk result (λ r. IsNewDesk dialect.now r.0) }
     ensures whole { IfOk result (λ r. IsWhole r.0.desk (map place_of (r.1.caller ∷ []))) }
@@ -111,7 +112,7 @@ fn open_desk(
         listeners,
         under_way: Vec::new(alloc),
         asked: None,
-        channels: Channels::new(quiet_for),
+        channels: Channels::new(quiet_for, wanted),
         counts: [0; Dlci::COUNT],
         dialect,
     };
@@ -148,7 +149,8 @@ fn begin<L: SerialLine + Drop, R: Wait + Drop>(
     ensures { IfOk result (λ r.
         Begins (line_by L.received L.sent L.calls L.failures L.empty_reads L.stalled_writes) settings.now.dialect.now settings.now.n1 line r.0 r.1) }
 {
-    let (driver, users) = open_desk(alloc, settings.dialect, quiet_time(settings.quiet_for))?;
+    let quiet_for = quiet_time(settings.quiet_for);
+    let (driver, users) = open_desk(alloc, settings.dialect, quiet_for, settings.data)?;
     match make_session(rt, alloc, line, driver, settings.n1, settings.dialect) {
         Ok(session) => Ok((session, users)),
         Err(fault) => Err(fault),
@@ -251,7 +253,7 @@ where
 }
 
 /// Enters the multiplexer.
-fn enter<L: SerialLine, R: Wait + Clock>(
+pub fn enter<L: SerialLine, R: Wait + Clock>(
     rt: &R,
     alloc: Global,
     bell: &Bell,
@@ -267,8 +269,36 @@ fn enter<L: SerialLine, R: Wait + Clock>(
     Ok(())
 }
 
+/// Drives a modem on a line on which the multiplexer was entered, as `drive_over` does from then on.
+pub fn drive_entered<L, R, I, W, E>(
+    rt: &R,
+    alloc: Global,
+    bell: &Bell,
+    line: L,
+    input: I,
+    output: &mut W,
+    faults: &mut E,
+    settings: Settings<'_>,
+) -> Result<(L, Driven), DriveFault>
+where
+    L: SerialLine + Drop,
+    R: Wait + Clock + Copy + Drop,
+    I: Read + Drop,
+    W: Write,
+    E: Write,
+    ensures drove { IfOk result (λ r. DroveFrom (line_by L.received L.sent L.calls L.failures L.empty_reads L.stalled_writes)
+        settings.entry.dialect.now settings.entry.n1 line r.0 (I.remaining input) (W.contents output.old) (W.contents output.new)
+        (E.contents faults.old) (E.contents faults.new) r.1.fault r.1.was_bad r.1.left) }
+    ensures named { NamesRead (I.remaining input) (E.contents faults.old) (E.contents faults.new) }
+{
+    let (session, users) = begin(*rt, alloc, line, &settings)?;
+    drive_begun(
+        rt, alloc, bell, session, users, input, output, faults, settings,
+    )
+}
+
 /// Drives a modem on a line on which no call waits. It enters the multiplexer, opens connection 0, and opens each other connection when
-/// a line of the input first names it. It submits the lines `D TEXT` of each connection in order, one at a time, and those of 15
+/// a line of the input first names it, or at once where it carries data. It submits the lines `D TEXT` of each connection in order, one at a time, and those of 15
 /// connections at most; while 1024 wait for one connection it reads none. It prints the outcome of each as `D i answer` and each announced
 /// line as `heard KIND D TEXT`, as they come; a kind of the dialect's own has its name. A connection
 /// whose command has had no answer for as long as the settings say is closed, and opened again for the next line; where the modem doesn't
@@ -302,8 +332,5 @@ where
 {
     let mut line = line;
     enter(rt, alloc, bell, &mut line, &settings)?;
-    let (session, users) = begin(*rt, alloc, line, &settings)?;
-    drive_begun(
-        rt, alloc, bell, session, users, input, output, faults, settings,
-    )
+    drive_entered(rt, alloc, bell, line, input, output, faults, settings)
 }

@@ -5,6 +5,7 @@ ghost use Rattle.std.specs.String.{string_bytes};
 ghost use Rattle.modem_drive.specs.Entry.{entry_for, entry_text, given_text};
 
 use at_text::Dialect;
+use mux_frame::Dlci;
 use std::alloc::{AllocError, Global};
 use std::fmt::Write;
 use std::time::Duration;
@@ -28,6 +29,8 @@ pub struct Settings<'a> {
     pub quiet_for: Option<Duration>,
     /// The codes of the modem.
     pub dialect: &'a Dialect,
+    /// The connections that carry data. Each is opened though no line of the input names it.
+    pub data: &'a [Dlci],
     /// The path of a file for a capture of the frames that pass. Where it is `None` there is none.
     pub capture: Option<&'a str>,
 }

@@ -7,7 +7,7 @@ use crate::queues::Queues;
 use crate::users::Users;
 use mux_frame::Dlci;
 
-/// What a connection wants whose commands wait.
+/// What a connection wants whose commands wait, or that is to carry data.
 #[derive(Clone, Copy)]
 pub enum Want {
     /// To be opened.
@@ -23,10 +23,14 @@ const COUNT: u8 = 62;
 fn wants(want: Want, queues: &Queues, users: &Users, dlci: Dlci) -> bool
     ensures { result ≡ wants want queues.now users.now dlci.number }
 {
+    let state = users.channels.state(dlci);
+    if matches!(want, Want::Opening) && state == ChannelState::Wanted {
+        return true;
+    }
     if queues.has_none(dlci) {
         return false;
     }
-    match (want, users.channels.state(dlci)) {
+    match (want, state) {
         (Want::Opening, ChannelState::Untold | ChannelState::Shut) => true,
         (Want::Submission, ChannelState::Open | ChannelState::Refused) => !users.is_busy(dlci),
         _ => false,

@@ -151,6 +151,7 @@ where
         tick: Duration::from_secs(1),
         quiet_for: None,
         dialect: &dialect,
+        data: &[],
         capture: None,
     };
     let mut printed = Vec::with_capacity(alloc, 256)?;

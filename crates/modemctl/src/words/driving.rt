@@ -165,6 +165,7 @@ where
                 n1,
                 dialect: &dialect,
                 entry: matches.get_str("entry"),
+                data: &[],
                 capture: matches.get_str("capture"),
                 tick: times.tick,
                 quiet_for: times.quiet_for,

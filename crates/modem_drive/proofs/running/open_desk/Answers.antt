@@ -23,6 +23,7 @@ returns c =
       listeners = refl;
       none = c.new.ensures.items;
       asked = refl;
+      wanted = c.args.wanted.now;
       channels = c.new-2.ensures;
       counts = refl;
     } in
