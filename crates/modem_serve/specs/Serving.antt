@@ -77,9 +77,13 @@ IsAnswered s input before after = IfSome input (WritesAnswers s before after)
 abbrev pub client_modem : Option (List ℕ) → Bool → ModemState
 client_modem pin echo = started_with_words (record { pin = pin; rssi = 18; ber = 99 }) echo
 
--- by what the options say
+-- by what the options say; the modem gives their answers before it looks into its tables
 abbrev pub setting_of : SimOptions → Setting
-setting_of options = record { n1 = options.n1; steps = options.steps; modem = client_modem options.pin options.echo }
+setting_of options = record {
+  n1 = options.n1;
+  steps = options.steps;
+  modem = record (client_modem options.pin options.echo) { own = options.answers };
+}
 
 abbrev pub IsServed : SimOptions → (input before after : Option (List ℕ)) → Type 0
 IsServed options input before after = IsAnswered (setting_of options) input before after

@@ -20,7 +20,7 @@ use crate::server::{Answering, Mode, Setup};
 use crate::watching::{Nobody, Recorder, Watcher};
 use crate::writing::put;
 use at_cmds::Pin;
-use modem_sim::{Modem, ModemStart, Steps};
+use modem_sim::{Modem, ModemStart, OwnAnswers, Steps};
 use modem_texts::say_line;
 use mux_capture::{Capture, Direction};
 use mux_frame::N1;
@@ -42,6 +42,8 @@ pub struct SimOptions {
     pub echo: bool,
     /// What the modem does of its own accord, in each multiplexer anew.
     pub steps: Steps,
+    /// What it says of its own to command lines, in plain lines and in the multiplexer.
+    pub answers: OwnAnswers,
 }
 
 /// Reads once, as much as there is; 0 at the end of the input. A read that was interrupted is made again.
@@ -176,6 +178,7 @@ fn begin(alloc: Global, options: SimOptions) -> Result<(Setup, Modem), BadOption
         pin,
         echo,
         steps,
+        answers,
     } = options;
     let Some(n1) = N1::new(n1) else {
         return Err(BadOption::N1);
@@ -188,7 +191,8 @@ fn begin(alloc: Global, options: SimOptions) -> Result<(Setup, Modem), BadOption
         rssi: 18,
         ber: 99,
     };
-    let modem = Modem::with_words(alloc, start, echo);
+    let mut modem = Modem::with_words(alloc, start, echo);
+    modem.answer_by(answers);
     Ok((Setup { alloc, n1, steps }, modem))
 }
 

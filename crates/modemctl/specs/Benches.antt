@@ -2,8 +2,10 @@
 use Rattle.std.specs.Prelude.{◌≡◌, ℕ, Bool, true, false, List, [], Option, None, Some, codes}
 use Rattle.clap.specs.Words.{Row, Text, first_value, found_of, one_text}
 use Rattle.clap.specs.declared.ArgMatches.{ArgMatches}
+use Rattle.modem_sim.specs.declared.own_answers.OwnAnswer.{OwnAnswer}
 use Rattle.modem_sim.specs.declared.script.Script.{Script}
 use Rattle.modem_sim.specs.declared.script.Step.{Step}
+use Rattle.modem_runs.specs.AnswerTexts.{GivesAnswers}
 use Rattle.modem_runs.specs.Steps.{GivesSteps}
 use Rattle.modem_runs.specs.Printed.{IsBenched, IsFramed, IsPrinted}
 use Rattle.modem_serve.specs.declared.serving.SimOptions.{SimOptions}
@@ -44,12 +46,18 @@ abbrev pub AreScripted : (texts : Text → Option (List ℕ)) (path : Option Tex
 AreScripted texts None steps = steps ≡ []
 AreScripted texts (Some path) steps = GivesSteps (texts path) steps
 
--- the N1, the PIN and the echo that the words give, and the steps that their script says
+-- Without a file of answers there are none. With one, they are those that its lines say.
+abbrev pub AreOwn : (texts : Text → Option (List ℕ)) (path : Option Text) → List OwnAnswer → Type 0
+AreOwn texts None answers = answers ≡ []
+AreOwn texts (Some path) answers = GivesAnswers (texts path) answers
+
+-- the N1, the PIN and the echo that the words give, and the steps and answers that their files say
 pub record AreGiven (texts : Text → Option (List ℕ)) (met : Option (Text × List Row)) (options : SimOptions) : Type 0 where
   pub n1_given : IsGiven met (codes "n1") 31 options.n1
   pub pin_given : options.pin ≡ raw_in met (codes "pin")
   pub echo_given : IsFlag (text_in met (codes "echo")) options.echo
   pub steps_given : AreScripted texts (raw_in met (codes "script")) options.steps
+  pub answers_given : AreOwn texts (raw_in met (codes "answers")) options.answers
 
 -- the same options, as the matches of the subcommand have them
 pub record AreMatched (texts : Text → Option (List ℕ)) (n1 : ℕ) (m : ArgMatches) (options : SimOptions) : Type 0 where
@@ -57,3 +65,4 @@ pub record AreMatched (texts : Text → Option (List ℕ)) (n1 : ℕ) (m : ArgMa
   pub pin_is : options.pin ≡ first_value (found_of m) (codes "pin")
   pub echo_is : IsFlag (one_text (found_of m) (codes "echo")) options.echo
   pub steps_are : AreScripted texts (first_value (found_of m) (codes "script")) options.steps
+  pub answers_are : AreOwn texts (first_value (found_of m) (codes "answers")) options.answers

@@ -4,8 +4,10 @@ use Rattle.std.specs.Prelude.{◌≡◌, ◌⊎◌, ℕ, ◌++◌, Bool, true, L
 use Rattle.std.specs.Fmt.{decimal}
 use Rattle.clap.specs.Words.{Row, Text, first_value, found_of}
 use Rattle.clap.specs.declared.ArgMatches.{ArgMatches}
+use Rattle.modem_runs.specs.AnswerTexts.{AnswersStopBy, HasFirstNone, part_text}
 use Rattle.modem_runs.specs.Statuses.{stop_line}
 use Rattle.modem_runs.specs.Steps.{HasBadStep, StepsStop}
+use Rattle.modem_runs.specs.declared.own_answers.AnswerPart.{AnswerPart}
 use Rattle.modem_runs.specs.declared.stop.Stop.{Stop}
 use Rattle.modem_serve.specs.declared.serving.SimOptions.{SimOptions}
 use Rattle.modem_serve.specs.Leaving.{EndsFor, SaysBad}
@@ -18,6 +20,7 @@ use Rattle.modemctl.specs.Benches.{AreGiven, AreMatched}
 use Rattle.modemctl.specs.Captures.{SaysNoCapture}
 use Rattle.modemctl.specs.Files.{IsNoText}
 use Rattle.modemctl.specs.Words.{raw_in}
+use Rattle.modemctl.specs.declared.words.answers.AnswersFault.{AnswersFault}
 use Rattle.modemctl.specs.declared.words.files.NoCapture.{NoCapture}
 use Rattle.modemctl.specs.declared.words.text_files.TextFault.{TextFault}
 
@@ -63,17 +66,35 @@ pub record HasNoCapture (path : Option Text) (told_before told_after : Option (L
   pub cause : NoCapture
   pub said : SaysNoCapture cause named told_before told_after
 
--- no client was served: memory was refused, or the script gives nothing, or there is no capture; that is said
-abbrev pub SaysNotBegun : (script capture : Option Text) → (told_before told_after : Option (List ℕ)) → Type 0
-SaysNotBegun script capture told_before told_after =
+-- the files of the words: of the script, of the answers, for the capture
+pub record SimFiles : Type 0 where
+  pub script : Option Text
+  pub answers : Option Text
+  pub capture : Option Text
+
+-- no client was served: memory was refused, or the script or the answers give nothing, or there is no capture; that is said
+abbrev pub SaysNotBegun : SimFiles → (told_before told_after : Option (List ℕ)) → Type 0
+SaysNotBegun files told_before told_after =
     IsBegun told_before told_after (stop_line Stop.NoMemory)
-    ⊎ (IsNoText true (codes "script") script told_before told_after 1 ⊎ HasNoCapture capture told_before told_after)
+    ⊎ (IsNoText true (codes "script") files.script told_before told_after 1
+    ⊎ (IsNoText true (codes "answers") files.answers told_before told_after 1 ⊎ HasNoCapture files.capture told_before told_after))
+
+-- those that the words give, and those that the matches of the subcommand have
+abbrev pub files_given : Option (Text × List Row) → SimFiles
+files_given met = record { script = raw_in met (codes "script"); answers = raw_in met (codes "answers"); capture = raw_in met (codes "capture") }
+
+abbrev pub files_matched : ArgMatches → SimFiles
+files_matched m = record {
+  script = first_value (found_of m) (codes "script");
+  answers = first_value (found_of m) (codes "answers");
+  capture = first_value (found_of m) (codes "capture");
+}
 
 -- nothing was read and nothing written, for a cause that is said
-pub record IsNotBegun {I O : Type 0} (script capture : Option Text) (input rest : I) (old new : O) (told_before told_after : Option (List ℕ)) : Type 0 where
+pub record IsNotBegun {I O : Type 0} (files : SimFiles) (input rest : I) (old new : O) (told_before told_after : Option (List ℕ)) : Type 0 where
   pub unread : rest ≡ input
   pub nothing : new ≡ old
-  pub said : SaysNotBegun script capture told_before told_after
+  pub said : SaysNotBegun files told_before told_after
 
 -- ## At status 2
 
@@ -104,6 +125,24 @@ pub record SaysBadStep (texts : Text → Option (List ℕ)) (script : Option Tex
   pub bad : HasBadStep (texts named) place why
   pub said : IsBegun told_before told_after (bad_line (decimal place) ++ reason_line (codes "the script: ") why)
 
+-- why the file of answers gives none: it can't be opened, or for a cause to stop
+abbrev pub IsOfAnswers : (text : Option (List ℕ)) → AnswersFault → Type 0
+IsOfAnswers text (AnswersFault.Closed kind) = Unit {0}
+IsOfAnswers text (AnswersFault.Stopped stop) = AnswersStopBy text stop
+
+-- what has to stand there
+abbrev pub answers_line : AnswerPart → List ℕ
+answers_line part = codes "the answers: " ++ part_text part ++ 10 ∷ []
+
+-- a line of the answers of this path is bad: the first such line is named, with what has to stand there
+pub record SaysBadAnswer (texts : Text → Option (List ℕ)) (answers : Option Text) (told_before told_after : Option (List ℕ)) : Type 0 where
+  pub named : Text
+  pub path_is : answers ≡ Some named
+  pub place : ℕ
+  pub part : AnswerPart
+  pub bad : HasFirstNone (texts named) place part
+  pub said : IsBegun told_before told_after (bad_line (decimal place) ++ answers_line part)
+
 -- an option of the words is bad, which is said
 pub record HasBadGiven (texts : Text → Option (List ℕ)) (met : Option (Text × List Row)) (told_before told_after : Option (List ℕ)) : Type 0 where
   pub options : SimOptions
@@ -116,8 +155,9 @@ pub record HasBadMatched (texts : Text → Option (List ℕ)) (n1 : ℕ) (m : Ar
   pub matched : AreMatched texts n1 m options
   pub says : SaysBad options told_before told_after
 
--- a number isn't one, a step of the script is bad, or an option, and that is said
+-- a number isn't one, a line of the script or of the answers is bad, or an option, and that is said
 abbrev pub RefusesClient : (texts : Text → Option (List ℕ)) → (met : Option (Text × List Row)) → (told_before told_after : Option (List ℕ)) → Type 0
 RefusesClient texts met told_before told_after =
     SaysNoNumber told_before told_after
-    ⊎ (SaysBadStep texts (raw_in met (codes "script")) told_before told_after ⊎ HasBadGiven texts met told_before told_after)
+    ⊎ (SaysBadStep texts (raw_in met (codes "script")) told_before told_after
+    ⊎ (SaysBadAnswer texts (raw_in met (codes "answers")) told_before told_after ⊎ HasBadGiven texts met told_before told_after))

@@ -91,6 +91,10 @@ echo_rule = record (new_rule (codes "echo")) { long = Some (codes "echo"); actio
 abbrev pub script_rule : Rule
 script_rule = record (new_rule (codes "script")) { long = Some (codes "script"); action = Some Set; value_names = 1 }
 
+-- the option `--answers`: a text
+abbrev pub answers_rule : Rule
+answers_rule = record (new_rule (codes "answers")) { long = Some (codes "answers"); action = Some Set; value_names = 1 }
+
 -- the option `--capture`: a text
 abbrev pub capture_rule : Rule
 capture_rule = record (new_rule (codes "capture")) { long = Some (codes "capture"); action = Some Set; value_names = 1 }
@@ -98,7 +102,8 @@ capture_rule = record (new_rule (codes "capture")) { long = Some (codes "capture
 -- the subcommand with these options and `--n1`
 abbrev pub sim_app : App
 sim_app =
-    with_rule (with_rule (with_rule (with_rule (with_rule (new_app (codes "sim")) n1_rule) pin_rule) echo_rule) script_rule)
+    with_rule
+    (with_rule (with_rule (with_rule (with_rule (with_rule (new_app (codes "sim")) n1_rule) pin_rule) echo_rule) script_rule) answers_rule)
     capture_rule
 
 -- the same with a modem

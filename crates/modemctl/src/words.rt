@@ -13,10 +13,11 @@ ghost use Rattle.modemctl.specs.Benches.{PrintsBench, PrintsFrames, PrintsReplay
 ghost use Rattle.modemctl.specs.Dialects.{IsShut};
 ghost use Rattle.modemctl.specs.Drives.{PrintsDrive};
 ghost use Rattle.modemctl.specs.Files.{NamesCause};
-ghost use Rattle.modemctl.specs.Sims.{FailsClient, HasBadMatched, HasNoCapture, IsNotBegun, LeavesClient, LeavesWith, RefusesClient, SaysBadStep, ServesClient, ServesWith, number_line};
+ghost use Rattle.modemctl.specs.Sims.{FailsClient, HasBadMatched, HasNoCapture, IsNotBegun, LeavesClient, LeavesWith, RefusesClient, SaysBadAnswer, SaysBadStep, ServesClient, ServesWith, files_given, files_matched, number_line};
 ghost use Rattle.modemctl.specs.Shows.{IsShutFile, PrintsShow, SaysUnshown};
 ghost use Rattle.modemctl.specs.Words.{fault_in, met_in, raw_in, AreFor, AsksNoHelp, HasNoNumber, is_explained};
 
+mod answers;
 mod commands;
 mod dialects;
 mod driving;
@@ -30,6 +31,7 @@ mod showing;
 mod sims;
 mod text_files;
 
+use answers::answers_of;
 use clap::error::ErrorKind;
 use clap::{ArgMatches, Error};
 use commands::program;
@@ -211,14 +213,15 @@ where
     ensures served { result ≡ 0 → ServesWith (R.text_of rt.now) n1 matches.now (I.remaining input.old) (W.contents output.old)
         (W.contents output.new) }
     ensures silent { result ≡ 0 → faults.new ≡ faults.old }
-    ensures left { result ≡ 1 → IsNotBegun (first_value (found_of matches.now) (codes "script"))
-        (first_value (found_of matches.now) (codes "capture")) input.old input.new output.old output.new (E.contents faults.old)
-        (E.contents faults.new)
+    ensures left { result ≡ 1 → IsNotBegun (files_matched matches.now) input.old input.new output.old output.new
+        (E.contents faults.old) (E.contents faults.new)
         ⊎ LeavesWith (R.text_of rt.now) n1 matches.now (I.remaining input.old) (I.remaining input.new) (W.contents output.old)
         (W.contents output.new) (E.contents faults.old) (E.contents faults.new) }
     ensures told { result ≡ 2
         → SaysBadStep (R.text_of rt.now) (first_value (found_of matches.now) (codes "script")) (E.contents faults.old) (E.contents faults.new)
-        ⊎ HasBadMatched (R.text_of rt.now) n1 matches.now (E.contents faults.old) (E.contents faults.new) }
+        ⊎ (SaysBadAnswer (R.text_of rt.now) (first_value (found_of matches.now) (codes "answers")) (E.contents faults.old)
+        (E.contents faults.new)
+        ⊎ HasBadMatched (R.text_of rt.now) n1 matches.now (E.contents faults.old) (E.contents faults.new)) }
 {
     let Ok(pin) = pin_of(alloc, matches) else {
         return give_up(faults, Stop::NoMemory);
@@ -227,11 +230,16 @@ where
         Ok(steps) => steps,
         Err(status) => return status,
     };
+    let answers = match answers_of(rt, alloc, matches, faults) {
+        Ok(answers) => answers,
+        Err(status) => return status,
+    };
     let options = SimOptions {
         n1,
         pin,
         echo: echo_of(matches),
         steps,
+        answers,
     };
     sim_with(rt, alloc, matches, options, input, output, faults)
 }
@@ -296,8 +304,7 @@ where
         (W.contents output.new) }
     ensures silent { result ≡ 0 → (subcommand_name_of matches.now ≡ Some (codes "drive") → ⊥) → faults.new ≡ faults.old }
     ensures sim_left { result ≡ 1 → subcommand_name_of matches.now ≡ Some (codes "sim")
-        → IsNotBegun (raw_in (subcommand_rows_of matches.now) (codes "script"))
-        (raw_in (subcommand_rows_of matches.now) (codes "capture")) input.old input.new output.old output.new
+        → IsNotBegun (files_given (subcommand_rows_of matches.now)) input.old input.new output.old output.new
         (E.contents faults.old) (E.contents faults.new)
         ⊎ LeavesClient (R.text_of rt.now) (subcommand_rows_of matches.now) (I.remaining input.old) (I.remaining input.new)
         (W.contents output.old) (W.contents output.new) (E.contents faults.old) (E.contents faults.new) }
@@ -410,8 +417,7 @@ where
         (W.contents output.new) }
     ensures silent { result ≡ 0 → (AreFor (codes "drive") (map string_bytes words.now) → ⊥) → faults.new ≡ faults.old }
     ensures sim_left { result ≡ 1 → AreFor (codes "sim") (map string_bytes words.now)
-        → IsNotBegun (raw_in (met_in (map string_bytes words.now)) (codes "script"))
-        (raw_in (met_in (map string_bytes words.now)) (codes "capture")) input.old input.new output.old output.new
+        → IsNotBegun (files_given (met_in (map string_bytes words.now))) input.old input.new output.old output.new
         (E.contents faults.old) (E.contents faults.new)
         ⊎ LeavesClient (R.text_of rt.now) (met_in (map string_bytes words.now)) (I.remaining input.old) (I.remaining input.new)
         (W.contents output.old) (W.contents output.new) (E.contents faults.old) (E.contents faults.new) }

@@ -13,7 +13,7 @@ use Rattle.modemctl.specs.Benches.{PrintsBench, PrintsFrames, PrintsReplay}
 use Rattle.modemctl.specs.Dialects.{IsShut}
 use Rattle.modemctl.specs.Drives.{PrintsDrive}
 use Rattle.modemctl.specs.Files.{IsNoText, NamesCause}
-use Rattle.modemctl.specs.Sims.{IsNotBegun, LeavesClient, RefusesClient, ServesClient}
+use Rattle.modemctl.specs.Sims.{IsNotBegun, LeavesClient, RefusesClient, ServesClient, files_given}
 use Rattle.modemctl.specs.Shows.{IsShutFile, PrintsShow, SaysUnshown, all_in}
 use Rattle.modemctl.proofs.words.run.Goals as goal
 
@@ -59,11 +59,11 @@ returns-in-Ok-try_get_matches_from-clause-sim g c zero for =
     (c.run_named.ensures.sim zero (named c.in-Ok-try_get_matches_from.matches _ _ c.in-Ok.ensures (λ e. (c.in-Ok-try_get_matches_from.ensures.matches e).1) ∙ for.1))
 
 leaves : {I O : Type 0} (texts : Text → Option (List ℕ)) (a b : Option (Text × List Row)) (input rest before after told_before told_after : Option (List ℕ)) (was is : I) (old new : O) → a ≡ b
-    → IsNotBegun (raw_in a (codes "script")) (raw_in a (codes "capture")) was is old new told_before told_after ⊎ LeavesClient texts a input rest before after told_before told_after
-    → IsNotBegun (raw_in b (codes "script")) (raw_in b (codes "capture")) was is old new told_before told_after ⊎ LeavesClient texts b input rest before after told_before told_after
+    → IsNotBegun (files_given a) was is old new told_before told_after ⊎ LeavesClient texts a input rest before after told_before told_after
+    → IsNotBegun (files_given b) was is old new told_before told_after ⊎ LeavesClient texts b input rest before after told_before told_after
 leaves texts a b input rest before after told_before told_after was is old new same h =
     subst
-    (λ (m : Option (Text × List Row)). IsNotBegun (raw_in m (codes "script")) (raw_in m (codes "capture")) was is old new told_before told_after ⊎ LeavesClient texts m input rest before after told_before told_after)
+    (λ (m : Option (Text × List Row)). IsNotBegun (files_given m) was is old new told_before told_after ⊎ LeavesClient texts m input rest before after told_before told_after)
     same h
 
 pub returns-in-Ok-try_get_matches_from-clause-sim_left :

@@ -7,8 +7,8 @@ use Rattle.modemctl.specs.Words.{HasNoNumber, IsGiven, IsNoNumber, IsNumberOf, i
 use Rattle.modem_runs.specs.Stopping.{HasGivenUp}
 use Rattle.modem_serve.specs.declared.serving.SimOptions.{SimOptions}
 use Rattle.modem_serve.specs.Watching.{CapturesClient}
-use Rattle.modemctl.specs.Benches.{AreGiven, AreMatched, AreScripted, IsFlag}
-use Rattle.modemctl.specs.Sims.{FailsClient, HasBadMatched, IsNotBegun, LeavesClient, LeavesWith, RefusesClient, SaysBadStep}
+use Rattle.modemctl.specs.Benches.{AreGiven, AreMatched, AreOwn, AreScripted, IsFlag}
+use Rattle.modemctl.specs.Sims.{FailsClient, HasBadMatched, IsNotBegun, LeavesClient, LeavesWith, RefusesClient, SaysBadAnswer, SaysBadStep, SimFiles, files_given, files_matched}
 use Rattle.modem_drive.specs.Entry.{entry_for}
 use Rattle.modem_drive.specs.OnDevice.{RanDevice}
 use Rattle.modemctl.specs.Dialects.{IsGivenDialect, IsShut, PrintsActs}
@@ -104,6 +104,7 @@ are_given texts top m n1 options rows number matched = record {
   pin_given = matched.pin_is ∙ word_given top m (codes "pin") rows;
   echo_given = subst (λ (t : Option Text). IsFlag t options.echo) (given_in top m (codes "echo") rows) matched.echo_is;
   steps_given = subst (λ (t : Option Text). AreScripted texts t options.steps) (word_given top m (codes "script") rows) matched.steps_are;
+  answers_given = subst (λ (t : Option Text). AreOwn texts t options.answers) (word_given top m (codes "answers") rows) matched.answers_are;
 }
 
 pub returns-in-sim-clause-sim : goal.returns-in-sim-clause-sim
@@ -118,12 +119,15 @@ returns-in-sim-clause-sim g c zero named =
           (word_given c.args.matches.now c.in-Some.given.now (codes "capture") c.in-Some.ensures.rows) serves.captured;
     }
 
+same_files : (top m : ArgMatches) → Some (rows_of (found_of m)) ≡ option_map (λ p. p.1) (subcommand_rows_of top) → files_matched m ≡ files_given (subcommand_rows_of top)
+same_files top m rows = λ i. record { script = word_given top m (codes "script") rows i; answers = word_given top m (codes "answers") rows i; capture = word_given top m (codes "capture") rows i }
+
 leaves_client : {I O : Type 0} (texts : Text → Option (List ℕ)) (top m : ArgMatches) (n1 : ℕ) (input rest before after told_before told_after : Option (List ℕ)) (was is : I) (old new : O) → Some (rows_of (found_of m)) ≡ option_map (λ p. p.1) (subcommand_rows_of top)
     → IsNumberOf 31 (one_text (found_of m) (codes "n1")) n1
-    → IsNotBegun (first_value (found_of m) (codes "script")) (first_value (found_of m) (codes "capture")) was is old new told_before told_after ⊎ LeavesWith texts n1 m input rest before after told_before told_after
-    → IsNotBegun (raw_in (subcommand_rows_of top) (codes "script")) (raw_in (subcommand_rows_of top) (codes "capture")) was is old new told_before told_after ⊎ LeavesClient texts (subcommand_rows_of top) input rest before after told_before told_after
+    → IsNotBegun (files_matched m) was is old new told_before told_after ⊎ LeavesWith texts n1 m input rest before after told_before told_after
+    → IsNotBegun (files_given (subcommand_rows_of top)) was is old new told_before told_after ⊎ LeavesClient texts (subcommand_rows_of top) input rest before after told_before told_after
 leaves_client texts top m n1 input rest before after told_before told_after was is old new rows number (inl none) =
-    inl (subst (λ (t : Option Text × Option Text). IsNotBegun t.0 t.1 was is old new told_before told_after) (λ i. (word_given top m (codes "script") rows i, word_given top m (codes "capture") rows i)) none)
+    inl (subst (λ (f : SimFiles). IsNotBegun f was is old new told_before told_after) (same_files top m rows) none)
 leaves_client texts top m n1 input rest before after told_before told_after was is old new rows number (inr leaves) = inr (record {
   options = leaves.options;
   given = are_given texts top m n1 leaves.options rows number leaves.matched;
@@ -135,10 +139,14 @@ returns-in-sim-clause-sim_left g c one named =
     leaves_client (g.R.TextFiles.text_of c.args.rt.now) c.args.matches.now c.in-Some.given.now c.in-Ok.numbers.n1 _ _ _ _ _ _ _ _ _ _ c.in-Some.ensures.rows c.in-Ok.ensures.n1 (c.sim_words.ensures.left one)
 
 refuses_client : (texts : Text → Option (List ℕ)) (top m : ArgMatches) (n1 : ℕ) (told_before told_after : Option (List ℕ)) → Some (rows_of (found_of m)) ≡ option_map (λ p. p.1) (subcommand_rows_of top) → IsNumberOf 31 (one_text (found_of m) (codes "n1")) n1
-    → SaysBadStep texts (first_value (found_of m) (codes "script")) told_before told_after ⊎ HasBadMatched texts n1 m told_before told_after → RefusesClient texts (subcommand_rows_of top) told_before told_after
+    → SaysBadStep texts (first_value (found_of m) (codes "script")) told_before told_after
+    ⊎ (SaysBadAnswer texts (first_value (found_of m) (codes "answers")) told_before told_after ⊎ HasBadMatched texts n1 m told_before told_after)
+    → RefusesClient texts (subcommand_rows_of top) told_before told_after
 refuses_client texts top m n1 told_before told_after rows number (inl step) =
     inr (inl (subst (λ (t : Option Text). SaysBadStep texts t told_before told_after) (word_given top m (codes "script") rows) step))
-refuses_client texts top m n1 told_before told_after rows number (inr bad) = inr (inr (record { options = bad.options; given = are_given texts top m n1 bad.options rows number bad.matched; says = bad.says }))
+refuses_client texts top m n1 told_before told_after rows number (inr (inl answer)) =
+    inr (inr (inl (subst (λ (t : Option Text). SaysBadAnswer texts t told_before told_after) (word_given top m (codes "answers") rows) answer)))
+refuses_client texts top m n1 told_before told_after rows number (inr (inr bad)) = inr (inr (inr (record { options = bad.options; given = are_given texts top m n1 bad.options rows number bad.matched; says = bad.says })))
 
 pub returns-in-sim-clause-sim_bad : goal.returns-in-sim-clause-sim_bad
 returns-in-sim-clause-sim_bad g c two named =
