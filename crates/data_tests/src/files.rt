@@ -1,4 +1,6 @@
 //! A file beside connection 2 of a line.
+ghost use Rattle.std.specs.Prelude.{◌≡◌, Ok};
+
 use data_files::{DataFile, FiledLine};
 use modem_data::Relay;
 use mux_frame::Dlci;
@@ -20,8 +22,10 @@ const READ: &[u8] = b"\xF9\x0B\x73\x01\x92\xF9\xF9\x05\xEF\x11\r\nRING\r\n\x4A\x
 const SENT: &[u8] = b"\xF9\x0B\x3F\x01\x59\xF9\xF9\x0B\xEF\x05ok\xB7\xF9";
 
 /// What there is memory for.
-fn made<A: Drop, E: Drop>(rt: &impl Abort, made: Result<A, E>) -> A {
-    match made {
+fn made<A: Drop, E: Drop>(rt: &impl Abort, tried: Result<A, E>) -> A
+    ensures { tried ≡ Ok result }
+{
+    match tried {
         Ok(value) => value,
         Err(_) => panic!(rt; "no memory"),
     }
