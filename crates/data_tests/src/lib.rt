@@ -2,7 +2,6 @@
 #![tactic(auto)]
 
 #[cfg(test)]
-mod lines;
-
-#[cfg(test)]
 mod files;
+#[cfg(test)]
+mod lines;
