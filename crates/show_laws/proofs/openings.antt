@@ -13,3 +13,4 @@ pub mod ResponderCalls
 pub mod ModemOpen
 pub mod ModemLine
 pub mod BothOpen
+pub mod AskedLines

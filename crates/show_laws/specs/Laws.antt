@@ -7,7 +7,7 @@ use Rattle.mux_station.specs.declared.role.Role.TheVariants.{Initiator, Responde
 use Rattle.mux_station.specs.Acts as station
 use Rattle.mux_frame.specs.Frames.{Frame}
 use Rattle.mux_station.specs.Messages.{Message, brings_command, cld, fcoff, message_in, msc, msc_stops}
-use Rattle.mux_station.specs.Sending.{StationSetting, is_loss, owed_frames}
+use Rattle.mux_station.specs.Sending.{StationSetting, owed_frames}
 use Rattle.modem_desk.specs.declared.request.Ask.{Ask}
 use Rattle.modem_desk.specs.declared.request.Ask.TheVariants.{Probe}
 use Rattle.modem_history.specs.Acts as driver
@@ -93,11 +93,11 @@ IsPrompt s (station.Given ∷ past) = IsPrompt s past
 IsPrompt s (a ∷ past) = (owed_frames s past ≡ []) × IsPrompt s past
 
 -- Neither end sends data on a connection that isn't open, where the driver asks for each connection once at most, and the modem is
--- prompt, opens and closes nothing by itself, and isn't told of a loss of the line.
+-- prompt, and opens and closes nothing by itself.
 unfoldable pub BothSendWhileOpen : Setting → ℕ → List LineAct → Type 0
 BothSendWhileOpen s n1 line =
     IsLawfulLine s n1 line → AsksOnce (wire (driver_past line)) → OpensAndClosesNothing (modem_past line)
-    → IsPrompt (responding n1) (modem_past line) → list_any is_loss (modem_past line) ≡ false
+    → IsPrompt (responding n1) (modem_past line)
     → (stamps : ℕ → Stamp) (most : ℕ) → NoneBreaks Unopened most (captured stamps line)
 
 -- ## Stops
@@ -117,6 +117,11 @@ NeverStopped s n1 line =
     IsLawfulLine s n1 line → StopsNothing (wire (driver_past line)) → StopsNothing (modem_past line)
     → (stamps : ℕ → Stamp) (most : ℕ) → NoneBreaks Unstopped most (captured stamps line)
 
+-- No data is sent on a connection that is stopped, whichever end stops it, where the driver asks for each connection once at most.
+unfoldable pub HeedsStops : Setting → ℕ → List LineAct → Type 0
+HeedsStops s n1 line =
+    IsLawfulLine s n1 line → AsksOnce (wire (driver_past line)) → (stamps : ℕ → Stamp) (most : ℕ) → NoneBreaks Unstopped most (captured stamps line)
+
 -- ## All rules of a frame
 
 -- a lawful line on which all this holds
@@ -125,9 +130,6 @@ pub record IsPlainLine (s : Setting) (n1 : ℕ) (line : List LineAct) : Type 0 w
   pub once : AsksOnce (wire (driver_past line))
   pub steady : OpensAndClosesNothing (modem_past line)
   pub prompt : IsPrompt (responding n1) (modem_past line)
-  pub live : list_any is_loss (modem_past line) ≡ false
-  pub driver_stops : StopsNothing (wire (driver_past line))
-  pub modem_stops : StopsNothing (modem_past line)
   pub commands : TakesCommandLines (driver_past line)
   pub offers : OffersText (modem_past line)
   pub probes : TakesShortProbes (driver_past line)

@@ -3,7 +3,7 @@ ghost use Rattle.std.specs.Prelude.{ℕ, List};
 ghost use Rattle.modem_history.specs.Calls.{Setting};
 ghost use Rattle.show_laws.specs.Lines.{LineAct};
 ghost use Rattle.show_laws.specs.LineRows.{AreRight};
-ghost use Rattle.show_laws.specs.Laws.{AllSound, AnswersAll, AnswersAsks, BothSendWhileOpen, CarriesText, FitsN1, NeverStopped, SendsWhileOpen};
+ghost use Rattle.show_laws.specs.Laws.{AllSound, AnswersAll, AnswersAsks, BothSendWhileOpen, CarriesText, FitsN1, HeedsStops, NeverStopped, SendsWhileOpen};
 
 /// No frame between a driver that keeps its laws and a modem that keeps the responder's tables is judged an answer that nothing waits
 /// for.
@@ -33,8 +33,8 @@ pub fn openings()
     ensures { (s : Setting) (n1 : ℕ) (line : List LineAct) → SendsWhileOpen s n1 line }
 {}
 
-/// No data of either end is judged so where, beyond this, the modem does at once what each act calls for, sends no SABM, DISC or CLD of its
-/// own, and isn't told of a loss of the line.
+/// No data of either end is judged so where, beyond this, the modem does at once what each act calls for, and sends no SABM, DISC or CLD of its
+/// own.
 #[tactic(auto, using(crate::proofs::openings::BothOpen::both_send_while_open))]
 pub fn openings_of_both()
     ensures { (s : Setting) (n1 : ℕ) (line : List LineAct) → BothSendWhileOpen s n1 line }
@@ -44,6 +44,12 @@ pub fn openings_of_both()
 #[tactic(auto, using(crate::proofs::stops::NoneStopped::never_stopped))]
 pub fn stops()
     ensures { (s : Setting) (n1 : ℕ) (line : List LineAct) → NeverStopped s n1 line }
+{}
+
+/// No data is judged to be on a connection that is stopped, whichever end stops it, where the driver asks for each connection once at most.
+#[tactic(auto, using(crate::proofs::stops::NoneUnstopped::heeds_stops))]
+pub fn stops_heeded()
+    ensures { (s : Setting) (n1 : ℕ) (line : List LineAct) → HeedsStops s n1 line }
 {}
 
 /// Nothing is judged wrong with any frame of a line on which all this holds.

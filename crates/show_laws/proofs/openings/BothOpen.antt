@@ -9,29 +9,30 @@ use Rattle.mux_capture.specs.declared.packet.Stamp.{Stamp}
 use Rattle.mux_station.specs.declared.role.Role.TheVariants.{Initiator, Responder}
 use Rattle.mux_station.specs.Acts as station
 use Rattle.mux_station.specs.Opening.{is_open}
-use Rattle.mux_station.specs.Sending.{Sends, StationGated, StationLawful, owed_frames}
+use Rattle.mux_station.specs.Sending.{Sends, StationGated, StationLawful, is_loss, owed_frames}
 use Rattle.mux_station.specs.Messages.{cld, brings_command}
 use Rattle.mux_station.specs.Written.{is_data_frame, is_on}
 use Rattle.mux_frame.specs.declared.frame.Kind.TheVariants.{Ua}
 use Rattle.show_laws.proofs.counts.ManyFrames.{many}
 use Rattle.modem_history.specs.Acts as driver
+use Rattle.modem_history.specs.Acts.{wire}
 use Rattle.modem_history.specs.Calls.{Setting}
-use Rattle.modem_history.specs.TwoEnds.{frames_sent}
+use Rattle.modem_history.specs.TwoEnds.{AsksOnce, frames_sent}
 use Rattle.modem_show.specs.declared.rule.Rule.TheVariants.{Unopened}
 use Rattle.modem_show.specs.Asking.{is_in_doubt, is_mode_command, waiting}
 use Rattle.modem_show.specs.Ends.{own}
 use Rattle.modem_show.specs.Judging.{is_unopened}
 use Rattle.modem_show.specs.Ways.{caught}
-use Rattle.show_laws.specs.Lines.{AtDriver, AtModem, LineAct, captured, modem_past, responding}
-use Rattle.show_laws.specs.Laws.{BothSendWhileOpen, opens_or_closes}
-use Rattle.show_laws.proofs.lines.EveryFrame.{every}
-use Rattle.show_laws.proofs.openings.DriverOpen.{IsOnceLine}
+use Rattle.show_laws.specs.Lines.{AtDriver, AtModem, IsLawfulLine, LineAct, captured, driver_past, modem_past, responding}
+use Rattle.show_laws.specs.Laws.{BothSendWhileOpen, IsPrompt, OpensAndClosesNothing, opens_or_closes}
+use Rattle.show_laws.proofs.lines.EveryFrame.{every, lawful_before}
+use Rattle.show_laws.proofs.openings.DriverOpen.{IsOnceLine, once_before}
 use Rattle.show_laws.proofs.openings.ModemFollows.{IsReady, coming, there}
 use Rattle.show_laws.proofs.openings.ModemLine.{modem_line}
-use Rattle.show_laws.proofs.openings.ModemOpen.{IsSteadyLine, steady_line_before}
+use Rattle.show_laws.proofs.openings.ModemOpen.{IsSteadyLine, prompt_before, steady_before}
 use Rattle.show_laws.proofs.openings.NoneUnopened.{driver_open}
 
-none_down : (fs : List Frame) → list_any opens_or_closes fs ≡ false → list_any (brings_command cld) fs ≡ false
+pub none_down : (fs : List Frame) → list_any opens_or_closes fs ≡ false → list_any (brings_command cld) fs ≡ false
 none_down [] h = refl
 none_down (f ∷ fs) h =
     let p = or_parts (opens_or_closes f) (list_any opens_or_closes fs) h in
@@ -41,18 +42,40 @@ none_down (f ∷ fs) h =
     both true b e g = cc
     both false b e g = g
 
-once_line : (s : Setting) (n1 : ℕ) (line : List LineAct) → IsSteadyLine s n1 line → IsOnceLine s n1 line
+-- a lawful line on which each connection is asked for once, of a modem that is prompt, and opens and closes nothing
+record IsPromptLine (s : Setting) (n1 : ℕ) (line : List LineAct) : Type 0 where
+  lawful : IsLawfulLine s n1 line
+  once : AsksOnce (wire (driver_past line))
+  steady : OpensAndClosesNothing (modem_past line)
+  prompt : IsPrompt (responding n1) (modem_past line)
+
+prompt_line_before : (s : Setting) (n1 : ℕ) (x : LineAct) (line : List LineAct) → IsPromptLine s n1 (x ∷ line) → IsPromptLine s n1 line
+prompt_line_before s n1 (AtDriver a) line h = record { lawful = lawful_before s n1 (AtDriver a) line h.lawful; once = once_before a (driver_past line) h.once; steady = h.steady; prompt = h.prompt }
+prompt_line_before s n1 (AtModem a) line h =
+    record { lawful = lawful_before s n1 (AtModem a) line h.lawful; once = h.once; steady = steady_before a (modem_past line) h.steady; prompt = prompt_before n1 a (modem_past line) h.prompt }
+
+once_line : (s : Setting) (n1 : ℕ) (line : List LineAct) → IsPromptLine s n1 line → IsOnceLine s n1 line
 once_line s n1 line h = record { lawful = h.lawful; once = h.once; stays = none_down (frames_sent (modem_past line)) h.steady }
 
-data_gated : (n1 : ℕ) (past : List station.Act) (f : Frame) → StationLawful (responding n1) (station.Sent f ∷ past) → is_data_frame f ≡ true → StationGated (responding n1) past f
+pub data_gated : (n1 : ℕ) (past : List station.Act) (f : Frame) → StationLawful (responding n1) (station.Sent f ∷ past) → is_data_frame f ≡ true → StationGated (responding n1) past f
 unfolding StationLawful Sends
 data_gated n1 past f l is = rw is at l.0
 
-modem_open : (s : Setting) (n1 : ℕ) (stamps : ℕ → Stamp) (f : Frame) (line : List LineAct) → IsSteadyLine s n1 (AtModem (station.Sent f) ∷ line) → is_unopened (captured stamps line) (caught (stamps (length (captured stamps line))) FromModem f) ≡ false
+-- the line so far wasn't lost where the modem sends data
+steady_so_far : (s : Setting) (n1 : ℕ) (f : Frame) (line : List LineAct) → IsPromptLine s n1 (AtModem (station.Sent f) ∷ line) → StationGated (responding n1) (modem_past line) f → IsSteadyLine s n1 line
+steady_so_far s n1 f line h gated =
+    let k = prompt_line_before s n1 (AtModem (station.Sent f)) line h in
+    record { lawful = k.lawful; once = k.once; steady = k.steady; prompt = k.prompt; live = turned (list_any is_loss (modem_past line)) gated.live }
+  where
+    turned : (b : Bool) → not b ≡ true → b ≡ false
+    turned false e = refl
+    turned true e = cc
+
+modem_open : (s : Setting) (n1 : ℕ) (stamps : ℕ → Stamp) (f : Frame) (line : List LineAct) → IsPromptLine s n1 (AtModem (station.Sent f) ∷ line) → is_unopened (captured stamps line) (caught (stamps (length (captured stamps line))) FromModem f) ≡ false
 modem_open s n1 stamps f line h =
     by_data (is_data_frame f) (is_open Responder f.dlci (own Responder (captured stamps line))) (is_in_doubt f.dlci (waiting Initiator (captured stamps line))) (λ is.
     let gated = data_gated n1 (modem_past line) f h.lawful.modem_lawful is in
-    let k = modem_line s n1 stamps line (steady_line_before s n1 (AtModem (station.Sent f)) line h) f.dlci in
+    let k = modem_line s n1 stamps line (steady_so_far s n1 f line h gated) f.dlci in
     is_there gated (k.opens gated.is_open))
   where
     is_there : StationGated (responding n1) (modem_past line) f → IsReady f.dlci (own Responder (captured stamps line)) (owed_frames (responding n1) (modem_past line)) → is_open Responder f.dlci (own Responder (captured stamps line)) ≡ true
@@ -66,8 +89,8 @@ modem_open s n1 stamps f line h =
 
 pub both_send_while_open : (s : Setting) (n1 : ℕ) (line : List LineAct) → BothSendWhileOpen s n1 line
 unfolding BothSendWhileOpen
-both_send_while_open s n1 line h once steady prompt live stamps most =
-    every (IsSteadyLine s n1) (λ x line k. steady_line_before s n1 x line k) Unopened most stamps
+both_send_while_open s n1 line h once steady prompt stamps most =
+    every (IsPromptLine s n1) (λ x line k. prompt_line_before s n1 x line k) Unopened most stamps
     (λ f line k. driver_open s n1 stamps f line (once_line s n1 (AtDriver (driver.Sent f) ∷ line) k))
     (λ f line k. modem_open s n1 stamps f line k)
-    line (record { lawful = h; once = once; steady = steady; prompt = prompt; live = live })
+    line (record { lawful = h; once = once; steady = steady; prompt = prompt })

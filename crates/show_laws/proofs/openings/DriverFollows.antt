@@ -76,7 +76,7 @@ off_sum : (a b : Bool) → a ≡ false → (a && b) ≡ false
 off_sum true b e = cc
 off_sum false b e = refl
 
-sent_closed : (d : ℕ) (f : Frame) (p : List Act) → open_at d p ≡ false → asked_at d p ≡ false → is_on Sabm d f ≡ false → (open_at d (Sent f ∷ p) ≡ false) × (asked_at d (Sent f ∷ p) ≡ false)
+pub sent_closed : (d : ℕ) (f : Frame) (p : List Act) → open_at d p ≡ false → asked_at d p ≡ false → is_on Sabm d f ≡ false → (open_at d (Sent f ∷ p) ≡ false) × (asked_at d (Sent f ∷ p) ≡ false)
 sent_closed d f p o a s = (
   off_sum (open_at d p) (not (ends (zero_at d p) d (Sent f))) o,
   both (is_on Sabm d f) (asked_at d p) (not (is_mode_frame_on d f || ends (zero_at d p) d (Sent f))) s a,

@@ -150,7 +150,7 @@ quiet_handled d g asks q (Some a) e none ending =
 -- ## The line
 
 -- while nothing but requests, ticks and the like happen no frame is owed
-none_owed : (u : Frame → Bool) (owing : List Act) → owes_frame owing ≡ false → sends u owing ≤ 0
+pub none_owed : (u : Frame → Bool) (owing : List Act) → owes_frame owing ≡ false → sends u owing ≤ 0
 none_owed u [] h = omega arith
 none_owed u (Sent f ∷ owing) h = cc
 none_owed u (Took q ∷ owing) h = none_owed u owing h
@@ -163,7 +163,7 @@ none_owed u (Held d ∷ owing) h = none_owed u owing h
 none_owed u (Freed d ∷ owing) h = none_owed u owing h
 none_owed u (Given ∷ owing) h = none_owed u owing h
 
-none_filtered : (t : Frame → Bool) (fs : List Frame) → filter t fs ≡ [] → many t fs ≤ 0
+pub none_filtered : (t : Frame → Bool) (fs : List Frame) → filter t fs ≡ [] → many t fs ≤ 0
 none_filtered t [] h = omega arith
 none_filtered t (f ∷ fs) h = by_test (t f) refl h (none_filtered t fs)
   where
@@ -221,7 +221,7 @@ FollowsAt s d stamps line =
     Follows d (wire (driver_past line)) (seen_by stamps line) (ending_owed s d (driver_past line)) (sabms_owed s d (driver_past line)) (uas_sent d line) (uas_got d (driver_past line))
 
 -- none of the modem's frames that wait is a CLD
-none_cld : (fs : List Frame) → list_any (brings_command cld) fs ≡ false → many (brings_command cld) fs ≤ 0
+pub none_cld : (fs : List Frame) → list_any (brings_command cld) fs ≡ false → many (brings_command cld) fs ≤ 0
 none_cld [] h = omega arith
 none_cld (f ∷ fs) h =
     let p = or_parts (brings_command cld f) (list_any (brings_command cld) fs) h in

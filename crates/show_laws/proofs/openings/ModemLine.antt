@@ -62,7 +62,7 @@ quiet_open_m d f past h =
     let n = no_mode d f h.mode in
     keep (is_on Sabm d f) ((d == 0) || zero_m d past) (open_m d past) (ends (zero_m d past) d (station.Got f)) n.sabm (ends_none (zero_m d past) d f n (no_mode 0 f h.mode_of_zero) h.no_cld)
 
-found_passes : (p : Frame → Bool) (asks : List Ask) (a : Ask) → find (λ x. p x.frame) asks ≡ Some a → p a.frame ≡ true
+pub found_passes : (p : Frame → Bool) (asks : List Ask) (a : Ask) → find (λ x. p x.frame) asks ≡ Some a → p a.frame ≡ true
 found_passes p [] a e = cc
 found_passes p (x ∷ asks) a e = by_test (p x.frame) refl e (found_passes p asks a)
   where

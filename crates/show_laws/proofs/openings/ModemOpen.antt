@@ -48,7 +48,7 @@ pub record IsSteadyLine (s : Setting) (n1 : ℕ) (line : List LineAct) : Type 0 
   pub prompt : IsPrompt (responding n1) (modem_past line)
   pub live : list_any is_loss (modem_past line) ≡ false
 
-steady_before : (a : station.Act) (past : List station.Act) → OpensAndClosesNothing (a ∷ past) → OpensAndClosesNothing past
+pub steady_before : (a : station.Act) (past : List station.Act) → OpensAndClosesNothing (a ∷ past) → OpensAndClosesNothing past
 steady_before (station.Sent f) past h = (or_parts (opens_or_closes f) (list_any opens_or_closes (frames_sent past)) h).1
 steady_before (station.Called c) past h = h
 steady_before (station.Got f) past h = h
@@ -56,7 +56,7 @@ steady_before station.Tick past h = h
 steady_before station.Lost past h = h
 steady_before station.Given past h = h
 
-prompt_before : (n1 : ℕ) (a : station.Act) (past : List station.Act) → IsPrompt (responding n1) (a ∷ past) → IsPrompt (responding n1) past
+pub prompt_before : (n1 : ℕ) (a : station.Act) (past : List station.Act) → IsPrompt (responding n1) (a ∷ past) → IsPrompt (responding n1) past
 prompt_before n1 (station.Sent f) past h = h
 prompt_before n1 (station.Given) past h = h
 prompt_before n1 (station.Called c) past h = h.1
@@ -73,7 +73,7 @@ steady_line_before s n1 (AtModem a) line h = record { lawful = lawful_before s n
 
 -- ## Counts
 
-none_asks : (d : ℕ) (fs : List Frame) → list_any opens_or_closes fs ≡ false → many (ask_on d) fs ≤ 0
+pub none_asks : (d : ℕ) (fs : List Frame) → list_any opens_or_closes fs ≡ false → many (ask_on d) fs ≤ 0
 none_asks d [] h = omega arith
 none_asks d (f ∷ fs) h =
     let p = or_parts (opens_or_closes f) (list_any opens_or_closes fs) h in
@@ -272,7 +272,7 @@ never_stops (a ∷ past) h =
 
 -- ## Below 0
 
-itself_zero : (z : Bool) (a : station.Act) (d : ℕ) → (d == 0) ≡ false → ends z d a ≡ false → ends z 0 a ≡ false
+pub itself_zero : (z : Bool) (a : station.Act) (d : ℕ) → (d == 0) ≡ false → ends z d a ≡ false → ends z 0 a ≡ false
 itself_zero z a d apart h =
     let p = or_parts (ends_itself z d a) (not (d == 0) && ends_itself z 0 a) h in
     let q : ends_itself z 0 a ≡ false = sym (ap (λ (b : Bool). not b && ends_itself z 0 a) apart) ∙ p.1 in
@@ -282,12 +282,12 @@ itself_zero z a d apart h =
     last true e = cc
     last false e = refl
 
-unended : (o e : Bool) → (o && not e) ≡ true → (o ≡ true) × (e ≡ false)
+pub unended : (o e : Bool) → (o && not e) ≡ true → (o ≡ true) × (e ≡ false)
 unended true false h = (refl, refl)
 unended true true h = cc
 unended false e h = cc
 
-kept_zero : (x z e : Bool) → z ≡ true → e ≡ false → (x || (z && not e)) ≡ true
+pub kept_zero : (x z e : Bool) → z ≡ true → e ≡ false → (x || (z && not e)) ≡ true
 kept_zero true z e h k = refl
 kept_zero false true false h k = refl
 kept_zero false true true h k = cc

@@ -20,7 +20,7 @@ use Rattle.show_laws.specs.Laws.{SendsWhileOpen}
 use Rattle.show_laws.proofs.lines.EveryFrame.{every_in}
 use Rattle.show_laws.proofs.openings.DriverOpen.{IsOnceLine, follows, once_line_before, seen_by}
 
-data_gated : (s : Setting) (past : List Act) (f : Frame) → Lawful s (Sent f ∷ past) → is_data_frame f ≡ true → Gated s past (owed s past) f
+pub data_gated : (s : Setting) (past : List Act) (f : Frame) → Lawful s (Sent f ∷ past) → is_data_frame f ≡ true → Gated s past (owed s past) f
 unfolding Lawful
 data_gated s past f l is = subst (λ (b : Bool). When b (Gated s past (owed s past) f)) is l.0.gated
 
