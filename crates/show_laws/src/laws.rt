@@ -3,6 +3,7 @@ ghost use Rattle.std.specs.Prelude.{ℕ, List};
 ghost use Rattle.modem_history.specs.Calls.{Setting};
 ghost use Rattle.show_laws.specs.Lines.{LineAct};
 ghost use Rattle.show_laws.specs.LineRows.{AreRight};
+ghost use Rattle.show_laws.specs.Talks.{FinishesTalk, TalksInTurn};
 ghost use Rattle.show_laws.specs.Laws.{AllSound, AnswersAll, AnswersAsks, BothSendWhileOpen, CarriesText, FitsN1, HeedsStops, NeverStopped, SendsWhileOpen};
 
 /// No frame between a driver that keeps its laws and a modem that keeps the responder's tables is judged an answer that nothing waits
@@ -63,6 +64,19 @@ pub fn frames()
 #[tactic(auto, using(crate::proofs::answered::NoneWaits::answers_all))]
 pub fn answered()
     ensures { (s : Setting) (n1 : ℕ) (line : List LineAct) → AnswersAll s n1 line }
+{}
+
+/// Of what is told of a line on which no connection is closed no command overlaps another one, and no final code answers nothing, where the
+/// modem offers final codes to commands alone.
+#[tactic(auto, using(crate::proofs::talks::InTurn::talks_in_turn))]
+pub fn talks()
+    ensures { (s : Setting) (n1 : ℕ) (line : List LineAct) → TalksInTurn s n1 line }
+{}
+
+/// There no command is left without an answer, where each that came has its final code.
+#[tactic(auto, using(crate::proofs::talks::InTurn::finishes_talk))]
+pub fn talks_end()
+    ensures { (s : Setting) (n1 : ℕ) (line : List LineAct) → FinishesTalk s n1 line }
 {}
 
 /// Worked lines that are lawful, on which no frame is judged wrong and nothing is left unanswered: a command and a stop, which meets all that
