@@ -8,5 +8,4 @@ pub mod StopsBehindUa
 pub mod StopsBehindSabm
 pub mod SeenStops
 pub mod SinceOpening
-pub mod OpenBelowZero
 pub mod NoneUnstopped

@@ -18,9 +18,9 @@ use Rattle.modem_history.specs.Acts.{wire}
 use Rattle.modem_history.specs.Calls.{Setting}
 use Rattle.modem_history.specs.Connections.{info_got, info_sent, information_got}
 use Rattle.modem_history.specs.TwoEnds.{AsksOnce, TakesCommandLines, frames_got, frames_sent}
+use Rattle.modem_show.specs.Asking.{is_mode_command}
 use Rattle.modem_show.specs.declared.told.Told.{Told}
 use Rattle.modem_show.specs.Talking.{is_unfinished, is_unprompted, overlaps, told_in}
-use Rattle.show_laws.specs.Laws.{OpensAndClosesNothing}
 use Rattle.show_laws.specs.Lines.{IsLawfulLine, LineAct, captured, driver_past, modem_past}
 
 -- ## Who answers what
@@ -52,6 +52,13 @@ closes f = is_kind f.kind Disc || brings_command cld f
 
 abbrev pub ClosesNothing : List station.Act → Type 0
 ClosesNothing past = list_any closes (frames_sent past) ≡ false
+
+-- no SABM, DISC or CLD was sent
+abbrev pub opens_or_closes : Frame → Bool
+opens_or_closes f = is_mode_command f || brings_command cld f
+
+abbrev pub OpensAndClosesNothing : List station.Act → Type 0
+OpensAndClosesNothing past = list_any opens_or_closes (frames_sent past) ≡ false
 
 -- A lawful line on which the driver asks for each connection once at most, neither end closes any, and the modem opens none. The driver
 -- is given command lines, and no command line is a final code of its dialect. The modem answers commands alone.

@@ -27,15 +27,13 @@ pub fn texts()
     ensures { (s : Setting) (n1 : ℕ) (line : List LineAct) → CarriesText s n1 line }
 {}
 
-/// No data of the driver is judged to be on a connection that isn't open, where the driver asks for each connection once at most and the
-/// modem sends no CLD.
+/// No data of the driver is judged to be on a connection that isn't open, where the driver asks for each connection once at most.
 #[tactic(auto, using(crate::proofs::openings::NoneUnopened::sends_while_open))]
 pub fn openings()
     ensures { (s : Setting) (n1 : ℕ) (line : List LineAct) → SendsWhileOpen s n1 line }
 {}
 
-/// No data of either end is judged so where, beyond this, the modem does at once what each act calls for, and sends no SABM, DISC or CLD of its
-/// own.
+/// No data of either end is judged so where, beyond this, the modem does at once what each act calls for, and sends no SABM of its own.
 #[tactic(auto, using(crate::proofs::openings::BothOpen::both_send_while_open))]
 pub fn openings_of_both()
     ensures { (s : Setting) (n1 : ℕ) (line : List LineAct) → BothSendWhileOpen s n1 line }

@@ -11,7 +11,7 @@ use Rattle.modem_desk.specs.declared.request.Ask.{Ask}
 use Rattle.modem_desk.specs.declared.request.Ask.TheVariants.{OpenChannel, CloseChannel, Command, Probe, Stop}
 use Rattle.modem_history.specs.Acts.{Act, Took, Got, Sent, Told, Heard, Tick, Lost, Held, Freed, Given, wire}
 use Rattle.modem_history.specs.Calls.{Setting, HistoryView, asking, at_once, calls_behind, calls_seeing, frames, frames_by, lines_said, said_at_once, seen_behind, states_now, tolds}
-use Rattle.modem_history.specs.Lawful.{Gated, IsNext, Lawful, When, owed, unsent}
+use Rattle.modem_history.specs.Lawful.{Gated, IsNext, Lawful, When, owed, owes_frame, unsent}
 use Rattle.modem_history.specs.TwoEnds.{frames_got, frames_sent}
 use Rattle.modem_history.proofs.calls.CalledActs.{Deliveries, spoken}
 use Rattle.show_laws.proofs.counts.ManyFrames.{few_if, many, many_both, none_one, unit}
@@ -84,6 +84,20 @@ unsent_none u (Lost ∷ acts) = unsent_none u acts
 unsent_none u (Held d ∷ acts) = unsent_none u acts
 unsent_none u (Freed d ∷ acts) = unsent_none u acts
 unsent_none u (Given ∷ acts) = unsent_none u acts
+
+-- while nothing but requests, ticks and the like happen no frame is owed
+pub none_owed : (u : Frame → Bool) (owing : List Act) → owes_frame owing ≡ false → sends u owing ≤ 0
+none_owed u [] h = omega arith
+none_owed u (Sent f ∷ owing) h = cc
+none_owed u (Took q ∷ owing) h = none_owed u owing h
+none_owed u (Got f ∷ owing) h = none_owed u owing h
+none_owed u (Told o ∷ owing) h = none_owed u owing h
+none_owed u (Heard k d l ∷ owing) h = none_owed u owing h
+none_owed u (Tick ∷ owing) h = none_owed u owing h
+none_owed u (Lost ∷ owing) h = none_owed u owing h
+none_owed u (Held d ∷ owing) h = none_owed u owing h
+none_owed u (Freed d ∷ owing) h = none_owed u owing h
+none_owed u (Given ∷ owing) h = none_owed u owing h
 
 pub dropped : (u : Frame → Bool) (acts : List Act) → sends u (drop 1 acts) ≤ sends u acts
 dropped u [] = omega arith

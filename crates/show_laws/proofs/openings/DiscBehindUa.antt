@@ -101,7 +101,7 @@ asked_disc s v q d true e (CloseChannel c) is open_there h =
 
 -- ## The past
 
-disc_never : (d : ℕ) (r : Role) (state : ℕ → State) (f : Frame) → many (discs d) (by_frame r state f) ≤ 0
+pub disc_never : (d : ℕ) (r : Role) (state : ℕ → State) (f : Frame) → many (discs d) (by_frame r state f) ≤ 0
 disc_never d r state f =
     let e = modes_few (discs d) (λ n. false) (record { uih = λ q e info. refl; answer = λ q e b. either q e b }) r state f in
     let z = none (is_kind f.kind Sabm || is_kind f.kind Disc) in

@@ -35,7 +35,7 @@ use Rattle.show_laws.proofs.asks.WaitingAsks.{frames_of}
 use Rattle.show_laws.proofs.lines.CapturedFrames.{shows}
 use Rattle.show_laws.proofs.lines.EveryFrame.{over}
 use Rattle.show_laws.proofs.openings.ModemOpen.{above}
-use Rattle.show_laws.proofs.stops.OpenBelowZero.{open_below}
+use Rattle.show_laws.proofs.openings.OpenBelowZero.{open_below}
 use Rattle.show_laws.proofs.talks.SilentChannels.{Under, UnderM, carried_data, nothing_more}
 use Rattle.show_laws.proofs.talks.TalkingLines.{driver_afresh, driver_close_never, modem_afresh, modem_close_never, talking_before}
 use Rattle.show_laws.proofs.talks.TextBounds.{driver_bound, modem_bound}

@@ -21,7 +21,8 @@ use Rattle.modem_history.proofs.lines.HeardLines.{opens_bare}
 use Rattle.show_laws.specs.Lines.{AtDriver, AtModem, LineAct, driver_past, modem_past, responding}
 use Rattle.show_laws.proofs.counts.ManyFrames.{many, unit}
 use Rattle.show_laws.proofs.lines.CapturedFrames.{both_ways}
-use Rattle.show_laws.proofs.openings.AskedLines.{IsAskedLine, asked_line_before, waits_for_ua}
+use Rattle.show_laws.proofs.openings.AskedLines.{waits_for_ua}
+use Rattle.show_laws.proofs.openings.DriverOpen.{IsOnceLine, once_line_before}
 use Rattle.show_laws.proofs.openings.QuietFrames.{asked_at}
 use Rattle.show_laws.proofs.stops.SinceOpening.{open_before}
 use Rattle.show_laws.proofs.talks.SilentChannels.{before_sabm_m, first_before_ua, nothing_more}
@@ -105,16 +106,16 @@ given_is d past = given_acts d (since Responder d past)
 
 -- ## The driver
 
-pub driver_got_all : (s : Setting) (n1 d : ℕ) (line : List LineAct) → IsAskedLine s n1 line → is_open Initiator d (wire (driver_past line)) ≡ true → information_got Initiator d (wire (driver_past line)) ≡ info_in d (frames_got (wire (driver_past line)))
+pub driver_got_all : (s : Setting) (n1 d : ℕ) (line : List LineAct) → IsOnceLine s n1 line → is_open Initiator d (wire (driver_past line)) ≡ true → information_got Initiator d (wire (driver_past line)) ≡ info_in d (frames_got (wire (driver_past line)))
 driver_got_all s n1 d [] h o = cc
-driver_got_all s n1 d (AtModem a ∷ line) h o = driver_got_all s n1 d line (asked_line_before s n1 (AtModem a) line h) o
+driver_got_all s n1 d (AtModem a ∷ line) h o = driver_got_all s n1 d line (once_line_before s n1 (AtModem a) line h) o
 driver_got_all s n1 d (AtDriver (driver.Got f) ∷ line) h o = by_opens (opens_now Initiator d p (station.Got f)) refl (λ k. driver_got_all s n1 d line older k)
   where
     p : List station.Act
     p = wire (driver_past line)
 
-    older : IsAskedLine s n1 line
-    older = asked_line_before s n1 (AtDriver (driver.Got f)) line h
+    older : IsOnceLine s n1 line
+    older = once_line_before s n1 (AtDriver (driver.Got f)) line h
 
     either : (b : Bool) → (if b && true then information_got Initiator d p ++ f.info else information_got Initiator d p) ≡ (if b then information_got Initiator d p ++ f.info else information_got Initiator d p)
     either true = refl
@@ -136,18 +137,18 @@ driver_got_all s n1 d (AtDriver (driver.Got f) ∷ line) h o = by_opens (opens_n
         ∙ (either (carries d f) ∙ more_text d f (frames_got p) (information_got Initiator d p) (carries d f) refl (rest before))))
 driver_got_all s n1 d (AtDriver (driver.Sent f) ∷ line) h o =
     let p = wire (driver_past line) in
-    got_same Initiator d p (station.Sent f) refl ∙ driver_got_all s n1 d line (asked_line_before s n1 (AtDriver (driver.Sent f)) line h) (open_before Initiator d p (station.Sent f) refl o)
+    got_same Initiator d p (station.Sent f) refl ∙ driver_got_all s n1 d line (once_line_before s n1 (AtDriver (driver.Sent f)) line h) (open_before Initiator d p (station.Sent f) refl o)
 driver_got_all s n1 d (AtDriver driver.Tick ∷ line) h o =
     let p = wire (driver_past line) in
-    got_same Initiator d p station.Tick refl ∙ driver_got_all s n1 d line (asked_line_before s n1 (AtDriver driver.Tick) line h) (open_before Initiator d p station.Tick refl o)
+    got_same Initiator d p station.Tick refl ∙ driver_got_all s n1 d line (once_line_before s n1 (AtDriver driver.Tick) line h) (open_before Initiator d p station.Tick refl o)
 driver_got_all s n1 d (AtDriver driver.Lost ∷ line) h o =
     let p = wire (driver_past line) in
-    got_same Initiator d p station.Lost refl ∙ driver_got_all s n1 d line (asked_line_before s n1 (AtDriver driver.Lost) line h) (open_before Initiator d p station.Lost refl o)
+    got_same Initiator d p station.Lost refl ∙ driver_got_all s n1 d line (once_line_before s n1 (AtDriver driver.Lost) line h) (open_before Initiator d p station.Lost refl o)
 driver_got_all s n1 d (AtDriver driver.Given ∷ line) h o =
     let p = wire (driver_past line) in
-    got_same Initiator d p station.Given refl ∙ driver_got_all s n1 d line (asked_line_before s n1 (AtDriver driver.Given) line h) (open_before Initiator d p station.Given refl o)
-driver_got_all s n1 d (AtDriver (driver.Took q) ∷ line) h o = driver_got_all s n1 d line (asked_line_before s n1 (AtDriver (driver.Took q)) line h) o
-driver_got_all s n1 d (AtDriver (driver.Told x) ∷ line) h o = driver_got_all s n1 d line (asked_line_before s n1 (AtDriver (driver.Told x)) line h) o
-driver_got_all s n1 d (AtDriver (driver.Heard u e l) ∷ line) h o = driver_got_all s n1 d line (asked_line_before s n1 (AtDriver (driver.Heard u e l)) line h) o
-driver_got_all s n1 d (AtDriver (driver.Held e) ∷ line) h o = driver_got_all s n1 d line (asked_line_before s n1 (AtDriver (driver.Held e)) line h) o
-driver_got_all s n1 d (AtDriver (driver.Freed e) ∷ line) h o = driver_got_all s n1 d line (asked_line_before s n1 (AtDriver (driver.Freed e)) line h) o
+    got_same Initiator d p station.Given refl ∙ driver_got_all s n1 d line (once_line_before s n1 (AtDriver driver.Given) line h) (open_before Initiator d p station.Given refl o)
+driver_got_all s n1 d (AtDriver (driver.Took q) ∷ line) h o = driver_got_all s n1 d line (once_line_before s n1 (AtDriver (driver.Took q)) line h) o
+driver_got_all s n1 d (AtDriver (driver.Told x) ∷ line) h o = driver_got_all s n1 d line (once_line_before s n1 (AtDriver (driver.Told x)) line h) o
+driver_got_all s n1 d (AtDriver (driver.Heard u e l) ∷ line) h o = driver_got_all s n1 d line (once_line_before s n1 (AtDriver (driver.Heard u e l)) line h) o
+driver_got_all s n1 d (AtDriver (driver.Held e) ∷ line) h o = driver_got_all s n1 d line (once_line_before s n1 (AtDriver (driver.Held e)) line h) o
+driver_got_all s n1 d (AtDriver (driver.Freed e) ∷ line) h o = driver_got_all s n1 d line (once_line_before s n1 (AtDriver (driver.Freed e)) line h) o

@@ -23,8 +23,7 @@ use Rattle.modem_history.proofs.commands.FramesOnLine.{asked_first, info_in}
 use Rattle.modem_show.specs.Asking.{Ask, answered_by, answers, both_respond, is_answer, is_mode_answer, is_mode_command, message_answers, message_asks, responds, waiting}
 use Rattle.modem_show.specs.Talking.{closes_all, is_close, is_turn_on, starts_afresh}
 use Rattle.show_laws.specs.Lines.{AtDriver, AtModem, LineAct, captured, driver_past, modem_past, responding}
-use Rattle.show_laws.specs.Laws.{opens_or_closes}
-use Rattle.show_laws.specs.Talks.{AnswersCommands, AnswersNoMore, ClosesNothing, IsTalkingLine, closes}
+use Rattle.show_laws.specs.Talks.{AnswersCommands, AnswersNoMore, ClosesNothing, IsTalkingLine, OpensAndClosesNothing, closes, opens_or_closes}
 use Rattle.show_laws.proofs.asks.AnswerShapes.{is_alike, is_shaped, message_no_mode, one_response, or_elim, response_octet, shaped_message}
 use Rattle.show_laws.proofs.asks.AnswersCalled.{AnyProbe, answers_balanced}
 use Rattle.show_laws.proofs.asks.NoneUnasked.{any_probes, driver_shaped, modem_shaped, self_alike}
@@ -34,11 +33,10 @@ use Rattle.show_laws.proofs.counts.DriverCounts.{driver_sends}
 use Rattle.show_laws.proofs.counts.StationCounts.{station_sends}
 use Rattle.show_laws.proofs.lines.CapturedFrames.{both_ways, came_few, shows}
 use Rattle.show_laws.proofs.lines.EveryFrame.{lawful_before}
-use Rattle.show_laws.proofs.openings.BothOpen.{none_down}
 use Rattle.show_laws.proofs.openings.DiscBehindUa.{once_many}
-use Rattle.show_laws.proofs.openings.DriverOpen.{found_one, none_cld, none_filtered, once_before, waiting_few}
+use Rattle.show_laws.proofs.openings.DriverOpen.{found_one, none_filtered, once_before, waiting_few}
 use Rattle.show_laws.proofs.openings.ModemFollows.{answer_on, ask_on, uas_fewer}
-use Rattle.show_laws.proofs.openings.ModemOpen.{asks_parts, none_asks, steady_before}
+use Rattle.show_laws.proofs.openings.ModemOpen.{asks_parts}
 use Rattle.show_laws.proofs.openings.ResponderCalls.{answer_balanced}
 use Rattle.show_laws.proofs.talks.SilentChannels.{Under, UnderM, before_sabm, before_sabm_m, before_ua, before_ua_m}
 use Rattle.show_laws.proofs.texts.NoneAstray.{commands_before}
@@ -56,6 +54,15 @@ stays_before driver.Lost past h = h
 stays_before (driver.Held d) past h = h
 stays_before (driver.Freed d) past h = h
 stays_before driver.Given past h = h
+
+steady_before : (a : station.Act) (past : List station.Act) → OpensAndClosesNothing (a ∷ past) → OpensAndClosesNothing past
+steady_before (station.Sent f) past h = (or_parts (opens_or_closes f) (list_any opens_or_closes (frames_sent past)) h).1
+steady_before (station.Called c) past h = h
+steady_before (station.Got f) past h = h
+steady_before station.Tick past h = h
+steady_before station.Lost past h = h
+steady_before station.Given past h = h
+
 
 pub talking_before : (s : Setting) (n1 : ℕ) (x : LineAct) (line : List LineAct) → IsTalkingLine s n1 (x ∷ line) → IsTalkingLine s n1 line
 talking_before s n1 (AtDriver a) line h = record {
@@ -82,6 +89,38 @@ answers_now dialect [] h = λ d. omega arith
 answers_now dialect (a ∷ past) h = h.0
 
 -- ## What wasn't sent
+
+none_asks : (d : ℕ) (fs : List Frame) → list_any opens_or_closes fs ≡ false → many (ask_on d) fs ≤ 0
+none_asks d [] h = omega arith
+none_asks d (f ∷ fs) h =
+    let p = or_parts (opens_or_closes f) (list_any opens_or_closes fs) h in
+    let q = or_parts (is_mode_command f) (brings_command cld f) p.0 in
+    let x : unit (ask_on d f) ≡ 0 = ap unit (off (is_mode_command f) (f.dlci == d) q.0) in
+    let y = none_asks d fs p.1 in
+    omega (arith, x, y)
+  where
+    off : (a b : Bool) → a ≡ false → (a && b) ≡ false
+    off true b e = cc
+    off false b e = refl
+
+none_down : (fs : List Frame) → list_any opens_or_closes fs ≡ false → list_any (brings_command cld) fs ≡ false
+none_down [] h = refl
+none_down (f ∷ fs) h =
+    let p = or_parts (opens_or_closes f) (list_any opens_or_closes fs) h in
+    both (brings_command cld f) (list_any (brings_command cld) fs) (or_parts (is_mode_command f) (brings_command cld f) p.0).1 (none_down fs p.1)
+  where
+    both : (a b : Bool) → a ≡ false → b ≡ false → (a || b) ≡ false
+    both true b e g = cc
+    both false b e g = g
+
+-- none of the modem's frames that wait is a CLD
+none_cld : (fs : List Frame) → list_any (brings_command cld) fs ≡ false → many (brings_command cld) fs ≤ 0
+none_cld [] h = omega arith
+none_cld (f ∷ fs) h =
+    let p = or_parts (brings_command cld f) (list_any (brings_command cld) fs) h in
+    let x : unit (brings_command cld f) ≡ 0 = ap unit p.0 in
+    let y = none_cld fs p.1 in
+    omega (arith, x, y)
 
 pub none_by : (t p : Frame → Bool) → ((f : Frame) → t f ≡ false → p f ≡ false) → (fs : List Frame) → list_any t fs ≡ false → many p fs ≤ 0
 none_by t p k [] h = omega arith

@@ -36,14 +36,14 @@ use Rattle.modem_history.proofs.lines.MarkPlaces.{are_placed}
 use Rattle.show_laws.specs.Lines.{AtDriver, AtModem, LineAct, driver_past, modem_past}
 use Rattle.show_laws.specs.Talks.{IsTalkingLine, commands_in, finals_in}
 use Rattle.show_laws.proofs.lines.CapturedFrames.{both_ways, came_few}
-use Rattle.show_laws.proofs.openings.AskedLines.{IsAskedLine}
+use Rattle.show_laws.proofs.openings.DriverOpen.{IsOnceLine}
 use Rattle.show_laws.proofs.openings.BothOpen as modem_data
 use Rattle.show_laws.proofs.openings.DiscBehindUa.{once_many}
 use Rattle.show_laws.proofs.talks.CountedLines.{answered_few, commands_few, commands_first, finals_first}
 use Rattle.show_laws.proofs.talks.SentText.{driver_got_all, given_is, modem_sent_all}
 use Rattle.show_laws.proofs.talks.TalkingLines.{answers_now, talking_before}
 
-asked_line : (s : Setting) (n1 : ℕ) (line : List LineAct) → IsTalkingLine s n1 line → IsAskedLine s n1 line
+asked_line : (s : Setting) (n1 : ℕ) (line : List LineAct) → IsTalkingLine s n1 line → IsOnceLine s n1 line
 asked_line s n1 line h = record { lawful = h.lawful; once = h.once }
 
 -- the information of the first frames is the beginning of that of all

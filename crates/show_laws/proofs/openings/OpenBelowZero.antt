@@ -26,22 +26,20 @@ use Rattle.modem_history.specs.Lawful.{IsNext, Lawful, When, owed, owes_frame, u
 use Rattle.show_laws.proofs.asks.AnswerShapes.{or_elim}
 use Rattle.show_laws.proofs.counts.ManyFrames.{few_if, many, many_both, none_one, unit}
 use Rattle.show_laws.proofs.counts.BalancedTables.{tick_none}
-use Rattle.show_laws.proofs.counts.DriverCounts.{called, dropped, sends, sends_both, unsent_none}
+use Rattle.show_laws.proofs.counts.DriverCounts.{called, dropped, none_owed, sends, sends_both, unsent_none}
 use Rattle.show_laws.proofs.openings.DiscBehindUa.{discs, one_of, same_place, tick_disc}
-use Rattle.show_laws.proofs.openings.DriverOpen.{none_owed}
 use Rattle.show_laws.proofs.openings.ModeAnswers.{sabm_never}
-use Rattle.show_laws.proofs.openings.ModemOpen.{itself_zero, kept_zero, unended}
-use Rattle.show_laws.proofs.openings.QuietFrames.{EndsNone, asked_at, ends_none, open_at, zero_at}
+use Rattle.show_laws.proofs.openings.QuietFrames.{EndsNone, asked_at, ends_none, itself_zero, kept_zero, open_at, unended, zero_at}
 use Rattle.show_laws.proofs.openings.UaBehindSabm.{none_of}
 
 -- the frame ends 0 where it is sent
-abbrev ends_zero : Frame → Bool
+abbrev pub ends_zero : Frame → Bool
 ends_zero f = is_on Disc 0 f || brings_command cld f
 
 -- Where d is open or asked for, 0 is open. So it is where a SABM on d is owed, and then nothing is that ends 0.
-record Below (s : Setting) (d : ℕ) (past : List Act) : Type 0 where
-  up : (open_at d (wire past) || asked_at d (wire past)) ≡ true → zero_at d (wire past) ≡ true
-  owes : 1 ≤ sends (is_on Sabm d) (owed s past) → (zero_at d (wire past) ≡ true) × (sends ends_zero (owed s past) ≤ 0)
+pub record Below (s : Setting) (d : ℕ) (past : List Act) : Type 0 where
+  pub up : (open_at d (wire past) || asked_at d (wire past)) ≡ true → zero_at d (wire past) ≡ true
+  pub owes : 1 ≤ sends (is_on Sabm d) (owed s past) → (zero_at d (wire past) ≡ true) × (sends ends_zero (owed s past) ≤ 0)
 
 -- ## One act of the station
 
@@ -100,7 +98,7 @@ sent_ends z f h = or_from (ends_zero f) false h refl
 
 -- ## What is owed
 
-many_or : (a b : Frame → Bool) (fs : List Frame) → many (λ f. a f || b f) fs ≤ many a fs + many b fs
+pub many_or : (a b : Frame → Bool) (fs : List Frame) → many (λ f. a f || b f) fs ≤ many a fs + many b fs
 many_or a b [] = omega arith
 many_or a b (f ∷ fs) = let x = one (a f) (b f) in let y = many_or a b fs in omega (arith, x, y)
   where
@@ -108,7 +106,7 @@ many_or a b (f ∷ fs) = let x = one (a f) (b f) in let y = many_or a b fs in om
     one true q = omega arith
     one false q = omega arith
 
-none_when : (n : ℕ) → (1 ≤ n → ⊥) → n ≤ 0
+pub none_when : (n : ℕ) → (1 ≤ n → ⊥) → n ≤ 0
 none_when zero h = omega arith
 none_when (suc n) h = absurd (h (omega arith))
 
@@ -254,7 +252,7 @@ told_below s d past h some =
     let few = k.1 in
     (k.0, omega (arith, few, y))
 
-below : (s : Setting) (d : ℕ) (past : List Act) → s.role ≡ Initiator → (d == 0) ≡ false → Lawful s past → Below s d past
+pub below : (s : Setting) (d : ℕ) (past : List Act) → s.role ≡ Initiator → (d == 0) ≡ false → Lawful s past → Below s d past
 unfolding Lawful
 below s d [] is apart l = record { up = λ w. cc; owes = λ some. absurd (omega (arith, some)) }
 below s d (Sent f ∷ past) is apart l = sent_below s d past f (is_data_frame f) apart refl l.0.controlled (below s d past is apart l.1)
