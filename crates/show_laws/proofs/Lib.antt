@@ -8,3 +8,4 @@ pub mod rows
 pub mod answered
 pub mod stops
 pub mod sound
+pub mod talks
