@@ -16,3 +16,4 @@ pub mod ModemOpen
 pub mod ModemLine
 pub mod BothOpen
 pub mod AskedLines
+pub mod ClosersBehindSabm

@@ -3,6 +3,7 @@ pub mod CountedLines
 pub mod ToldLines
 pub mod SilentChannels
 pub mod SentText
+pub mod EndedLines
 pub mod TalkingLines
 pub mod TextFits
 pub mod TextBounds

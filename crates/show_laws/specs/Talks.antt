@@ -1,16 +1,12 @@
 -- What the lines say that pass on a lawful line (V.250, 5.2, 5.7): no command overlaps another one, no final code answers nothing.
-use Rattle.std.specs.Prelude.{◌≡◌, ℕ, ◌≤◌, ◌||◌, Bool, true, false, List, [], ◌∷◌, ◌++◌, length, filter, is_none}
+use Rattle.std.specs.Prelude.{◌≡◌, ℕ, ◌≤◌, Bool, true, false, List, [], ◌∷◌, ◌++◌, length, filter, is_none}
 use Rattle.std.specs.List.{list_any}
-use Rattle.mux_frame.specs.Frames.{Frame}
 use Rattle.mux_frame.specs.declared.dlci.Dlci.{Dlci}
-use Rattle.mux_frame.specs.declared.frame.Kind.TheVariants.{Disc}
 use Rattle.mux_capture.specs.declared.packet.Stamp.{Stamp}
 use Rattle.mux_capture.specs.Passing.{Caught}
 use Rattle.mux_station.specs.declared.role.Role.TheVariants.{Responder}
 use Rattle.mux_station.specs.Acts as station
-use Rattle.mux_station.specs.Messages.{brings_command, cld}
 use Rattle.mux_station.specs.Offering.{offered}
-use Rattle.mux_station.specs.Written.{is_kind}
 use Rattle.at_text.specs.Commands.{refusal_of}
 use Rattle.at_text.specs.Dialects.{Dialect, is_solicited}
 use Rattle.at_text.specs.Lines.{lines}
@@ -18,9 +14,9 @@ use Rattle.modem_history.specs.Acts.{wire}
 use Rattle.modem_history.specs.Calls.{Setting}
 use Rattle.modem_history.specs.Connections.{info_got, info_sent, information_got}
 use Rattle.modem_history.specs.TwoEnds.{AsksOnce, TakesCommandLines, frames_got, frames_sent}
-use Rattle.modem_show.specs.Asking.{is_mode_command}
 use Rattle.modem_show.specs.declared.told.Told.{Told}
 use Rattle.modem_show.specs.Talking.{is_unfinished, is_unprompted, overlaps, told_in}
+use Rattle.show_laws.specs.Laws.{OpensNothing}
 use Rattle.show_laws.specs.Lines.{IsLawfulLine, LineAct, captured, driver_past, modem_past}
 
 -- ## Who answers what
@@ -46,27 +42,12 @@ AnswersCommands dialect (a ∷ past) = AnswersNoMore dialect (a ∷ past) × Ans
 abbrev pub TellsApart : Dialect → Type 0
 TellsApart dialect = (l : List ℕ) → is_none (refusal_of l) ≡ true → dialect.is_final l ≡ false
 
--- no DISC and no CLD was sent
-abbrev pub closes : Frame → Bool
-closes f = is_kind f.kind Disc || brings_command cld f
-
-abbrev pub ClosesNothing : List station.Act → Type 0
-ClosesNothing past = list_any closes (frames_sent past) ≡ false
-
--- no SABM, DISC or CLD was sent
-abbrev pub opens_or_closes : Frame → Bool
-opens_or_closes f = is_mode_command f || brings_command cld f
-
-abbrev pub OpensAndClosesNothing : List station.Act → Type 0
-OpensAndClosesNothing past = list_any opens_or_closes (frames_sent past) ≡ false
-
--- A lawful line on which the driver asks for each connection once at most, neither end closes any, and the modem opens none. The driver
--- is given command lines, and no command line is a final code of its dialect. The modem answers commands alone.
+-- A lawful line on which the driver asks for each connection once at most, and the modem opens none. The driver is given command lines, and
+-- no command line is a final code of its dialect. The modem answers commands alone.
 pub record IsTalkingLine (s : Setting) (n1 : ℕ) (line : List LineAct) : Type 0 where
   pub lawful : IsLawfulLine s n1 line
   pub once : AsksOnce (wire (driver_past line))
-  pub stays : ClosesNothing (wire (driver_past line))
-  pub steady : OpensAndClosesNothing (modem_past line)
+  pub opens_none : OpensNothing (modem_past line)
   pub commands : TakesCommandLines (driver_past line)
   pub apart : TellsApart s.dialect
   pub answers : AnswersCommands s.dialect (modem_past line)

@@ -41,7 +41,7 @@ record IsPromptLine (s : Setting) (n1 : ℕ) (line : List LineAct) : Type 0 wher
   opens_none : OpensNothing (modem_past line)
   prompt : IsPrompt (responding n1) (modem_past line)
 
-opens_before : (a : station.Act) (past : List station.Act) → OpensNothing (a ∷ past) → OpensNothing past
+pub opens_before : (a : station.Act) (past : List station.Act) → OpensNothing (a ∷ past) → OpensNothing past
 opens_before (station.Sent f) past h = (or_parts (is_kind f.kind Sabm) (list_any (λ g. is_kind g.kind Sabm) (frames_sent past)) h).1
 opens_before (station.Called c) past h = h
 opens_before (station.Got f) past h = h
@@ -58,7 +58,7 @@ prompt_line_before s n1 (AtModem a) line h =
 once_line : (s : Setting) (n1 : ℕ) (line : List LineAct) → IsPromptLine s n1 line → IsOnceLine s n1 line
 once_line s n1 line h = record { lawful = h.lawful; once = h.once }
 
-no_sabms : (e : ℕ) (fs : List Frame) → list_any (λ g. is_kind g.kind Sabm) fs ≡ false → many (is_on Sabm e) fs ≤ 0
+pub no_sabms : (e : ℕ) (fs : List Frame) → list_any (λ g. is_kind g.kind Sabm) fs ≡ false → many (is_on Sabm e) fs ≤ 0
 no_sabms e [] h = omega arith
 no_sabms e (f ∷ fs) h =
     let p = or_parts (is_kind f.kind Sabm) (list_any (λ g. is_kind g.kind Sabm) fs) h in

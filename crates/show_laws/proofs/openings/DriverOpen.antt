@@ -218,7 +218,7 @@ level s n1 d f line h is =
     let none = ua_behind n1 d (modem_past line) h.lawful.modem_lawful (omega (arith, first, came)) in
     omega (arith, none)
 
-sent_counts : (s : Setting) (d : ℕ) (u t : Frame → Bool) (past : List Act) (f : Frame) (b : Bool) → is_data_frame f ≡ b → (b ≡ true → u f ≡ false) → When (not b) (IsNext (owed s past) (Sent f))
+pub sent_counts : (s : Setting) (d : ℕ) (u t : Frame → Bool) (past : List Act) (f : Frame) (b : Bool) → is_data_frame f ≡ b → (b ≡ true → u f ≡ false) → When (not b) (IsNext (owed s past) (Sent f))
     → sends u (if b then owed s past else drop 1 (owed s past)) + unit (u f) ≤ sends u (owed s past)
 sent_counts s d u t past f true is plain n = let e : unit (u f) ≡ 0 = ap unit (plain refl) in omega (arith, e)
 sent_counts s d u t past f false is plain n =
@@ -233,7 +233,7 @@ data_no_sabm Ua x h = cc
 data_no_sabm Dm x h = cc
 data_no_sabm Disc x h = cc
 
-data_no_ending : (k : Kind) (x y c : Bool) → is_kind k Uih ≡ true → y ≡ false → (((is_kind k Ua || is_kind k Dm) && x) || ((is_kind k Uih && y) && c)) ≡ false
+pub data_no_ending : (k : Kind) (x y c : Bool) → is_kind k Uih ≡ true → y ≡ false → (((is_kind k Ua || is_kind k Dm) && x) || ((is_kind k Uih && y) && c)) ≡ false
 data_no_ending Uih x true c h e = cc
 data_no_ending Uih x false c h e = refl
 data_no_ending Sabm x y c h e = cc

@@ -1,12 +1,12 @@
 -- A responder that sends no SABM has sent nothing that closes a connection while that is open, where it was asked for once.
-use Rattle.std.specs.Prelude.{◌≡◌, zero, ℕ, ◌+◌, ◌*◌, ◌==◌, ◌≤◌, ◌&&◌, ◌||◌, not, Bool, true, false, List, [], ◌∷◌, ◌++◌, drop, Option, Some, None, refl, is_none, if◌then◌else◌}
+use Rattle.std.specs.Prelude.{◌≡◌, ℕ, ◌+◌, ◌*◌, ◌==◌, ◌≤◌, ◌&&◌, ◌||◌, not, Bool, true, false, List, [], ◌∷◌, ◌++◌, drop, Option, Some, None, refl, is_none, if◌then◌else◌}
 use Rattle.std.proofs.Common.{ap, arith, sym, ◌∙◌, subst, eqb-true}
 use Rattle.std.proofs.lemmas.Bool.{and_parts, or_from, or_parts}
 use Rattle.mux_frame.specs.Frames.{Frame}
 use Rattle.mux_frame.specs.declared.frame.Kind.{Kind}
 use Rattle.mux_frame.specs.declared.frame.Kind.TheVariants.{Sabm, Ua, Dm, Disc, Uih}
 use Rattle.mux_station.specs.declared.role.Role.{Role}
-use Rattle.mux_station.specs.declared.role.Role.TheVariants.{Responder}
+use Rattle.mux_station.specs.declared.role.Role.TheVariants.{Initiator, Responder}
 use Rattle.mux_station.specs.declared.error.StationError.{StationError}
 use Rattle.mux_station.specs.declared.error.StationError.TheVariants.{Busy, ControlChannel, NotOpen}
 use Rattle.mux_station.specs.Acts.{Call, Open, Close, Probe, Stop, Flow, Offer, Act, Called, Got, Sent, Tick, Lost, Given}
@@ -14,7 +14,7 @@ use Rattle.mux_station.specs.Messages.{Message, brings_command, brings_response,
 use Rattle.mux_station.specs.Opening.{ends_itself, is_open, opens_now, standings}
 use Rattle.mux_station.specs.Sending.{Sends, StationLawful, StationView, called_frames, frames_asked, frames_seeing, if_no_room, or_else, owed_frames, refused, station_view}
 use Rattle.mux_station.specs.States.{State, IsShut, IsOpening, IsOpened, IsClosing, IsStopping, at_answered, at_close_down, at_sent, is_opened, is_shut, own_after, state_of}
-use Rattle.mux_station.specs.Tables.{by_frame, by_message, by_table, by_tick, held_up, is_supported, message_frame, msc_after_opening, msc_frame, ready, response_to, ua_or_dm}
+use Rattle.mux_station.specs.Tables.{by_frame, by_message, by_table, by_tick, held_up, is_opening, is_supported, message_frame, msc_after_opening, msc_frame, ready, response_to, ua_or_dm}
 use Rattle.mux_station.specs.Written.{is_data_frame, is_kind, is_on, written}
 use Rattle.mux_station.proofs.states.StatesAfterActs.{state_next}
 use Rattle.modem_history.specs.TwoEnds.{frames_got, frames_sent}
@@ -39,7 +39,7 @@ read_cld : (octet : ℕ) (value : List ℕ) (o : Option Message) → IsRead octe
 read_cld octet value _ as_it_is h = h
 read_cld octet value _ unread h = cc
 
-not_cld_frame : (r : Role) (octet : ℕ) (value : List ℕ) → (octet == cld) ≡ false → brings_command cld (message_frame r octet value) ≡ false
+pub not_cld_frame : (r : Role) (octet : ℕ) (value : List ℕ) → (octet == cld) ≡ false → brings_command cld (message_frame r octet value) ≡ false
 not_cld_frame r octet value h = by_test (brings_command cld (message_frame r octet value)) refl
   where
     by_test : (b : Bool) → brings_command cld (message_frame r octet value) ≡ b → b ≡ false
@@ -69,21 +69,26 @@ mode_no_cld : (r : Role) (e : ℕ) (b : Bool) → many (brings_command cld) (ua_
 mode_no_cld r e true = omega arith
 mode_no_cld r e false = omega arith
 
-table_no_cld : (e : ℕ) (channel own : State) (k : Kind) → many (brings_command cld) (by_table Responder e channel own k) ≤ 0
-table_no_cld e channel own Ua = omega arith
-table_no_cld e channel own Dm = omega arith
-table_no_cld e channel own Uih = omega arith
-table_no_cld e channel own Disc = mode_no_cld Responder e (is_opened own)
-table_no_cld e channel own Sabm =
-    few_if (brings_command cld) 0 ((e == 0) || is_opened channel) (ua_or_dm Responder e true ∷ msc_after_opening Responder e) (ua_or_dm Responder e false ∷ [])
-    (let a = mode_no_cld Responder e true in let c = status in omega (arith, a, c)) (mode_no_cld Responder e false)
-  where
-    status : many (brings_command cld) (msc_after_opening Responder e) ≤ 0
-    status = few_if (brings_command cld) 0 (e == 0) [] (msc_frame Responder e ready ∷ []) (omega arith) (none_one (brings_command cld) (msc_frame Responder e ready) (not_cld_frame Responder msc ((4 * e + 3) ∷ ready ∷ []) refl))
+status_no_cld : (r : Role) (e : ℕ) → many (brings_command cld) (msc_after_opening r e) ≤ 0
+status_no_cld r e = few_if (brings_command cld) 0 (e == 0) [] (msc_frame r e ready ∷ []) (omega arith) (none_one (brings_command cld) (msc_frame r e ready) (not_cld_frame r msc ((4 * e + 3) ∷ ready ∷ []) refl))
 
-frame_no_cld : (state : ℕ → State) (f : Frame) → many (brings_command cld) (by_frame Responder state f) ≤ 0
-frame_no_cld state f =
-    few_if (brings_command cld) 0 (is_on Uih 0 f) (by_message Responder (state 0) f) (by_table Responder f.dlci (state 0) (state f.dlci) f.kind) (message_no_cld Responder (state 0) f) (table_no_cld f.dlci (state 0) (state f.dlci) f.kind)
+table_no_cld : (r : Role) (e : ℕ) (channel own : State) (k : Kind) → many (brings_command cld) (by_table r e channel own k) ≤ 0
+table_no_cld Initiator e channel own Ua = few_if (brings_command cld) 0 (is_opening own) (msc_after_opening Initiator e) [] (status_no_cld Initiator e) (omega arith)
+table_no_cld Initiator e channel own Sabm = mode_no_cld Initiator e false
+table_no_cld Initiator e channel own Disc = mode_no_cld Initiator e (is_opened own)
+table_no_cld Initiator e channel own Dm = omega arith
+table_no_cld Initiator e channel own Uih = omega arith
+table_no_cld Responder e channel own Ua = omega arith
+table_no_cld Responder e channel own Dm = omega arith
+table_no_cld Responder e channel own Uih = omega arith
+table_no_cld Responder e channel own Disc = mode_no_cld Responder e (is_opened own)
+table_no_cld Responder e channel own Sabm =
+    few_if (brings_command cld) 0 ((e == 0) || is_opened channel) (ua_or_dm Responder e true ∷ msc_after_opening Responder e) (ua_or_dm Responder e false ∷ [])
+    (let a = mode_no_cld Responder e true in let c = status_no_cld Responder e in omega (arith, a, c)) (mode_no_cld Responder e false)
+
+pub frame_no_cld : (r : Role) (state : ℕ → State) (f : Frame) → many (brings_command cld) (by_frame r state f) ≤ 0
+frame_no_cld r state f =
+    few_if (brings_command cld) 0 (is_on Uih 0 f) (by_message r (state 0) f) (by_table r f.dlci (state 0) (state f.dlci) f.kind) (message_no_cld r (state 0) f) (table_no_cld r f.dlci (state 0) (state f.dlci) f.kind)
 
 one_cld : (e : ℕ) (fs : List Frame) → many (λ f. (e == 0) && brings_command cld f) fs ≤ many (brings_command cld) fs
 one_cld e [] = omega arith
@@ -98,7 +103,7 @@ parts : (e : ℕ) (fs : List Frame) → many (closer e) fs ≤ many (discs e) fs
 parts e fs = let a = many_or (is_on Disc e) (λ f. (e == 0) && brings_command cld f) fs in let b = one_cld e fs in omega (arith, a, b)
 
 frame_closes_none : (e : ℕ) (state : ℕ → State) (f : Frame) → many (closer e) (by_frame Responder state f) ≤ 0
-frame_closes_none e state f = let a = parts e (by_frame Responder state f) in let b = disc_never e Responder state f in let c = frame_no_cld state f in omega (arith, a, b, c)
+frame_closes_none e state f = let a = parts e (by_frame Responder state f) in let b = disc_never e Responder state f in let c = frame_no_cld Responder state f in omega (arith, a, b, c)
 
 not_shut : {P : Type 0} → (s : State) → is_shut s ≡ true → is_opened s ≡ true → P
 not_shut IsShut h o = let t : false ≡ true = o in cc
@@ -177,10 +182,10 @@ call_closes_none n1 e v (Offer d octets) true k shut = omega arith
 -- ## Before it was asked for
 
 -- no SABM on e came, and nothing that closes it was sent or is owed
-record Untouched (n1 e : ℕ) (past : List Act) : Type 0 where
-  shut : is_shut (state_of Responder e past) ≡ true
-  sent_none : many (closer e) (frames_sent past) ≤ 0
-  owed_none : many (closer e) (owed_frames (responding n1) past) ≤ 0
+pub record Untouched (n1 e : ℕ) (past : List Act) : Type 0 where
+  pub shut : is_shut (state_of Responder e past) ≡ true
+  pub sent_none : many (closer e) (frames_sent past) ≤ 0
+  pub owed_none : many (closer e) (owed_frames (responding n1) past) ≤ 0
 
 abbrev IsQuiet : ℕ → Act → Type 0
 IsQuiet e (Sent f) = (is_on Sabm e f ≡ false) × (closer e f ≡ false)
@@ -258,7 +263,7 @@ more_owed n1 e past a none before =
     let few = called (closer e) 0 (responding n1) past a none in
     omega (arith, both, few, before)
 
-data_no_closer : (e : ℕ) (f : Frame) → is_data_frame f ≡ true → closer e f ≡ false
+pub data_no_closer : (e : ℕ) (f : Frame) → is_data_frame f ≡ true → closer e f ≡ false
 data_no_closer e f is =
     let p = and_parts (is_kind f.kind Uih) (not (f.dlci == 0)) is in
     no_closer e f (no_disc f.kind (f.dlci == e) p.0) (no_cld (is_kind f.kind Uih) (f.dlci == 0) (octet_is (λ n. n) cld (message_of f.info)) p.1)
@@ -293,7 +298,7 @@ sent_untouched n1 e past f false is g sabm h =
     let quiet = none_of (closer e) f (many (closer e) g.later) (omega (arith, first, y)) in
     record { shut = next_shut e past (Sent f) (sabm, quiet) h.shut; sent_none = omega (arith, first, x, y); owed_none = omega (arith, same, first, y) }
 
-untouched : (n1 e : ℕ) (past : List Act) → StationLawful (responding n1) past → many (is_on Sabm e) (frames_got past) ≤ 0 → many (is_on Sabm e) (frames_sent past) ≤ 0 → Untouched n1 e past
+pub untouched : (n1 e : ℕ) (past : List Act) → StationLawful (responding n1) past → many (is_on Sabm e) (frames_got past) ≤ 0 → many (is_on Sabm e) (frames_sent past) ≤ 0 → Untouched n1 e past
 unfolding StationLawful
 untouched n1 e [] l none asks = record { shut = refl; sent_none = omega arith; owed_none = omega arith }
 untouched n1 e (Sent f ∷ past) l none asks =

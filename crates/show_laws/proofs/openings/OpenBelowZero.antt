@@ -130,7 +130,7 @@ zero_opened s d past is h = ap (λ (r : Role). is_opened (state_of r 0 (wire pas
 
 -- ## Requests
 
-open_not_refused : (a b c : Bool) (o : Option Answer) → is_none (if a then Some LineLost else (if b then Some Busy else (if c then Some NotOpen else o))) ≡ true → c ≡ false
+pub open_not_refused : (a b c : Bool) (o : Option Answer) → is_none (if a then Some LineLost else (if b then Some Busy else (if c then Some NotOpen else o))) ≡ true → c ≡ false
 open_not_refused true b c o h = cc
 open_not_refused false true c o h = cc
 open_not_refused false false true o h = cc

@@ -158,20 +158,18 @@ all_seen : (s : Setting) (n1 d : ℕ) (stamps : ℕ → Stamp) (line : List Line
 all_seen s n1 d stamps line h =
     over (IsLawfulLine s n1) (λ x line k. lawful_before s n1 x line k) (Seen d) stamps (refl, refl)
     (λ f line k q.
-    let cs = captured stamps line in
-    (
+    let cs = captured stamps line in (
       sent_seen d f (waiting Responder cs) (own Initiator cs) (last_back d (frames_of Initiator cs)) (answered_by f (waiting Responder cs)) refl
-      (first_shaped f (frames_sent (wire (driver_past line))) (driver_shaped s (driver.Sent f ∷ driver_past line) k.driver_lawful))
-      (driver_answers s n1 stamps f line (stamps (length cs)) k) q.0,
+          (first_shaped f (frames_sent (wire (driver_past line))) (driver_shaped s (driver.Sent f ∷ driver_past line) k.driver_lawful))
+          (driver_answers s n1 stamps f line (stamps (length cs)) k) q.0,
       come_seen d f (own Responder cs) ∙ q.1,
     ))
     (λ f line k q.
-    let cs = captured stamps line in
-    (
+    let cs = captured stamps line in (
       come_seen d f (own Initiator cs) ∙ q.0,
       sent_seen d f (waiting Initiator cs) (own Responder cs) (last_back d (frames_of Responder cs)) (answered_by f (waiting Initiator cs)) refl
-      (first_shaped f (frames_sent (modem_past line)) (modem_shaped n1 (station.Sent f ∷ modem_past line) k.modem_lawful))
-      (modem_answers s n1 stamps f line (stamps (length cs)) k) q.1,
+          (first_shaped f (frames_sent (modem_past line)) (modem_shaped n1 (station.Sent f ∷ modem_past line) k.modem_lawful))
+          (modem_answers s n1 stamps f line (stamps (length cs)) k) q.1,
     )) line h
 
 pub driver_seen : (s : Setting) (n1 d : ℕ) (stamps : ℕ → Stamp) (line : List LineAct) → IsLawfulLine s n1 line → last_said (got_says (says_at d)) (own Initiator (captured stamps line)) ≡ last_back d (frames_sent (wire (driver_past line)))

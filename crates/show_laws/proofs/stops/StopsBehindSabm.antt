@@ -20,7 +20,7 @@ use Rattle.modem_show.specs.Ends.{says_at}
 use Rattle.modem_history.specs.Acts.{Act, Took, Got, Sent, Told, Heard, Tick, Lost, Held, Freed, Given, wire}
 use Rattle.modem_history.specs.Calls.{Setting, asking, at_once, calls_behind, frames_by, seen_behind}
 use Rattle.modem_history.specs.Lawful.{IsNext, Lawful, When, owed, unsent}
-use Rattle.modem_history.specs.TwoEnds.{frames_sent}
+use Rattle.modem_history.specs.TwoEnds.{frames_got, frames_sent}
 use Rattle.show_laws.proofs.asks.AnswersCalled.{data_no_message}
 use Rattle.show_laws.proofs.counts.ManyFrames.{few_if, many, none_one, unit}
 use Rattle.show_laws.proofs.counts.BalancedTables.{tick_none}
@@ -52,7 +52,7 @@ calls_none s d past a none before =
     let few = called (speaks d) 0 s (seen_behind s past (owed s past)) a none in
     omega (arith, parts, few, before)
 
-opened_state : (s : Setting) (d : ℕ) (past : List Act) → s.role ≡ Initiator → open_at d (wire past) ≡ false → is_opened (state_of s.role d (wire past)) ≡ false
+pub opened_state : (s : Setting) (d : ℕ) (past : List Act) → s.role ≡ Initiator → open_at d (wire past) ≡ false → is_opened (state_of s.role d (wire past)) ≡ false
 opened_state s d past is h = ap (λ (r : Role). is_opened (state_of r d (wire past))) is ∙ (opened_is_open Initiator (wire past) d ∙ h)
 
 opening_state : (s : Setting) (d : ℕ) (past : List Act) → s.role ≡ Initiator → asked_at d (wire past) ≡ false → is_opening (state_of s.role d (wire past)) ≡ false
@@ -171,25 +171,29 @@ unasked_yet s d (Freed e ∷ past) is l none =
 
 -- ## The frames that were sent first
 
-record Older (s : Setting) (fs : List Frame) : Type 0 where
-  past : List Act
-  lawful : Lawful s past
-  sent_are : frames_sent (wire past) ≡ fs
+pub record Older (s : Setting) (all : List Act) (fs : List Frame) : Type 0 where
+  pub past : List Act
+  pub lawful : Lawful s past
+  pub sent_are : frames_sent (wire past) ≡ fs
+  pub got_few : (t : Frame → Bool) → many t (frames_got (wire past)) ≤ many t (frames_got (wire all))
 
-older : (s : Setting) (past : List Act) (later fs : List Frame) → Lawful s past → frames_sent (wire past) ≡ later ++ fs → Older s fs
+more_got : (s : Setting) (a : Act) (past : List Act) (fs : List Frame) → ((t : Frame → Bool) → many t (frames_got (wire past)) ≤ many t (frames_got (wire (a ∷ past)))) → Older s past fs → Older s (a ∷ past) fs
+more_got s a past fs more o = record { past = o.past; lawful = o.lawful; sent_are = o.sent_are; got_few = λ t. let x = o.got_few t in let y = more t in omega (arith, x, y) }
+
+pub older : (s : Setting) (past : List Act) (later fs : List Frame) → Lawful s past → frames_sent (wire past) ≡ later ++ fs → Older s past fs
 unfolding Lawful
-older s past [] fs l e = record { past = past; lawful = l; sent_are = e }
+older s past [] fs l e = record { past = past; lawful = l; sent_are = e; got_few = λ t. omega arith }
 older s [] (g ∷ later) fs l e = cc
-older s (Sent f ∷ past) (g ∷ later) fs l e = older s past later fs l.1 (ap (λ (xs : List Frame). drop 1 xs) e)
-older s (Took q ∷ past) (g ∷ later) fs l e = older s past (g ∷ later) fs l.1 e
-older s (Got f ∷ past) (g ∷ later) fs l e = older s past (g ∷ later) fs l.1 e
-older s (Told o ∷ past) (g ∷ later) fs l e = older s past (g ∷ later) fs l.1 e
-older s (Heard u d line ∷ past) (g ∷ later) fs l e = older s past (g ∷ later) fs l.1 e
-older s (Tick ∷ past) (g ∷ later) fs l e = older s past (g ∷ later) fs l.1 e
-older s (Lost ∷ past) (g ∷ later) fs l e = older s past (g ∷ later) fs l.1 e
-older s (Held d ∷ past) (g ∷ later) fs l e = older s past (g ∷ later) fs l.1 e
-older s (Freed d ∷ past) (g ∷ later) fs l e = older s past (g ∷ later) fs l.1 e
-older s (Given ∷ past) (g ∷ later) fs l e = older s past (g ∷ later) fs l.1 e
+older s (Sent f ∷ past) (g ∷ later) fs l e = more_got s (Sent f) past fs (λ t. omega arith) (older s past later fs l.1 (ap (λ (xs : List Frame). drop 1 xs) e))
+older s (Took q ∷ past) (g ∷ later) fs l e = more_got s (Took q) past fs (λ t. omega arith) (older s past (g ∷ later) fs l.1 e)
+older s (Got f ∷ past) (g ∷ later) fs l e = more_got s (Got f) past fs (λ t. omega arith) (older s past (g ∷ later) fs l.1 e)
+older s (Told o ∷ past) (g ∷ later) fs l e = more_got s (Told o) past fs (λ t. omega arith) (older s past (g ∷ later) fs l.1 e)
+older s (Heard u d line ∷ past) (g ∷ later) fs l e = more_got s (Heard u d line) past fs (λ t. omega arith) (older s past (g ∷ later) fs l.1 e)
+older s (Tick ∷ past) (g ∷ later) fs l e = more_got s Tick past fs (λ t. omega arith) (older s past (g ∷ later) fs l.1 e)
+older s (Lost ∷ past) (g ∷ later) fs l e = more_got s Lost past fs (λ t. omega arith) (older s past (g ∷ later) fs l.1 e)
+older s (Held d ∷ past) (g ∷ later) fs l e = more_got s (Held d) past fs (λ t. omega arith) (older s past (g ∷ later) fs l.1 e)
+older s (Freed d ∷ past) (g ∷ later) fs l e = more_got s (Freed d) past fs (λ t. omega arith) (older s past (g ∷ later) fs l.1 e)
+older s (Given ∷ past) (g ∷ later) fs l e = more_got s Given past fs (λ t. omega arith) (older s past (g ∷ later) fs l.1 e)
 
 -- of the frames that it sent first, those without a SABM on d have no message about its stop
 pub stops_behind_sabm : (s : Setting) (d : ℕ) (past : List Act) (later fs : List Frame) → s.role ≡ Initiator → Lawful s past → frames_sent (wire past) ≡ later ++ fs → many (is_on Sabm d) fs ≤ 0 → many (speaks d) fs ≤ 0

@@ -1,7 +1,7 @@
 -- No command overlaps another one, and no final code answers nothing; in the end each command is answered.
 use Rattle.std.specs.Prelude.{◌≡◌, ℕ, ◌+◌, ◌==◌, ◌≤◌, ◌&&◌, ◌||◌, not, Bool, true, false, List, [], ◌∷◌, ◌++◌, Option, Some, None, is_some, length, option_map, refl, if◌then◌else◌}
 use Rattle.std.specs.List.{list_any}
-use Rattle.std.proofs.Common.{ap, arith, sym, ◌∙◌, eqb-true}
+use Rattle.std.proofs.Common.{ap, arith, sym, ◌∙◌, subst, eqb-true}
 use Rattle.std.proofs.lemmas.Bool.{and_from, and_parts, eq-eqb, or_from}
 use Rattle.std.proofs.lemmas.List.Folds.{list_any-append}
 use Rattle.mux_frame.specs.Frames.{Frame}
@@ -36,8 +36,9 @@ use Rattle.show_laws.proofs.lines.CapturedFrames.{shows}
 use Rattle.show_laws.proofs.lines.EveryFrame.{over}
 use Rattle.show_laws.proofs.openings.ModemOpen.{above}
 use Rattle.show_laws.proofs.openings.OpenBelowZero.{open_below}
+use Rattle.show_laws.proofs.talks.EndedLines.{IsEnded, driver_says_none, ended_stays, modem_says_none}
 use Rattle.show_laws.proofs.talks.SilentChannels.{Under, UnderM, carried_data, nothing_more}
-use Rattle.show_laws.proofs.talks.TalkingLines.{driver_afresh, driver_close_never, modem_afresh, modem_close_never, talking_before}
+use Rattle.show_laws.proofs.talks.TalkingLines.{IsFresh, driver_afresh, modem_afresh, past_it, quiet, talking_asked, talking_before}
 use Rattle.show_laws.proofs.talks.TextBounds.{driver_bound, modem_bound}
 use Rattle.show_laws.proofs.talks.TextFits.{TextFits, driver_text, modem_text, same_fits, silent_fits}
 use Rattle.show_laws.proofs.talks.ToldLines.{under_way}
@@ -142,63 +143,138 @@ modem_room s n1 d stamps f line h is same =
     ap (λ z. finals_in s.dialect (lines (z ++ f.info))) (ap (λ n. info_in n (frames_of Responder cs)) (sym same) ∙ ap (info_in f.dlci) seen.modem_frames) in
     omega (arith, b, out, back)
 
-driver_fits : (s : Setting) (n1 d : ℕ) (data_channels : List Dlci) (stamps : ℕ → Stamp) (f : Frame) (line : List LineAct) → (d == 0) ≡ false → is_named data_channels d ≡ false → IsTalkingLine s n1 (AtDriver (driver.Sent f) ∷ line)
-    → TalkFits s.dialect data_channels d (captured stamps line) → TalkFits s.dialect data_channels d (captured stamps (AtDriver (driver.Sent f) ∷ line))
-driver_fits s n1 d data_channels stamps f line apart named h q = by_carry (carries d f) refl
+-- what is kept fits what was sent, or d ended for good, and nothing is kept
+pub data IsKept (s : Setting) (d : ℕ) (data_channels : List Dlci) (stamps : ℕ → Stamp) (line : List LineAct) : Type 0 where
+  fits : TalkFits s.dialect data_channels d (captured stamps line) → IsKept s d data_channels stamps line
+  ended : (e : ℕ) → Under s d e → UnderM d e → IsEnded e line → talk_of s.dialect data_channels d (captured stamps line) ≡ silence → IsKept s d data_channels stamps line
+
+-- what is kept behind a frame
+abbrev talk_by : Setting → List Dlci → ℕ → Direction → Option Kind → Frame → Talk → Talk
+talk_by s data_channels d direction answered f t = if starts_afresh answered d f then silence else (if has_text data_channels f && (f.dlci == d) then heard_each s.dialect direction t f.info else t)
+
+silenced : (s : Setting) (data_channels : List Dlci) (d : ℕ) (direction : Direction) (answered : Option Kind) (f : Frame) (t : Talk) → starts_afresh answered d f ≡ true → talk_by s data_channels d direction answered f t ≡ silence
+silenced s data_channels d direction answered f t e = ap (λ (b : Bool). if b then silence else (if has_text data_channels f && (f.dlci == d) then heard_each s.dialect direction t f.info else t)) e
+
+stays_silent : (s : Setting) (data_channels : List Dlci) (d : ℕ) (direction : Direction) (answered : Option Kind) (f : Frame) (t : Talk) → (d == 0) ≡ false → carries d f ≡ false → t ≡ silence → (b : Bool) → starts_afresh answered d f ≡ b
+    → talk_by s data_channels d direction answered f t ≡ silence
+stays_silent s data_channels d direction answered f t apart c e true k = silenced s data_channels d direction answered f t k
+stays_silent s data_channels d direction answered f t apart c e false k = other_frame s.dialect data_channels direction d t answered f apart c k ∙ e
+
+driver_kept : (s : Setting) (n1 d : ℕ) (data_channels : List Dlci) (stamps : ℕ → Stamp) (f : Frame) (line : List LineAct) → (d == 0) ≡ false → is_named data_channels d ≡ false → IsTalkingLine s n1 (AtDriver (driver.Sent f) ∷ line)
+    → IsKept s d data_channels stamps line → IsKept s d data_channels stamps (AtDriver (driver.Sent f) ∷ line)
+driver_kept s n1 d data_channels stamps f line apart named h (ended e up upm gone t) = by_carry (carries d f) refl
   where
-    by_start : (b : Bool) → starts_afresh (asked_of_modem stamps line f) d f ≡ b → carries d f ≡ false → TalkFits s.dialect data_channels d (captured stamps (AtDriver (driver.Sent f) ∷ line))
+    by_carry : (b : Bool) → carries d f ≡ b → IsKept s d data_channels stamps (AtDriver (driver.Sent f) ∷ line)
+    by_carry true c = absurd (driver_says_none s n1 d e f line up (talking_asked s n1 (AtDriver (driver.Sent f) ∷ line) h) gone c)
+    by_carry false c =
+        ended e up upm (ended_stays e (AtDriver (driver.Sent f)) line h.once gone)
+        (stays_silent s data_channels d ToModem (asked_of_modem stamps line f) f (talk_of s.dialect data_channels d (captured stamps line)) apart c t (starts_afresh (asked_of_modem stamps line f) d f) refl)
+driver_kept s n1 d data_channels stamps f line apart named h (fits q) = by_carry (carries d f) refl
+  where
+    afresh : carries d f ≡ false → starts_afresh (asked_of_modem stamps line f) d f ≡ true → IsFresh s d line → IsKept s d data_channels stamps (AtDriver (driver.Sent f) ∷ line)
+    afresh c e (quiet silent) =
+        let seen = shows stamps line in
+        fits (same_fits s.dialect silence _ [] _ [] _
+        (silenced s data_channels d ToModem (asked_of_modem stamps line f) f (talk_of s.dialect data_channels d (captured stamps line)) e)
+        (nothing_more d f (frames_of Initiator (captured stamps line)) c ∙ (ap (info_in d) seen.driver_frames ∙ silent.driver)) (ap (info_in d) seen.modem_frames ∙ silent.modem) (silent_fits s.dialect))
+    afresh c e (past_it n up upm gone) =
+        ended n up upm (ended_stays n (AtDriver (driver.Sent f)) line h.once gone)
+        (silenced s data_channels d ToModem (asked_of_modem stamps line f) f (talk_of s.dialect data_channels d (captured stamps line)) e)
+
+    by_start : (b : Bool) → starts_afresh (asked_of_modem stamps line f) d f ≡ b → carries d f ≡ false → IsKept s d data_channels stamps (AtDriver (driver.Sent f) ∷ line)
     by_start true e c =
         let k = talking_before s n1 (AtDriver (driver.Sent f)) line h in
-        let silent = driver_afresh s n1 d f line (asked_of_modem stamps line f) (under_zero s n1 d line apart k) (under_zero_m d apart) h (driver_close_never s n1 stamps f line k) e in
-        let seen = shows stamps line in
-        same_fits s.dialect silence _ [] _ [] _
-        (ap (λ (b : Bool). if b then silence else (if has_text data_channels f && (f.dlci == d) then heard_each s.dialect ToModem (talk_of s.dialect data_channels d (captured stamps line)) f.info else talk_of s.dialect data_channels d (captured stamps line))) e)
-        (nothing_more d f (frames_of Initiator (captured stamps line)) c ∙ (ap (info_in d) seen.driver_frames ∙ silent.driver)) (ap (info_in d) seen.modem_frames ∙ silent.modem) (silent_fits s.dialect)
+        afresh c e (driver_afresh s n1 d stamps f line (asked_of_modem stamps line f) (under_zero s n1 d line apart k) (under_zero_m d apart) h e)
     by_start false e c =
-        same_fits s.dialect (talk_of s.dialect data_channels d (captured stamps line)) _ (info_in d (frames_of Initiator (captured stamps line))) _ (info_in d (frames_of Responder (captured stamps line))) _
+        fits (same_fits s.dialect (talk_of s.dialect data_channels d (captured stamps line)) _ (info_in d (frames_of Initiator (captured stamps line))) _ (info_in d (frames_of Responder (captured stamps line))) _
         (other_frame s.dialect data_channels ToModem d (talk_of s.dialect data_channels d (captured stamps line)) (asked_of_modem stamps line f) f apart c e)
-        (nothing_more d f (frames_of Initiator (captured stamps line)) c) refl q
+        (nothing_more d f (frames_of Initiator (captured stamps line)) c) refl q)
 
-    by_carry : (b : Bool) → carries d f ≡ b → TalkFits s.dialect data_channels d (captured stamps (AtDriver (driver.Sent f) ∷ line))
+    by_carry : (b : Bool) → carries d f ≡ b → IsKept s d data_channels stamps (AtDriver (driver.Sent f) ∷ line)
     by_carry false c = by_start (starts_afresh (asked_of_modem stamps line f) d f) refl c
     by_carry true c =
         let k = carried_data d f c in
-        same_fits s.dialect (heard_each s.dialect ToModem (talk_of s.dialect data_channels d (captured stamps line)) f.info) _ (info_in d (frames_of Initiator (captured stamps line)) ++ f.info) _ (info_in d (frames_of Responder (captured stamps line))) _
+        fits (same_fits s.dialect (heard_each s.dialect ToModem (talk_of s.dialect data_channels d (captured stamps line)) f.info) _ (info_in d (frames_of Initiator (captured stamps line)) ++ f.info) _ (info_in d (frames_of Responder (captured stamps line))) _
         (says_text s.dialect data_channels ToModem d (talk_of s.dialect data_channels d (captured stamps line)) (asked_of_modem stamps line f) f named c)
         (ap (λ z. info_in d (frames_of Initiator (captured stamps line)) ++ z) (info_some d f c)) refl
-        (driver_text s.dialect (talk_of s.dialect data_channels d (captured stamps line)) (info_in d (frames_of Initiator (captured stamps line))) (info_in d (frames_of Responder (captured stamps line))) f.info q (driver_room s n1 d stamps f line h k.0 k.1)).fits
+        (driver_text s.dialect (talk_of s.dialect data_channels d (captured stamps line)) (info_in d (frames_of Initiator (captured stamps line))) (info_in d (frames_of Responder (captured stamps line))) f.info q (driver_room s n1 d stamps f line h k.0 k.1)).fits)
 
-modem_fits : (s : Setting) (n1 d : ℕ) (data_channels : List Dlci) (stamps : ℕ → Stamp) (f : Frame) (line : List LineAct) → (d == 0) ≡ false → is_named data_channels d ≡ false → IsTalkingLine s n1 (AtModem (station.Sent f) ∷ line)
-    → TalkFits s.dialect data_channels d (captured stamps line) → TalkFits s.dialect data_channels d (captured stamps (AtModem (station.Sent f) ∷ line))
-modem_fits s n1 d data_channels stamps f line apart named h q = by_carry (carries d f) refl
+modem_kept : (s : Setting) (n1 d : ℕ) (data_channels : List Dlci) (stamps : ℕ → Stamp) (f : Frame) (line : List LineAct) → (d == 0) ≡ false → is_named data_channels d ≡ false → IsTalkingLine s n1 (AtModem (station.Sent f) ∷ line)
+    → IsKept s d data_channels stamps line → IsKept s d data_channels stamps (AtModem (station.Sent f) ∷ line)
+modem_kept s n1 d data_channels stamps f line apart named h (ended e up upm gone t) = by_carry (carries d f) refl
   where
-    by_start : (b : Bool) → starts_afresh (asked_of_driver stamps line f) d f ≡ b → carries d f ≡ false → TalkFits s.dialect data_channels d (captured stamps (AtModem (station.Sent f) ∷ line))
+    by_carry : (b : Bool) → carries d f ≡ b → IsKept s d data_channels stamps (AtModem (station.Sent f) ∷ line)
+    by_carry true c = absurd (modem_says_none s n1 d e f line upm (talking_asked s n1 (AtModem (station.Sent f) ∷ line) h) (talking_before s n1 (AtModem (station.Sent f)) line h).opens_none gone c)
+    by_carry false c =
+        ended e up upm (ended_stays e (AtModem (station.Sent f)) line h.once gone)
+        (stays_silent s data_channels d FromModem (asked_of_driver stamps line f) f (talk_of s.dialect data_channels d (captured stamps line)) apart c t (starts_afresh (asked_of_driver stamps line f) d f) refl)
+modem_kept s n1 d data_channels stamps f line apart named h (fits q) = by_carry (carries d f) refl
+  where
+    afresh : carries d f ≡ false → starts_afresh (asked_of_driver stamps line f) d f ≡ true → IsFresh s d line → IsKept s d data_channels stamps (AtModem (station.Sent f) ∷ line)
+    afresh c e (quiet silent) =
+        let seen = shows stamps line in
+        fits (same_fits s.dialect silence _ [] _ [] _
+        (silenced s data_channels d FromModem (asked_of_driver stamps line f) f (talk_of s.dialect data_channels d (captured stamps line)) e)
+        (ap (info_in d) seen.driver_frames ∙ silent.driver) (nothing_more d f (frames_of Responder (captured stamps line)) c ∙ (ap (info_in d) seen.modem_frames ∙ silent.modem)) (silent_fits s.dialect))
+    afresh c e (past_it n up upm gone) =
+        ended n up upm (ended_stays n (AtModem (station.Sent f)) line h.once gone)
+        (silenced s data_channels d FromModem (asked_of_driver stamps line f) f (talk_of s.dialect data_channels d (captured stamps line)) e)
+
+    by_start : (b : Bool) → starts_afresh (asked_of_driver stamps line f) d f ≡ b → carries d f ≡ false → IsKept s d data_channels stamps (AtModem (station.Sent f) ∷ line)
     by_start true e c =
         let k = talking_before s n1 (AtModem (station.Sent f)) line h in
-        let silent = modem_afresh s n1 d f line (asked_of_driver stamps line f) (under_zero s n1 d line apart k) (under_zero_m d apart) h (modem_close_never s n1 stamps f line k) e in
-        let seen = shows stamps line in
-        same_fits s.dialect silence _ [] _ [] _
-        (ap (λ (b : Bool). if b then silence else (if has_text data_channels f && (f.dlci == d) then heard_each s.dialect FromModem (talk_of s.dialect data_channels d (captured stamps line)) f.info else talk_of s.dialect data_channels d (captured stamps line))) e)
-        (ap (info_in d) seen.driver_frames ∙ silent.driver) (nothing_more d f (frames_of Responder (captured stamps line)) c ∙ (ap (info_in d) seen.modem_frames ∙ silent.modem)) (silent_fits s.dialect)
+        afresh c e (modem_afresh s n1 d f line (asked_of_driver stamps line f) (under_zero s n1 d line apart k) (under_zero_m d apart) h e)
     by_start false e c =
-        same_fits s.dialect (talk_of s.dialect data_channels d (captured stamps line)) _ (info_in d (frames_of Initiator (captured stamps line))) _ (info_in d (frames_of Responder (captured stamps line))) _
+        fits (same_fits s.dialect (talk_of s.dialect data_channels d (captured stamps line)) _ (info_in d (frames_of Initiator (captured stamps line))) _ (info_in d (frames_of Responder (captured stamps line))) _
         (other_frame s.dialect data_channels FromModem d (talk_of s.dialect data_channels d (captured stamps line)) (asked_of_driver stamps line f) f apart c e)
-        refl (nothing_more d f (frames_of Responder (captured stamps line)) c) q
+        refl (nothing_more d f (frames_of Responder (captured stamps line)) c) q)
 
-    by_carry : (b : Bool) → carries d f ≡ b → TalkFits s.dialect data_channels d (captured stamps (AtModem (station.Sent f) ∷ line))
+    by_carry : (b : Bool) → carries d f ≡ b → IsKept s d data_channels stamps (AtModem (station.Sent f) ∷ line)
     by_carry false c = by_start (starts_afresh (asked_of_driver stamps line f) d f) refl c
     by_carry true c =
         let k = carried_data d f c in
-        same_fits s.dialect (heard_each s.dialect FromModem (talk_of s.dialect data_channels d (captured stamps line)) f.info) _ (info_in d (frames_of Initiator (captured stamps line))) _ (info_in d (frames_of Responder (captured stamps line)) ++ f.info) _
+        fits (same_fits s.dialect (heard_each s.dialect FromModem (talk_of s.dialect data_channels d (captured stamps line)) f.info) _ (info_in d (frames_of Initiator (captured stamps line))) _ (info_in d (frames_of Responder (captured stamps line)) ++ f.info) _
         (says_text s.dialect data_channels FromModem d (talk_of s.dialect data_channels d (captured stamps line)) (asked_of_driver stamps line f) f named c)
         refl (ap (λ z. info_in d (frames_of Responder (captured stamps line)) ++ z) (info_some d f c))
-        (modem_text s.dialect (talk_of s.dialect data_channels d (captured stamps line)) (info_in d (frames_of Initiator (captured stamps line))) (info_in d (frames_of Responder (captured stamps line))) f.info h.apart q (modem_room s n1 d stamps f line h k.0 k.1)).fits
+        (modem_text s.dialect (talk_of s.dialect data_channels d (captured stamps line)) (info_in d (frames_of Initiator (captured stamps line))) (info_in d (frames_of Responder (captured stamps line))) f.info h.apart q (modem_room s n1 d stamps f line h k.0 k.1)).fits)
+
+-- an act that sends nothing
+same_kept : (s : Setting) (n1 d : ℕ) (data_channels : List Dlci) (stamps : ℕ → Stamp) (x : LineAct) (line : List LineAct) → captured stamps (x ∷ line) ≡ captured stamps line → IsTalkingLine s n1 (x ∷ line)
+    → IsKept s d data_channels stamps line → IsKept s d data_channels stamps (x ∷ line)
+same_kept s n1 d data_channels stamps x line same h (fits q) = fits (subst (λ (cs : List Caught). TalkFits s.dialect data_channels d cs) (sym same) q)
+same_kept s n1 d data_channels stamps x line same h (ended e up upm gone t) = ended e up upm (ended_stays e x line h.once gone) (ap (talk_of s.dialect data_channels d) same ∙ t)
 
 -- what is kept of a connection that isn't named as one of data
-all_fit : (s : Setting) (n1 d : ℕ) (data_channels : List Dlci) (stamps : ℕ → Stamp) (line : List LineAct) → (d == 0) ≡ false → is_named data_channels d ≡ false → IsTalkingLine s n1 line → TalkFits s.dialect data_channels d (captured stamps line)
-all_fit s n1 d data_channels stamps line apart named h =
-    over (IsTalkingLine s n1) (λ x line k. talking_before s n1 x line k) (TalkFits s.dialect data_channels d) stamps (silent_fits s.dialect)
-    (λ f line k q. driver_fits s n1 d data_channels stamps f line apart named k q) (λ f line k q. modem_fits s n1 d data_channels stamps f line apart named k q) line h
+all_kept : (s : Setting) (n1 d : ℕ) (data_channels : List Dlci) (stamps : ℕ → Stamp) (line : List LineAct) → (d == 0) ≡ false → is_named data_channels d ≡ false → IsTalkingLine s n1 line → IsKept s d data_channels stamps line
+all_kept s n1 d data_channels stamps [] apart named h = fits (silent_fits s.dialect)
+all_kept s n1 d data_channels stamps (AtDriver (driver.Sent f) ∷ line) apart named h = driver_kept s n1 d data_channels stamps f line apart named h (all_kept s n1 d data_channels stamps line apart named (talking_before s n1 (AtDriver (driver.Sent f)) line h))
+all_kept s n1 d data_channels stamps (AtModem (station.Sent f) ∷ line) apart named h = modem_kept s n1 d data_channels stamps f line apart named h (all_kept s n1 d data_channels stamps line apart named (talking_before s n1 (AtModem (station.Sent f)) line h))
+all_kept s n1 d data_channels stamps (AtDriver (driver.Took q) ∷ line) apart named h = same_kept s n1 d data_channels stamps (AtDriver (driver.Took q)) line refl h (all_kept s n1 d data_channels stamps line apart named (talking_before s n1 (AtDriver (driver.Took q)) line h))
+all_kept s n1 d data_channels stamps (AtDriver (driver.Got f) ∷ line) apart named h = same_kept s n1 d data_channels stamps (AtDriver (driver.Got f)) line refl h (all_kept s n1 d data_channels stamps line apart named (talking_before s n1 (AtDriver (driver.Got f)) line h))
+all_kept s n1 d data_channels stamps (AtDriver (driver.Told o) ∷ line) apart named h = same_kept s n1 d data_channels stamps (AtDriver (driver.Told o)) line refl h (all_kept s n1 d data_channels stamps line apart named (talking_before s n1 (AtDriver (driver.Told o)) line h))
+all_kept s n1 d data_channels stamps (AtDriver (driver.Heard u e l) ∷ line) apart named h = same_kept s n1 d data_channels stamps (AtDriver (driver.Heard u e l)) line refl h (all_kept s n1 d data_channels stamps line apart named (talking_before s n1 (AtDriver (driver.Heard u e l)) line h))
+all_kept s n1 d data_channels stamps (AtDriver driver.Tick ∷ line) apart named h = same_kept s n1 d data_channels stamps (AtDriver driver.Tick) line refl h (all_kept s n1 d data_channels stamps line apart named (talking_before s n1 (AtDriver driver.Tick) line h))
+all_kept s n1 d data_channels stamps (AtDriver driver.Lost ∷ line) apart named h = same_kept s n1 d data_channels stamps (AtDriver driver.Lost) line refl h (all_kept s n1 d data_channels stamps line apart named (talking_before s n1 (AtDriver driver.Lost) line h))
+all_kept s n1 d data_channels stamps (AtDriver (driver.Held e) ∷ line) apart named h = same_kept s n1 d data_channels stamps (AtDriver (driver.Held e)) line refl h (all_kept s n1 d data_channels stamps line apart named (talking_before s n1 (AtDriver (driver.Held e)) line h))
+all_kept s n1 d data_channels stamps (AtDriver (driver.Freed e) ∷ line) apart named h = same_kept s n1 d data_channels stamps (AtDriver (driver.Freed e)) line refl h (all_kept s n1 d data_channels stamps line apart named (talking_before s n1 (AtDriver (driver.Freed e)) line h))
+all_kept s n1 d data_channels stamps (AtDriver driver.Given ∷ line) apart named h = same_kept s n1 d data_channels stamps (AtDriver driver.Given) line refl h (all_kept s n1 d data_channels stamps line apart named (talking_before s n1 (AtDriver driver.Given) line h))
+all_kept s n1 d data_channels stamps (AtModem (station.Called c) ∷ line) apart named h = same_kept s n1 d data_channels stamps (AtModem (station.Called c)) line refl h (all_kept s n1 d data_channels stamps line apart named (talking_before s n1 (AtModem (station.Called c)) line h))
+all_kept s n1 d data_channels stamps (AtModem (station.Got f) ∷ line) apart named h = same_kept s n1 d data_channels stamps (AtModem (station.Got f)) line refl h (all_kept s n1 d data_channels stamps line apart named (talking_before s n1 (AtModem (station.Got f)) line h))
+all_kept s n1 d data_channels stamps (AtModem station.Tick ∷ line) apart named h = same_kept s n1 d data_channels stamps (AtModem station.Tick) line refl h (all_kept s n1 d data_channels stamps line apart named (talking_before s n1 (AtModem station.Tick) line h))
+all_kept s n1 d data_channels stamps (AtModem station.Lost ∷ line) apart named h = same_kept s n1 d data_channels stamps (AtModem station.Lost) line refl h (all_kept s n1 d data_channels stamps line apart named (talking_before s n1 (AtModem station.Lost) line h))
+all_kept s n1 d data_channels stamps (AtModem station.Given ∷ line) apart named h = same_kept s n1 d data_channels stamps (AtModem station.Given) line refl h (all_kept s n1 d data_channels stamps line apart named (talking_before s n1 (AtModem station.Given) line h))
+
+-- where the driver sends data on d, and where the modem does
+driver_fit : (s : Setting) (n1 d : ℕ) (data_channels : List Dlci) (stamps : ℕ → Stamp) (f : Frame) (line : List LineAct) → IsTalkingLine s n1 (AtDriver (driver.Sent f) ∷ line) → carries d f ≡ true → IsKept s d data_channels stamps line
+    → TalkFits s.dialect data_channels d (captured stamps line)
+driver_fit s n1 d data_channels stamps f line h c (fits q) = q
+driver_fit s n1 d data_channels stamps f line h c (ended e up upm gone t) = absurd (driver_says_none s n1 d e f line up (talking_asked s n1 (AtDriver (driver.Sent f) ∷ line) h) gone c)
+
+modem_fit : (s : Setting) (n1 d : ℕ) (data_channels : List Dlci) (stamps : ℕ → Stamp) (f : Frame) (line : List LineAct) → IsTalkingLine s n1 (AtModem (station.Sent f) ∷ line) → carries d f ≡ true → IsKept s d data_channels stamps line
+    → TalkFits s.dialect data_channels d (captured stamps line)
+modem_fit s n1 d data_channels stamps f line h c (fits q) = q
+modem_fit s n1 d data_channels stamps f line h c (ended e up upm gone t) =
+    absurd (modem_says_none s n1 d e f line upm (talking_asked s n1 (AtModem (station.Sent f) ∷ line) h) (talking_before s n1 (AtModem (station.Sent f)) line h).opens_none gone c)
 
 -- ## What is told
 
@@ -221,7 +297,8 @@ driver_told s n1 data_channels stamps f line h = by_text (has_text data_channels
     by_text : (c : Bool) → has_text data_channels f ≡ c → IsRightTold s.dialect (if starts_afresh (asked_of_modem stamps line f) f.dlci f then [] else (if c then told_each s.dialect ToModem (talk_of s.dialect data_channels f.dlci (captured stamps line)) f.info else []))
     by_text c e = by_start (starts_afresh (asked_of_modem stamps line f) f.dlci f) c (λ k.
         let p = and_parts (is_data_frame f) (not (is_named data_channels f.dlci)) (e ∙ k) in
-        let q = all_fit s n1 f.dlci data_channels stamps line (turned_not (f.dlci == 0) (and_parts (is_kind f.kind Uih) (not (f.dlci == 0)) p.0).1) (turned_not (is_named data_channels f.dlci) p.1) (talking_before s n1 (AtDriver (driver.Sent f)) line h) in
+        let kept = all_kept s n1 f.dlci data_channels stamps line (turned_not (f.dlci == 0) (and_parts (is_kind f.kind Uih) (not (f.dlci == 0)) p.0).1) (turned_not (is_named data_channels f.dlci) p.1) (talking_before s n1 (AtDriver (driver.Sent f)) line h) in
+        let q = driver_fit s n1 f.dlci data_channels stamps f line h (data_carries f p.0) kept in
         let t = driver_text s.dialect (talk_of s.dialect data_channels f.dlci (captured stamps line)) (info_in f.dlci (frames_of Initiator (captured stamps line))) (info_in f.dlci (frames_of Responder (captured stamps line))) f.info q (driver_room s n1 f.dlci stamps f line h p.0 refl) in
         (data_goes_on (asked_of_modem stamps line f) f.dlci f p.0, (t.apart, t.prompted)))
 
@@ -237,7 +314,8 @@ modem_told s n1 data_channels stamps f line h = by_text (has_text data_channels 
     by_text : (c : Bool) → has_text data_channels f ≡ c → IsRightTold s.dialect (if starts_afresh (asked_of_driver stamps line f) f.dlci f then [] else (if c then told_each s.dialect FromModem (talk_of s.dialect data_channels f.dlci (captured stamps line)) f.info else []))
     by_text c e = by_start (starts_afresh (asked_of_driver stamps line f) f.dlci f) c (λ k.
         let p = and_parts (is_data_frame f) (not (is_named data_channels f.dlci)) (e ∙ k) in
-        let q = all_fit s n1 f.dlci data_channels stamps line (turned_not (f.dlci == 0) (and_parts (is_kind f.kind Uih) (not (f.dlci == 0)) p.0).1) (turned_not (is_named data_channels f.dlci) p.1) (talking_before s n1 (AtModem (station.Sent f)) line h) in
+        let kept = all_kept s n1 f.dlci data_channels stamps line (turned_not (f.dlci == 0) (and_parts (is_kind f.kind Uih) (not (f.dlci == 0)) p.0).1) (turned_not (is_named data_channels f.dlci) p.1) (talking_before s n1 (AtModem (station.Sent f)) line h) in
+        let q = modem_fit s n1 f.dlci data_channels stamps f line h (data_carries f p.0) kept in
         let t = modem_text s.dialect (talk_of s.dialect data_channels f.dlci (captured stamps line)) (info_in f.dlci (frames_of Initiator (captured stamps line))) (info_in f.dlci (frames_of Responder (captured stamps line))) f.info h.apart q (modem_room s n1 f.dlci stamps f line h p.0 refl) in
         (data_goes_on (asked_of_driver stamps line f) f.dlci f p.0, (t.apart, t.prompted)))
 
@@ -309,14 +387,17 @@ finishes_talk s n1 line h d done stamps data_channels = by_place (d == 0) (is_na
     by_place : (a b : Bool) → (d == 0) ≡ a → is_named data_channels d ≡ b → is_some (talk_of s.dialect data_channels d (captured stamps line)).window ≡ false
     by_place true b e g = ap (λ (t : Talk). is_some t.window) (says_nothing s.dialect data_channels d (ap (λ (x : Bool). x || is_named data_channels d) e) (captured stamps line))
     by_place false true e g = ap (λ (t : Talk). is_some t.window) (says_nothing s.dialect data_channels d (ap (λ (x : Bool). x || is_named data_channels d) e ∙ g) (captured stamps line))
-    by_place false false e g =
-        let cs = captured stamps line in
-        let seen = shows stamps line in
-        let fit = all_fit s n1 d data_channels stamps line e g h in
-        let count = fit.count in
-        let answered = done.answered in
-        let out : commands_in (lines (info_in d (frames_of Initiator cs))) ≡ commands_in (lines (info_got d (modem_past line))) =
-        ap (λ z. commands_in (lines z)) (ap (info_in d) seen.driver_frames ∙ (ap (info_in d) (sym done.came) ∙ sym (acts_got d (modem_past line)))) in
-        let back : finals_in s.dialect (lines (info_in d (frames_of Responder cs))) ≡ finals_in s.dialect (lines (info_sent d (modem_past line))) =
-        ap (λ z. finals_in s.dialect (lines z)) (ap (info_in d) seen.modem_frames ∙ sym (acts_sent d (modem_past line))) in
-        idle (talk_of s.dialect data_channels d cs).window (omega (arith, count, answered, out, back))
+    by_place false false e g = by_kept (all_kept s n1 d data_channels stamps line e g h)
+      where
+        by_kept : IsKept s d data_channels stamps line → is_some (talk_of s.dialect data_channels d (captured stamps line)).window ≡ false
+        by_kept (ended n up upm gone t) = ap (λ (x : Talk). is_some x.window) t
+        by_kept (fits fit) =
+            let cs = captured stamps line in
+            let seen = shows stamps line in
+            let count = fit.count in
+            let answered = done.answered in
+            let out : commands_in (lines (info_in d (frames_of Initiator cs))) ≡ commands_in (lines (info_got d (modem_past line))) =
+            ap (λ z. commands_in (lines z)) (ap (info_in d) seen.driver_frames ∙ (ap (info_in d) (sym done.came) ∙ sym (acts_got d (modem_past line)))) in
+            let back : finals_in s.dialect (lines (info_in d (frames_of Responder cs))) ≡ finals_in s.dialect (lines (info_sent d (modem_past line))) =
+            ap (λ z. finals_in s.dialect (lines z)) (ap (info_in d) seen.modem_frames ∙ sym (acts_sent d (modem_past line))) in
+            idle (talk_of s.dialect data_channels d cs).window (omega (arith, count, answered, out, back))

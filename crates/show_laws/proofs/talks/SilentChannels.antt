@@ -153,7 +153,7 @@ few_got_m t station.Given past h = h
 abbrev pub UnderM : ℕ → ℕ → Type 0
 UnderM d e = (past : List station.Act) → is_open Responder d past ≡ true → is_open Responder e past ≡ true
 
-gate_open : (n1 d e : ℕ) (past : List station.Act) (f : Frame) → UnderM d e → StationGated (responding n1) past f → f.dlci ≡ d → is_open Responder e past ≡ true
+pub gate_open : (n1 d e : ℕ) (past : List station.Act) (f : Frame) → UnderM d e → StationGated (responding n1) past f → f.dlci ≡ d → is_open Responder e past ≡ true
 gate_open n1 d e past f up g same = up past (subst (λ (n : ℕ). is_open Responder n past ≡ true) same g.is_open)
 
 -- before a SABM on e came, and before its UA on e was sent

@@ -1,15 +1,14 @@
--- A line on which commands are answered, at each of its points; and that what begins a connection afresh comes before any data on it.
-use Rattle.std.specs.Prelude.{◌≡◌, ℕ, ◌/◌, ◌%◌, ◌==◌, ◌≤◌, ◌&&◌, ◌||◌, not, Bool, true, false, List, [], ◌∷◌, Option, Some, None, refl, option_map, if◌then◌else◌}
+-- A line on which commands are answered, at each of its points; and that what begins a connection afresh comes before any data on it, or behind
+-- all of it.
+use Rattle.std.specs.Prelude.{◌≡◌, zero, suc, ℕ, ◌/◌, ◌%◌, ◌==◌, ◌≤◌, ◌&&◌, ◌||◌, not, Bool, true, false, List, [], ◌∷◌, Option, Some, None, refl, if◌then◌else◌}
 use Rattle.std.specs.List.{list_all, list_any}
 use Rattle.std.proofs.Common.{ap, arith, sym, ◌∙◌, eqb-true}
-use Rattle.std.proofs.lemmas.Bool.{and_from, and_parts, or_parts, or_right}
+use Rattle.std.proofs.lemmas.Bool.{and_from, and_parts, or_left, or_parts, or_right}
 use Rattle.mux_frame.specs.Frames.{Frame}
 use Rattle.mux_frame.specs.declared.frame.Kind.{Kind}
-use Rattle.mux_frame.specs.declared.frame.Kind.TheVariants.{Sabm, Ua, Dm, Disc, Uih}
-use Rattle.mux_capture.specs.Passing.{Caught}
+use Rattle.mux_frame.specs.declared.frame.Kind.TheVariants.{Sabm, Ua, Dm, Uih}
 use Rattle.mux_capture.specs.declared.packet.Stamp.{Stamp}
-use Rattle.mux_station.specs.declared.role.Role.{Role}
-use Rattle.mux_station.specs.declared.role.Role.TheVariants.{Initiator, Responder}
+use Rattle.mux_station.specs.declared.role.Role.TheVariants.{Responder}
 use Rattle.mux_station.specs.Acts as station
 use Rattle.mux_station.specs.Messages.{Message, brings_command, brings_response, cld, command_of, message_in, message_of, octet_is, response_of}
 use Rattle.mux_station.specs.Tables.{is_supported}
@@ -20,56 +19,37 @@ use Rattle.modem_history.specs.Acts.{wire}
 use Rattle.modem_history.specs.Calls.{Setting}
 use Rattle.modem_history.specs.TwoEnds.{frames_got, frames_sent}
 use Rattle.modem_history.proofs.commands.FramesOnLine.{asked_first, info_in}
-use Rattle.modem_show.specs.Asking.{Ask, answered_by, answers, both_respond, is_answer, is_mode_answer, is_mode_command, message_answers, message_asks, responds, waiting}
+use Rattle.modem_show.specs.Asking.{answers, both_respond, is_answer, is_mode_answer, is_mode_command, message_answers, message_asks, responds}
 use Rattle.modem_show.specs.Talking.{closes_all, is_close, is_turn_on, starts_afresh}
-use Rattle.show_laws.specs.Lines.{AtDriver, AtModem, LineAct, captured, driver_past, modem_past, responding}
-use Rattle.show_laws.specs.Talks.{AnswersCommands, AnswersNoMore, ClosesNothing, IsTalkingLine, OpensAndClosesNothing, closes, opens_or_closes}
+use Rattle.show_laws.specs.Lines.{AtDriver, AtModem, LineAct, driver_past, modem_past, responding}
+use Rattle.show_laws.specs.Talks.{AnswersCommands, AnswersNoMore, IsTalkingLine}
 use Rattle.show_laws.proofs.asks.AnswerShapes.{is_alike, is_shaped, message_no_mode, one_response, or_elim, response_octet, shaped_message}
 use Rattle.show_laws.proofs.asks.AnswersCalled.{AnyProbe, answers_balanced}
 use Rattle.show_laws.proofs.asks.NoneUnasked.{any_probes, driver_shaped, modem_shaped, self_alike}
-use Rattle.show_laws.proofs.asks.WaitingAsks.{frames_of}
 use Rattle.show_laws.proofs.counts.ManyFrames.{many, unit}
 use Rattle.show_laws.proofs.counts.DriverCounts.{driver_sends}
 use Rattle.show_laws.proofs.counts.StationCounts.{station_sends}
-use Rattle.show_laws.proofs.lines.CapturedFrames.{both_ways, came_few, shows}
+use Rattle.show_laws.proofs.lines.CapturedFrames.{both_ways, came_few}
 use Rattle.show_laws.proofs.lines.EveryFrame.{lawful_before}
 use Rattle.show_laws.proofs.openings.DiscBehindUa.{once_many}
-use Rattle.show_laws.proofs.openings.DriverOpen.{found_one, none_filtered, once_before, waiting_few}
+use Rattle.show_laws.proofs.openings.DriverOpen.{IsOnceLine, none_filtered, once_before}
 use Rattle.show_laws.proofs.openings.ModemFollows.{answer_on, ask_on, uas_fewer}
 use Rattle.show_laws.proofs.openings.ModemOpen.{asks_parts}
-use Rattle.show_laws.proofs.openings.ResponderCalls.{answer_balanced}
+use Rattle.show_laws.proofs.openings.ResponderCalls.{answer_balanced, is_down}
+use Rattle.show_laws.proofs.openings.BothOpen.{no_sabms, opens_before}
+use Rattle.show_laws.proofs.openings.ModeAnswers.{is_ending}
+use Rattle.show_laws.proofs.openings.ModemCloses.{clds_closed, discs_closed}
+use Rattle.show_laws.proofs.talks.EndedLines.{IsEnded, driver_ended, modem_ended}
 use Rattle.show_laws.proofs.talks.SilentChannels.{Under, UnderM, before_sabm, before_sabm_m, before_ua, before_ua_m}
 use Rattle.show_laws.proofs.texts.NoneAstray.{commands_before}
 
 -- ## Each point
 
-stays_before : (a : driver.Act) (past : List driver.Act) → ClosesNothing (wire (a ∷ past)) → ClosesNothing (wire past)
-stays_before (driver.Sent f) past h = (or_parts (closes f) (list_any closes (frames_sent (wire past))) h).1
-stays_before (driver.Took q) past h = h
-stays_before (driver.Got f) past h = h
-stays_before (driver.Told o) past h = h
-stays_before (driver.Heard k d l) past h = h
-stays_before driver.Tick past h = h
-stays_before driver.Lost past h = h
-stays_before (driver.Held d) past h = h
-stays_before (driver.Freed d) past h = h
-stays_before driver.Given past h = h
-
-steady_before : (a : station.Act) (past : List station.Act) → OpensAndClosesNothing (a ∷ past) → OpensAndClosesNothing past
-steady_before (station.Sent f) past h = (or_parts (opens_or_closes f) (list_any opens_or_closes (frames_sent past)) h).1
-steady_before (station.Called c) past h = h
-steady_before (station.Got f) past h = h
-steady_before station.Tick past h = h
-steady_before station.Lost past h = h
-steady_before station.Given past h = h
-
-
 pub talking_before : (s : Setting) (n1 : ℕ) (x : LineAct) (line : List LineAct) → IsTalkingLine s n1 (x ∷ line) → IsTalkingLine s n1 line
 talking_before s n1 (AtDriver a) line h = record {
   lawful = lawful_before s n1 (AtDriver a) line h.lawful;
   once = once_before a (driver_past line) h.once;
-  stays = stays_before a (driver_past line) h.stays;
-  steady = h.steady;
+  opens_none = h.opens_none;
   commands = commands_before a (driver_past line) h.commands;
   apart = h.apart;
   answers = h.answers;
@@ -77,8 +57,7 @@ talking_before s n1 (AtDriver a) line h = record {
 talking_before s n1 (AtModem a) line h = record {
   lawful = lawful_before s n1 (AtModem a) line h.lawful;
   once = h.once;
-  stays = h.stays;
-  steady = steady_before a (modem_past line) h.steady;
+  opens_none = opens_before a (modem_past line) h.opens_none;
   commands = h.commands;
   apart = h.apart;
   answers = h.answers.1;
@@ -87,64 +66,6 @@ talking_before s n1 (AtModem a) line h = record {
 pub answers_now : (dialect : Dialect) (past : List station.Act) → AnswersCommands dialect past → AnswersNoMore dialect past
 answers_now dialect [] h = λ d. omega arith
 answers_now dialect (a ∷ past) h = h.0
-
--- ## What wasn't sent
-
-none_asks : (d : ℕ) (fs : List Frame) → list_any opens_or_closes fs ≡ false → many (ask_on d) fs ≤ 0
-none_asks d [] h = omega arith
-none_asks d (f ∷ fs) h =
-    let p = or_parts (opens_or_closes f) (list_any opens_or_closes fs) h in
-    let q = or_parts (is_mode_command f) (brings_command cld f) p.0 in
-    let x : unit (ask_on d f) ≡ 0 = ap unit (off (is_mode_command f) (f.dlci == d) q.0) in
-    let y = none_asks d fs p.1 in
-    omega (arith, x, y)
-  where
-    off : (a b : Bool) → a ≡ false → (a && b) ≡ false
-    off true b e = cc
-    off false b e = refl
-
-none_down : (fs : List Frame) → list_any opens_or_closes fs ≡ false → list_any (brings_command cld) fs ≡ false
-none_down [] h = refl
-none_down (f ∷ fs) h =
-    let p = or_parts (opens_or_closes f) (list_any opens_or_closes fs) h in
-    both (brings_command cld f) (list_any (brings_command cld) fs) (or_parts (is_mode_command f) (brings_command cld f) p.0).1 (none_down fs p.1)
-  where
-    both : (a b : Bool) → a ≡ false → b ≡ false → (a || b) ≡ false
-    both true b e g = cc
-    both false b e g = g
-
--- none of the modem's frames that wait is a CLD
-none_cld : (fs : List Frame) → list_any (brings_command cld) fs ≡ false → many (brings_command cld) fs ≤ 0
-none_cld [] h = omega arith
-none_cld (f ∷ fs) h =
-    let p = or_parts (brings_command cld f) (list_any (brings_command cld) fs) h in
-    let x : unit (brings_command cld f) ≡ 0 = ap unit p.0 in
-    let y = none_cld fs p.1 in
-    omega (arith, x, y)
-
-pub none_by : (t p : Frame → Bool) → ((f : Frame) → t f ≡ false → p f ≡ false) → (fs : List Frame) → list_any t fs ≡ false → many p fs ≤ 0
-none_by t p k [] h = omega arith
-none_by t p k (f ∷ fs) h =
-    let q = or_parts (t f) (list_any t fs) h in
-    let x : unit (p f) ≡ 0 = ap unit (k f q.0) in
-    let y = none_by t p k fs q.1 in
-    omega (arith, x, y)
-
-abbrev is_disc : Frame → Bool
-is_disc f = is_kind f.kind Disc
-
-driver_discs : (s : Setting) (n1 : ℕ) (line : List LineAct) → IsTalkingLine s n1 line → many is_disc (frames_sent (wire (driver_past line))) ≤ 0
-driver_discs s n1 line h = none_by closes is_disc (λ f e. (or_parts (is_kind f.kind Disc) (brings_command cld f) e).0) (frames_sent (wire (driver_past line))) h.stays
-
-driver_clds : (s : Setting) (n1 : ℕ) (line : List LineAct) → IsTalkingLine s n1 line → many (brings_command cld) (frames_sent (wire (driver_past line))) ≤ 0
-driver_clds s n1 line h = none_by closes (brings_command cld) (λ f e. (or_parts (is_kind f.kind Disc) (brings_command cld f) e).1) (frames_sent (wire (driver_past line))) h.stays
-
-modem_discs : (s : Setting) (n1 : ℕ) (line : List LineAct) → IsTalkingLine s n1 line → many is_disc (frames_sent (modem_past line)) ≤ 0
-modem_discs s n1 line h =
-    none_by opens_or_closes is_disc (λ f e. (or_parts (is_kind f.kind Sabm) (is_kind f.kind Disc) (or_parts (is_mode_command f) (brings_command cld f) e).0).1) (frames_sent (modem_past line)) h.steady
-
-modem_clds : (s : Setting) (n1 : ℕ) (line : List LineAct) → IsTalkingLine s n1 line → many (brings_command cld) (frames_sent (modem_past line)) ≤ 0
-modem_clds s n1 line h = none_cld (frames_sent (modem_past line)) (none_down (frames_sent (modem_past line)) h.steady)
 
 -- ## Answers to what wasn't sent
 
@@ -220,34 +141,37 @@ no_down f sent got asked shaped few came none down =
         by_test false e = let u : unit (answers x f) ≡ 0 = ap unit e in omega (arith, u)
         by_test true e = let u : unit (answers x f) ≡ 1 = ap unit e in let v : unit (brings_command cld x) ≡ 1 = ap unit (down_answers x f shape down e) in omega (arith, u, v)
 
--- what is answered isn't a DISC
-pub close_never : (r : Role) (cs : List Caught) (f : Frame) → many is_disc (frames_of r cs) ≤ 0 → is_close (option_map (λ a. a.frame.kind) (answered_by f (waiting r cs))) ≡ false
-close_never r cs f none = by_found (answered_by f (waiting r cs)) refl
-  where
-    by_found : (o : Option Ask) → answered_by f (waiting r cs) ≡ o → is_close (option_map (λ a. a.frame.kind) o) ≡ false
-    by_found None e = refl
-    by_found (Some a) e = let few = waiting_few is_disc r cs in (found_one is_disc (λ g. answers g f) (waiting r cs) a e (omega (arith, few, none))).1
+pub talking_asked : (s : Setting) (n1 : ℕ) (line : List LineAct) → IsTalkingLine s n1 line → IsOnceLine s n1 line
+talking_asked s n1 line h = record { lawful = h.lawful; once = h.once }
 
 -- ## What begins a connection afresh
 
-turned_by : {P : Type 0} → (answered : Option Kind) (e : ℕ) (f : Frame) → is_close answered ≡ false → (is_on Sabm e f ≡ true → P) → (is_on Dm e f ≡ true → P) → is_turn_on answered e f ≡ true → P
-turned_by answered e f none sabm dm h =
+turned_by : {P : Type 0} → (answered : Option Kind) (e : ℕ) (f : Frame) → (is_on Sabm e f ≡ true → P) → (answer_on e f ≡ true → P) → is_turn_on answered e f ≡ true → P
+turned_by answered e f sabm answer h =
     or_elim (is_on Sabm e f) ((is_on Ua e f && is_close answered) || is_on Dm e f) h sabm
-    (λ k. or_elim (is_on Ua e f && is_close answered) (is_on Dm e f) k (λ u. absurd (let t : true ≡ false = sym (and_parts (is_on Ua e f) (is_close answered) u).1 ∙ none in cc)) dm)
+    (λ k. or_elim (is_on Ua e f && is_close answered) (is_on Dm e f) k
+    (λ u. let p = and_parts (is_kind f.kind Ua) (f.dlci == e) (and_parts (is_on Ua e f) (is_close answered) u).0 in answer (and_from (is_mode_answer f) (f.dlci == e) (or_left (is_kind f.kind Ua) (is_kind f.kind Dm) p.0) p.1))
+    (λ m. let p = and_parts (is_kind f.kind Dm) (f.dlci == e) m in answer (and_from (is_mode_answer f) (f.dlci == e) (or_right (is_kind f.kind Ua) (is_kind f.kind Dm) p.0) p.1)))
 
-afresh_by : {P : Type 0} → (answered : Option Kind) (d : ℕ) (f : Frame) → is_close answered ≡ false → (is_on Sabm 0 f ≡ true → P) → (is_on Dm 0 f ≡ true → P) → (is_on Sabm d f ≡ true → P) → (is_on Dm d f ≡ true → P)
+afresh_by : {P : Type 0} → (answered : Option Kind) (d : ℕ) (f : Frame) → (is_on Sabm 0 f ≡ true → P) → (answer_on 0 f ≡ true → P) → (is_on Sabm d f ≡ true → P) → (answer_on d f ≡ true → P)
     → (brings_response cld f ≡ true → P) → starts_afresh answered d f ≡ true → P
-afresh_by answered d f none s0 d0 sd dd down h =
+afresh_by answered d f s0 a0 sd ad down h =
     or_elim (closes_all answered f) (is_turn_on answered d f) h
-    (λ k. or_elim (is_turn_on answered 0 f) (brings_response cld f) k (turned_by answered 0 f none s0 d0) down) (turned_by answered d f none sd dd)
+    (λ k. or_elim (is_turn_on answered 0 f) (brings_response cld f) k (turned_by answered 0 f s0 a0) down) (turned_by answered d f sd ad)
 
 -- no data was sent before on d
 pub record IsSilent (d : ℕ) (line : List LineAct) : Type 0 where
   pub driver : info_in d (frames_sent (wire (driver_past line))) ≡ []
   pub modem : info_in d (frames_sent (modem_past line)) ≡ []
 
-dm_answers : (e : ℕ) (f : Frame) → is_on Dm e f ≡ true → answer_on e f ≡ true
-dm_answers e f h = let p = and_parts (is_kind f.kind Dm) (f.dlci == e) h in and_from (is_mode_answer f) (f.dlci == e) (or_right (is_kind f.kind Ua) (is_kind f.kind Dm) p.0) p.1
+-- either no data was sent on d, or d or 0 ended for good
+pub data IsFresh (s : Setting) (d : ℕ) (line : List LineAct) : Type 0 where
+  quiet : IsSilent d line → IsFresh s d line
+  past_it : (e : ℕ) → Under s d e → UnderM d e → IsEnded e line → IsFresh s d line
+
+some_of : (n : ℕ) → (n ≤ 0 → ⊥) → 1 ≤ n
+some_of zero k = absurd (k (omega arith))
+some_of (suc n) k = omega arith
 
 -- the driver asks for a connection, for the first time
 driver_sabm : (s : Setting) (n1 d e : ℕ) (f : Frame) (line : List LineAct) → Under s d e → UnderM d e → IsTalkingLine s n1 (AtDriver (driver.Sent f) ∷ line) → is_on Sabm e f ≡ true → IsSilent d line
@@ -261,86 +185,81 @@ driver_sabm s n1 d e f line up upm h is =
       modem = before_sabm_m n1 d e (modem_past line) upm k.lawful.modem_lawful (omega (arith, first, came));
     }
 
-driver_dm : (s : Setting) (n1 e : ℕ) (f : Frame) (line : List LineAct) → IsTalkingLine s n1 (AtDriver (driver.Sent f) ∷ line) → is_on Dm e f ≡ true → ⊥
-driver_dm s n1 e f line h is =
+-- the driver answers what closes a connection
+driver_answer : (s : Setting) (n1 e : ℕ) (stamps : ℕ → Stamp) (f : Frame) (line : List LineAct) → IsTalkingLine s n1 (AtDriver (driver.Sent f) ∷ line) → answer_on e f ≡ true → IsEnded e line
+driver_answer s n1 e stamps f line h is =
     let past = driver.Sent f ∷ driver_past line in
+    let fs = frames_sent (modem_past line) in
     let sent = driver_sends AnyProbe s (answer_on e) (ask_on e) (answer_balanced s.n1 s.role e) past h.lawful.driver_lawful (any_probes past) in
     let came = came_few (ask_on e) (modem_past line) (wire past) (both_ways (AtDriver (driver.Sent f) ∷ line) h.lawful.one_line).at_driver in
-    let none = none_asks e (frames_sent (modem_past line)) h.steady in
-    let one : unit (answer_on e f) ≡ 1 = ap unit (dm_answers e f is) in
-    omega (arith, sent, came, none, one)
+    let parts = asks_parts e fs in
+    let sabms = no_sabms e fs h.opens_none in
+    let discs = discs_closed e fs in
+    let one : unit (answer_on e f) ≡ 1 = ap unit is in
+    let p = and_parts (is_mode_answer f) (f.dlci == e) is in
+    driver_ended s n1 e stamps f line (talking_asked s n1 (AtDriver (driver.Sent f) ∷ line) h) h.opens_none
+    (or_left (is_ending e f) (is_down f) (and_from (is_mode_answer f) ((f.dlci == e) || (f.dlci == 0)) p.0 (or_left (f.dlci == e) (f.dlci == 0) p.1))) (omega (arith, sent, came, parts, sabms, discs, one))
 
-driver_down : (s : Setting) (n1 : ℕ) (f : Frame) (line : List LineAct) → IsTalkingLine s n1 (AtDriver (driver.Sent f) ∷ line) → brings_response cld f ≡ true → ⊥
-driver_down s n1 f line h down =
+driver_down : (s : Setting) (n1 : ℕ) (stamps : ℕ → Stamp) (f : Frame) (line : List LineAct) → IsTalkingLine s n1 (AtDriver (driver.Sent f) ∷ line) → brings_response cld f ≡ true → IsEnded 0 line
+driver_down s n1 stamps f line h down =
     let past = driver.Sent f ∷ driver_past line in
-    no_down f (frames_sent (wire (driver_past line))) (frames_got (wire (driver_past line))) (frames_sent (modem_past line)) (driver_shaped s past h.lawful.driver_lawful)
+    let fs = frames_sent (modem_past line) in
+    let some = some_of (many (brings_command cld) fs) (λ none.
+    no_down f (frames_sent (wire (driver_past line))) (frames_got (wire (driver_past line))) fs (driver_shaped s past h.lawful.driver_lawful)
     (driver_sends AnyProbe s (is_alike f) (λ x. answers x f) (answers_balanced s.n1 s.role f (down_is_answer f down)) past h.lawful.driver_lawful (any_probes past))
-    (came_few (λ x. answers x f) (modem_past line) (wire (driver_past line)) (both_ways line h.lawful.one_line.1).at_driver)
-    (modem_clds s n1 (AtDriver (driver.Sent f) ∷ line) h) down
+    (came_few (λ x. answers x f) (modem_past line) (wire (driver_past line)) (both_ways line h.lawful.one_line.1).at_driver) none down) in
+    let all = clds_closed fs in
+    driver_ended s n1 0 stamps f line (talking_asked s n1 (AtDriver (driver.Sent f) ∷ line) h) h.opens_none (or_right (is_ending 0 f) (is_down f) down) (omega (arith, some, all))
 
 modem_sabm : (s : Setting) (n1 e : ℕ) (f : Frame) (line : List LineAct) → IsTalkingLine s n1 (AtModem (station.Sent f) ∷ line) → is_on Sabm e f ≡ true → ⊥
 modem_sabm s n1 e f line h is =
-    let none = (or_parts (opens_or_closes f) (list_any opens_or_closes (frames_sent (modem_past line))) h.steady).0 in
-    let off = (or_parts (is_kind f.kind Sabm) (is_kind f.kind Disc) (or_parts (is_mode_command f) (brings_command cld f) none).0).0 in
+    let off = (or_parts (is_kind f.kind Sabm) (list_any (λ g. is_kind g.kind Sabm) (frames_sent (modem_past line))) h.opens_none).0 in
     let t : true ≡ false = sym (and_parts (is_kind f.kind Sabm) (f.dlci == e) is).0 ∙ off in cc
 
--- a DM is the modem's only answer on its connection
-modem_dm : (s : Setting) (n1 d e : ℕ) (f : Frame) (line : List LineAct) → Under s d e → UnderM d e → IsTalkingLine s n1 (AtModem (station.Sent f) ∷ line) → is_on Dm e f ≡ true → IsSilent d line
-modem_dm s n1 d e f line up upm h is =
-    let k = talking_before s n1 (AtModem (station.Sent f)) line h in
-    let past = station.Sent f ∷ modem_past line in
-    let sent = station_sends AnyProbe (responding n1) (answer_on e) (ask_on e) (answer_balanced n1 Responder e) past h.lawful.modem_lawful in
-    let came = came_few (ask_on e) (wire (driver_past line)) past (both_ways (AtModem (station.Sent f) ∷ line) h.lawful.one_line).at_modem in
-    let parts = asks_parts e (frames_sent (wire (driver_past line))) in
-    let few = once_many (is_on Sabm e) (frames_sent (wire (driver_past line))) in
-    let once = h.once e in
-    let discs = driver_discs s n1 (AtModem (station.Sent f) ∷ line) h in
-    let fewer = disc_on (frames_sent (wire (driver_past line))) in
-    let one : unit (answer_on e f) ≡ 1 = ap unit (dm_answers e f is) in
-    let uas = uas_fewer e (frames_sent (modem_past line)) in
-    let none : many (is_on Ua e) (frames_sent (modem_past line)) ≤ 0 = omega (arith, sent, came, parts, few, once, discs, fewer, one, uas) in
-    let back = came_few (is_on Ua e) (modem_past line) (wire (driver_past line)) (both_ways line k.lawful.one_line).at_driver in
-    record {
-      driver = before_ua s d e (driver_past line) k.lawful.is_initiator up k.lawful.driver_lawful (omega (arith, none, back));
-      modem = before_ua_m n1 d e (modem_past line) upm k.lawful.modem_lawful none;
-    }
+-- the modem's first answer on a connection, and each other one
+modem_answer : (s : Setting) (n1 d e : ℕ) (f : Frame) (line : List LineAct) → Under s d e → UnderM d e → IsTalkingLine s n1 (AtModem (station.Sent f) ∷ line) → answer_on e f ≡ true → IsFresh s d line
+modem_answer s n1 d e f line up upm h is = by_first (many (is_on Ua e) (frames_sent (modem_past line))) refl
   where
-    disc_on : (fs : List Frame) → many (is_on Disc e) fs ≤ many is_disc fs
-    disc_on [] = omega arith
-    disc_on (g ∷ fs) = let x = disc_on fs in let y = by_kind (is_kind g.kind Disc) (g.dlci == e) in omega (arith, x, y)
-      where
-        by_kind : (a b : Bool) → unit (a && b) ≤ unit a
-        by_kind true true = omega arith
-        by_kind true false = omega arith
-        by_kind false b = omega arith
+    k : IsTalkingLine s n1 line
+    k = talking_before s n1 (AtModem (station.Sent f)) line h
 
-modem_down : (s : Setting) (n1 : ℕ) (f : Frame) (line : List LineAct) → IsTalkingLine s n1 (AtModem (station.Sent f) ∷ line) → brings_response cld f ≡ true → ⊥
+    by_first : (n : ℕ) → many (is_on Ua e) (frames_sent (modem_past line)) ≡ n → IsFresh s d line
+    by_first zero none =
+        let back = came_few (is_on Ua e) (modem_past line) (wire (driver_past line)) (both_ways line k.lawful.one_line).at_driver in
+        quiet (record {
+          driver = before_ua s d e (driver_past line) k.lawful.is_initiator up k.lawful.driver_lawful (omega (arith, none, back));
+          modem = before_ua_m n1 d e (modem_past line) upm k.lawful.modem_lawful (omega (arith, none));
+        })
+    by_first (suc n) some =
+        let past = station.Sent f ∷ modem_past line in
+        let got = frames_got (modem_past line) in
+        let sent = station_sends AnyProbe (responding n1) (answer_on e) (ask_on e) (answer_balanced n1 Responder e) past h.lawful.modem_lawful in
+        let parts = asks_parts e got in
+        let came = came_few (is_on Sabm e) (wire (driver_past line)) (modem_past line) (both_ways line k.lawful.one_line).at_modem in
+        let few = once_many (is_on Sabm e) (frames_sent (wire (driver_past line))) in
+        let once = k.once e in
+        let discs = discs_closed e got in
+        let one : unit (answer_on e f) ≡ 1 = ap unit is in
+        let uas = uas_fewer e (frames_sent (modem_past line)) in
+        past_it e up upm (modem_ended s n1 e line (talking_asked s n1 line k) (omega (arith, sent, parts, came, few, once, discs, one, uas, some)))
+
+modem_down : (s : Setting) (n1 : ℕ) (f : Frame) (line : List LineAct) → IsTalkingLine s n1 (AtModem (station.Sent f) ∷ line) → brings_response cld f ≡ true → IsEnded 0 line
 modem_down s n1 f line h down =
     let past = station.Sent f ∷ modem_past line in
-    no_down f (frames_sent (modem_past line)) (frames_got (modem_past line)) (frames_sent (wire (driver_past line))) (modem_shaped n1 past h.lawful.modem_lawful)
+    let got = frames_got (modem_past line) in
+    let some = some_of (many (brings_command cld) got) (λ none.
+    no_down f (frames_sent (modem_past line)) got got (modem_shaped n1 past h.lawful.modem_lawful)
     (station_sends AnyProbe (responding n1) (is_alike f) (λ x. answers x f) (answers_balanced n1 Responder f (down_is_answer f down)) past h.lawful.modem_lawful)
-    (came_few (λ x. answers x f) (wire (driver_past line)) (modem_past line) (both_ways line h.lawful.one_line.1).at_modem)
-    (driver_clds s n1 (AtModem (station.Sent f) ∷ line) h) down
+    (omega arith) none down) in
+    let all = clds_closed got in
+    modem_ended s n1 0 line (talking_asked s n1 line (talking_before s n1 (AtModem (station.Sent f)) line h)) (omega (arith, some, all))
 
-pub driver_afresh : (s : Setting) (n1 d : ℕ) (f : Frame) (line : List LineAct) (answered : Option Kind) → Under s d 0 → UnderM d 0 → IsTalkingLine s n1 (AtDriver (driver.Sent f) ∷ line) → is_close answered ≡ false → starts_afresh answered d f ≡ true → IsSilent d line
-driver_afresh s n1 d f line answered up upm h none =
-    afresh_by answered d f none (driver_sabm s n1 d 0 f line up upm h) (λ k. absurd (driver_dm s n1 0 f line h k)) (driver_sabm s n1 d d f line (λ p l o. o) (λ p o. o) h) (λ k. absurd (driver_dm s n1 d f line h k))
-    (λ k. absurd (driver_down s n1 f line h k))
+pub driver_afresh : (s : Setting) (n1 d : ℕ) (stamps : ℕ → Stamp) (f : Frame) (line : List LineAct) (answered : Option Kind) → Under s d 0 → UnderM d 0 → IsTalkingLine s n1 (AtDriver (driver.Sent f) ∷ line) → starts_afresh answered d f ≡ true → IsFresh s d line
+driver_afresh s n1 d stamps f line answered up upm h =
+    afresh_by answered d f (λ k. quiet (driver_sabm s n1 d 0 f line up upm h k)) (λ k. past_it 0 up upm (driver_answer s n1 0 stamps f line h k)) (λ k. quiet (driver_sabm s n1 d d f line (λ p l o. o) (λ p o. o) h k))
+    (λ k. past_it d (λ p l o. o) (λ p o. o) (driver_answer s n1 d stamps f line h k)) (λ k. past_it 0 up upm (driver_down s n1 stamps f line h k))
 
-pub modem_afresh : (s : Setting) (n1 d : ℕ) (f : Frame) (line : List LineAct) (answered : Option Kind) → Under s d 0 → UnderM d 0 → IsTalkingLine s n1 (AtModem (station.Sent f) ∷ line) → is_close answered ≡ false → starts_afresh answered d f ≡ true → IsSilent d line
-modem_afresh s n1 d f line answered up upm h none =
-    afresh_by answered d f none (λ k. absurd (modem_sabm s n1 0 f line h k)) (modem_dm s n1 d 0 f line up upm h) (λ k. absurd (modem_sabm s n1 d f line h k)) (modem_dm s n1 d d f line (λ p l o. o) (λ p o. o) h)
-    (λ k. absurd (modem_down s n1 f line h k))
-
--- no DISC is answered on such a line
-pub driver_close_never : (s : Setting) (n1 : ℕ) (stamps : ℕ → Stamp) (f : Frame) (line : List LineAct) → IsTalkingLine s n1 line → is_close (option_map (λ a. a.frame.kind) (answered_by f (waiting Responder (captured stamps line)))) ≡ false
-driver_close_never s n1 stamps f line h =
-    let none = modem_discs s n1 line h in
-    let same : many is_disc (frames_of Responder (captured stamps line)) ≡ many is_disc (frames_sent (modem_past line)) = ap (many is_disc) (shows stamps line).modem_frames in
-    close_never Responder (captured stamps line) f (omega (arith, none, same))
-
-pub modem_close_never : (s : Setting) (n1 : ℕ) (stamps : ℕ → Stamp) (f : Frame) (line : List LineAct) → IsTalkingLine s n1 line → is_close (option_map (λ a. a.frame.kind) (answered_by f (waiting Initiator (captured stamps line)))) ≡ false
-modem_close_never s n1 stamps f line h =
-    let none = driver_discs s n1 line h in
-    let same : many is_disc (frames_of Initiator (captured stamps line)) ≡ many is_disc (frames_sent (wire (driver_past line))) = ap (many is_disc) (shows stamps line).driver_frames in
-    close_never Initiator (captured stamps line) f (omega (arith, none, same))
+pub modem_afresh : (s : Setting) (n1 d : ℕ) (f : Frame) (line : List LineAct) (answered : Option Kind) → Under s d 0 → UnderM d 0 → IsTalkingLine s n1 (AtModem (station.Sent f) ∷ line) → starts_afresh answered d f ≡ true → IsFresh s d line
+modem_afresh s n1 d f line answered up upm h =
+    afresh_by answered d f (λ k. absurd (modem_sabm s n1 0 f line h k)) (modem_answer s n1 d 0 f line up upm h) (λ k. absurd (modem_sabm s n1 d f line h k)) (modem_answer s n1 d d f line (λ p l o. o) (λ p o. o) h)
+    (λ k. past_it 0 up upm (modem_down s n1 f line h k))
