@@ -3,7 +3,7 @@
   ppp_end.py serve|fetch WHERE OCTETS
 
 WHERE is a terminal's path, or fd:N for an open file. PPP is that of RFC 1661, 1662 and 1332, without options but the address, between WHERE
-and a tun device. `serve` is 10.9.0.2 and waits at a port of TCP. `fetch` is 10.9.0.1: it sends three ICMP echoes, then connects. Both send so
+and a tun device. `serve` is 10.9.0.2 and waits at a port of TCP. `fetch` is 10.9.0.1: it connects, then sends three ICMP echoes. Both send so
 many octets, made by chance from a seed of each end, and read as many. Then one line of JSON tells what came. It wants root.
 """
 import binascii
@@ -253,9 +253,9 @@ def main():
     told = {"up": link.up.wait(20), "pings": [], "came": 0}
     threading.Thread(target=leave_at_end, args=(link, told), daemon=True).start()
     if told["up"]:
-        told["pings"] = pings(3) if end == "fetch" else []
-        begun = time.monotonic()
         with connection(end) as it:
+            told["pings"] = pings(3) if end == "fetch" else []
+            begun = time.monotonic()
             came = exchange(end, it, count)
             told.update(came=len(came), digest=digest(came), seconds=time.monotonic() - begun, bad=link.bad)
             it.shutdown(socket.SHUT_WR)
