@@ -9,3 +9,4 @@ pub mod answered
 pub mod stops
 pub mod sound
 pub mod talks
+pub mod simulated

@@ -2,3 +2,4 @@ pub mod Lines
 pub mod Laws
 pub mod Talks
 pub mod LineRows
+pub mod Simulated

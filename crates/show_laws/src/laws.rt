@@ -4,6 +4,9 @@ ghost use Rattle.modem_history.specs.Calls.{Setting};
 ghost use Rattle.show_laws.specs.Lines.{LineAct};
 ghost use Rattle.show_laws.specs.LineRows.{AreRight};
 ghost use Rattle.show_laws.specs.Talks.{FinishesTalk, TalksInTurn};
+ghost use Rattle.modem_sim.specs.Acts.{End};
+ghost use Rattle.modem_ends.specs.OneModem.{EndAct};
+ghost use Rattle.show_laws.specs.Simulated.{Simulates, SoundToModem};
 ghost use Rattle.show_laws.specs.Laws.{AllSound, AnswersAll, AnswersAsks, BothSendWhileOpen, CarriesText, FitsN1, HeedsStops, NeverStopped, SendsWhileOpen};
 
 /// No frame between a driver that keeps its laws and a modem that keeps the responder's tables is judged an answer that nothing waits
@@ -75,6 +78,19 @@ pub fn talks()
 #[tactic(auto, using(crate::proofs::talks::InTurn::finishes_talk))]
 pub fn talks_end()
     ensures { (s : Setting) (n1 : ℕ) (line : List LineAct) → FinishesTalk s n1 line }
+{}
+
+/// A line of a driver and a simulated modem is such a lawful line, on which each connection is asked for once, and the modem opens none.
+#[tactic(auto, using(crate::proofs::simulated::SimulatedLines::simulates))]
+pub fn simulated()
+    ensures { (s : Setting) (e : End) (line : List EndAct) → Simulates s e line }
+{}
+
+/// Nothing is judged wrong with any frame of it, where the modem does at once what each act calls for, what is offered is text, and probes
+/// are short.
+#[tactic(auto, using(crate::proofs::simulated::SimulatedLines::sound_to_modem))]
+pub fn simulated_frames()
+    ensures { (s : Setting) (e : End) (line : List EndAct) → SoundToModem s e line }
 {}
 
 /// Worked lines that are lawful, on which no frame is judged wrong and nothing is left unanswered: a command and a stop, which meets all that
