@@ -1,9 +1,9 @@
 -- The steps of one file: what it gives and takes, and what its connection does.
-use Rattle.std.specs.Prelude.{◌≡◌, ◌≢◌, ◌⊎◌, ℕ, ◌==◌, Bool, true, false, List, [], ◌∷◌, ◌++◌, drop, length, Result, Ok, Err, IfOk, OnOk, OnErr, is_err, refl}
+use Rattle.std.specs.Prelude.{◌≡◌, ◌⊎◌, ℕ, ◌+◌, ◌<◌, ◌≤◌, ◌==◌, Bool, true, false, List, [], ◌∷◌, ◌++◌, length, Result, Ok, Err, IfOk, OnOk, OnErr, is_err, refl}
 use Rattle.std.specs.List.{list_all}
-use Rattle.std.proofs.Common.{ap, sym, ◌∙◌, subst, inl, inr, true≢false}
+use Rattle.std.proofs.Common.{ap, arith, sym, ◌∙◌, subst, inl, inr, true≢false}
 use Rattle.std.proofs.lemmas.Bool.{and_from, eq-eqb}
-use Rattle.std.proofs.lemmas.List.{append_assoc, append-nil}
+use Rattle.std.proofs.lemmas.List.{append_assoc, append-nil, length-append}
 use Rattle.serial_line.specs.Counts.{one_more, counted_if_none}
 use Rattle.modem_data.specs.Passing.{Pass, Gave, Read, given}
 use Rattle.serial_line.specs.declared.line.LineFault.{LineFault}
@@ -11,10 +11,10 @@ use Rattle.modem_data.specs.declared.error.DataError.{DataError}
 use Rattle.modem_data.specs.Hops.{Hop, Hops, Passed, passes}
 use Rattle.modem_data_line.specs.DataLines.{Before, DataLineState, LineFits}
 use Rattle.data_files.specs.Files.{FileFits, FileState}
-use Rattle.data_files.specs.Moves.{FileMoves, GaveFirst, IsAskedFile, IsOfferedFile, TurnCame, is_of_file}
+use Rattle.data_files.specs.Moves.{FileMoves, GaveFirst, is_of_file}
 use Rattle.data_files.proofs.Hopping.{all_both, passes_both}
 
-same_dlci : (d : ℕ) → (d == d) ≡ true
+pub same_dlci : (d : ℕ) → (d == d) ≡ true
 same_dlci d = eq-eqb d d refl
 
 -- a call of the lanes is one hop of the line
@@ -115,50 +115,16 @@ went_to_file g t f h came split e past x = subst (λ (y : FileState _). FileFits
   read_are = x.read_are ∙ sym split;
 })
 
--- ## Its turn
+-- ## It is asked
 
-longer : (xs : List ℕ) (y : ℕ) (ys : List ℕ) → xs ++ (y ∷ ys) ≢ xs
-longer [] y ys e = cc
-longer (x ∷ xs) y ys e = longer xs y ys (ap (λ (l : List ℕ). drop 1 l) e)
-
-asked : (r0 r1 more : List ℕ) (n e0 e1 : ℕ) → r1 ≡ r0 ++ more → n ≡ length more → e1 ≡ counted_if_none 512 n e0 → (r1 ≢ r0) ⊎ (e1 ≡ one_more e0)
-asked r0 r1 [] n e0 e1 came count e = inr (e ∙ ap (λ (k : ℕ). counted_if_none 512 k e0) count)
-asked r0 r1 (y ∷ ys) n e0 e1 came count e = inl (λ q. longer r0 y ys (sym came ∙ q))
+asked : (r0 r1 more : List ℕ) (n e0 e1 : ℕ) → r1 ≡ r0 ++ more → n ≡ length more → e1 ≡ counted_if_none 512 n e0 → (length r0 < length r1) ⊎ (one_more e0 ≤ e1)
+asked r0 r1 [] n e0 e1 came count e =
+    inr (let rises : e1 ≡ one_more e0 = e ∙ ap (λ (k : ℕ). counted_if_none 512 k e0) count in omega (arith, rises))
+asked r0 r1 (y ∷ ys) n e0 e1 came count e =
+    inl (let long : length r1 ≡ length r0 + length (y ∷ ys) = ap length came ∙ length-append r0 (y ∷ ys) in omega (arith, long))
 
 -- a read that didn't fail
 pub asked_file : {Y : Type 0} (g : Y → List ℕ) (e : Y → ℕ) (f h : Y) (ended : Bool) (more : List ℕ) (r : Result ℕ LineFault) → is_err r ≡ false → IfOk r (λ n. n ≡ length more)
-    → g h ≡ g f ++ more → IfOk r (λ n. e h ≡ counted_if_none 512 n (e f)) → (ended ≡ true) ⊎ ((g h ≢ g f) ⊎ (e h ≡ one_more (e f)))
+    → g h ≡ g f ++ more → IfOk r (λ n. e h ≡ counted_if_none 512 n (e f)) → (ended ≡ true) ⊎ ((length (g f) < length (g h)) ⊎ (one_more (e f) ≤ e h))
 asked_file g e f h ended more (Ok n) sound count came empty = inr (asked (g f) (g h) more n (e f) (e h) came count empty)
 asked_file g e f h ended more (Err why) sound count came empty = absurd (true≢false sound)
-
-asked_on : {Y : Type 0} (g : Y → List ℕ) (e : Y → ℕ) (f h k : FileState Y) → g k.file ≡ g h.file → e k.file ≡ e h.file → k.has_ended ≡ h.has_ended
-    → IsAskedFile g e f h → IsAskedFile g e f k
-asked_on g e f h k came empty ended (inl x) = inl (ended ∙ x)
-asked_on g e f h k came empty ended (inr (inl x)) = inr (inl (λ q. x (sym came ∙ q)))
-asked_on g e f h k came empty ended (inr (inr x)) = inr (inr (empty ∙ x))
-
-offered_on : {Y : Type 0} (t : Y → List ℕ) (e : Y → ℕ) (f h k : FileState Y) → t h.file ≡ t f.file → e h.file ≡ e f.file
-    → IsOfferedFile t e h k → IsOfferedFile t e f k
-offered_on t e f h k went stalled (inl x) = inl x
-offered_on t e f h k went stalled (inr (inl x)) = inr (inl (λ q. x (q ∙ sym went)))
-offered_on t e f h k went stalled (inr (inr x)) = inr (inr (x ∙ ap one_more stalled))
-
--- f before, a behind its read, b behind what was given, c behind what was taken, h behind its write
-pub turn_came : {Y : Type 0} (g t : Y → List ℕ) (empty stalled : Y → ℕ) (f a b c h : FileState Y)
-    → (f.ungiven ≡ [] → f.has_ended ≡ false → IsAskedFile g empty f a) → a ≡ record f { file = a.file; ungiven = a.ungiven; has_ended = a.has_ended }
-    → (t a.file ≡ t f.file) × (stalled a.file ≡ stalled f.file) → b ≡ record a { ungiven = b.ungiven } → c ≡ record b { unwritten = c.unwritten; is_over = c.is_over }
-    → (b.unwritten ≢ [] → c ≡ b) → (c.unwritten ≢ [] → IsOfferedFile t stalled c h) → (g h.file ≡ g c.file) × (empty h.file ≡ empty c.file)
-    → h ≡ record c { file = h.file; unwritten = h.unwritten; is_broken = h.is_broken } → TurnCame g t empty stalled f h
-turn_came g t empty stalled f a b c h asks a_is none_went b_is c_is still offers none_came h_is = record {
-  asked = λ none more.
-      asked_on g empty f a h (none_came.0 ∙ ap g same_file) (none_came.1 ∙ ap empty same_file)
-      (ap (λ (x : FileState _). x.has_ended) h_is ∙ (ap (λ (x : FileState _). x.has_ended) c_is ∙ ap (λ (x : FileState _). x.has_ended) b_is)) (asks none more);
-  offered = λ some.
-      let waits : b.unwritten ≡ f.unwritten = ap (λ (x : FileState _). x.unwritten) b_is ∙ ap (λ (x : FileState _). x.unwritten) a_is in
-      let kept : c ≡ b = still (λ q. some (sym waits ∙ q)) in
-      let still_some : c.unwritten ≢ [] = λ q. some (sym (ap (λ (x : FileState _). x.unwritten) kept ∙ waits) ∙ q) in
-      offered_on t stalled f c h (ap t same_file ∙ none_went.0) (ap stalled same_file ∙ none_went.1) (offers still_some);
-}
-  where
-    same_file : c.file ≡ a.file
-    same_file = ap (λ (x : FileState _). x.file) c_is ∙ ap (λ (x : FileState _). x.file) b_is

@@ -1,11 +1,11 @@
 -- What hops do to what was given and read on a connection.
-use Rattle.std.specs.Prelude.{◌≡◌, ℕ, ◌==◌, Bool, true, false, List, [], ◌∷◌, ◌++◌, if◌then◌else◌, refl}
+use Rattle.std.specs.Prelude.{◌≡◌, ℕ, ◌-◌, ◌==◌, Bool, true, false, List, [], ◌∷◌, ◌++◌, length, if◌then◌else◌, refl}
 use Rattle.std.specs.List.{list_all}
-use Rattle.std.proofs.Common.{ap, sym, ◌∙◌, subst}
+use Rattle.std.proofs.Common.{ap, ap₂, sym, ◌∙◌, subst}
 use Rattle.std.proofs.lemmas.Bool.{and_from, and_parts, eqb-true}
 use Rattle.std.proofs.lemmas.List.Folds.{list_all-append}
 use Rattle.std.proofs.lemmas.List.Elements.{filter_map-append}
-use Rattle.modem_data.specs.Passing.{Pass, Came, Went, Flowed, Left, Lost, Began, EndedLane, Gave, Read, data_read, given}
+use Rattle.modem_data.specs.Passing.{Pass, Came, Went, Flowed, Left, Lost, Began, EndedLane, Gave, Read, carries, data_came, data_read, given, left, to_go, unread, wire}
 use Rattle.modem_data.specs.Hops.{Hop, Fed, Handed, Took, Wrote, Passed, pass_of, passes}
 use Rattle.modem_data_line.specs.DataLines.{is_of_driver, may_go, may_pass}
 use Rattle.data_files.specs.Files.{FileFits, FileState}
@@ -118,22 +118,6 @@ of_file_beside c d apart (Handed o) e = refl
 of_file_beside c d apart (Took o) e = refl
 of_file_beside c d apart (Wrote o) e = refl
 
--- what passes is of each file
-pub passes_of_file : (d : ℕ) (a : Hop) → may_pass false a ≡ true → is_of_file d a ≡ true
-passes_of_file d (Passed (Came f)) e = refl
-passes_of_file d (Passed (Went f)) e = refl
-passes_of_file d (Passed (Flowed f)) e = refl
-passes_of_file d (Passed (Left f)) e = refl
-passes_of_file d (Passed Lost) e = refl
-passes_of_file d (Passed (Began c b)) e = e
-passes_of_file d (Passed (EndedLane c)) e = e
-passes_of_file d (Passed (Gave c o)) e = cc
-passes_of_file d (Passed (Read c o)) e = cc
-passes_of_file d (Fed o) e = refl
-passes_of_file d (Handed o) e = refl
-passes_of_file d (Took o) e = e
-passes_of_file d (Wrote o) e = refl
-
 given_if : (b : Bool) (x y : List ℕ) → (if b then false else true) ≡ true → (if b then x else y) ≡ y
 given_if true x y e = cc
 given_if false x y e = refl
@@ -189,3 +173,61 @@ pub fits_passing : {Y : Type 0} (gave took : Y → List ℕ) (f : FileState Y) (
     → FileFits gave took past f → FileFits gave took (passes hops ++ past) f
 fits_passing gave took f hops past e h =
     fits_beside gave took f hops past (all_kind (may_pass false) (is_beside f.dlci) hops (passes_beside f.dlci) e) h
+
+-- ## What decides of the data of d
+
+-- octets given and read on other connections leave it as it was
+pub record IsBeside (d : ℕ) (past behind : List Pass) : Type 0 where
+  pub carries_is : carries d behind ≡ carries d past
+  pub wire_is : wire behind ≡ wire past
+  pub to_go_is : to_go d behind ≡ to_go d past
+  pub unread_is : unread d behind ≡ unread d past
+
+pub beside_none : (d : ℕ) (past : List Pass) → IsBeside d past past
+beside_none d past = record { carries_is = refl; wire_is = refl; to_go_is = refl; unread_is = refl }
+
+pub beside_then : (d : ℕ) (first past behind : List Pass) → IsBeside d first past → IsBeside d past behind → IsBeside d first behind
+beside_then d first past behind one two = record {
+  carries_is = two.carries_is ∙ one.carries_is;
+  wire_is = two.wire_is ∙ one.wire_is;
+  to_go_is = two.to_go_is ∙ one.to_go_is;
+  unread_is = two.unread_is ∙ one.unread_is;
+}
+
+-- octets that are given and read change no lane, and no frame passes
+record IsQuiet (d : ℕ) (past behind : List Pass) : Type 0 where
+  pub carries_is : carries d behind ≡ carries d past
+  pub wire_is : wire behind ≡ wire past
+  pub left_is : left d behind ≡ left d past
+  pub came_is : data_came d behind ≡ data_came d past
+
+quiet : (c d : ℕ) (hops : List Hop) (past : List Pass) → list_all (is_of_file c) hops ≡ true → IsQuiet d past (passes hops ++ past)
+quiet c d [] past e = record { carries_is = refl; wire_is = refl; left_is = refl; came_is = refl }
+quiet c d (Passed (Gave b o) ∷ hops) past e =
+    let x = quiet c d hops past (and_parts (b == c) (list_all (is_of_file c) hops) e).1 in
+    record { carries_is = x.carries_is; wire_is = x.wire_is; left_is = x.left_is; came_is = x.came_is }
+quiet c d (Passed (Read b o) ∷ hops) past e =
+    let x = quiet c d hops past (and_parts (b == c) (list_all (is_of_file c) hops) e).1 in
+    record { carries_is = x.carries_is; wire_is = x.wire_is; left_is = x.left_is; came_is = x.came_is }
+quiet c d (Passed (Began b k) ∷ hops) past e = cc
+quiet c d (Passed (Came f) ∷ hops) past e = cc
+quiet c d (Passed (Went f) ∷ hops) past e = cc
+quiet c d (Passed (Flowed f) ∷ hops) past e = cc
+quiet c d (Passed (Left f) ∷ hops) past e = cc
+quiet c d (Passed Lost ∷ hops) past e = cc
+quiet c d (Passed (EndedLane b) ∷ hops) past e = cc
+quiet c d (Fed o ∷ hops) past e = cc
+quiet c d (Handed o ∷ hops) past e = cc
+quiet c d (Took o ∷ hops) past e = cc
+quiet c d (Wrote o ∷ hops) past e = cc
+
+pub beside_file : (c d : ℕ) → (c == d) ≡ false → (hops : List Hop) (past : List Pass) → list_all (is_of_file c) hops ≡ true → IsBeside d past (passes hops ++ past)
+beside_file c d apart hops past e =
+    let x = quiet c d hops past e in
+    let others = all_kind (is_of_file c) (is_beside d) hops (of_file_beside c d apart) e in
+    record {
+      carries_is = x.carries_is;
+      wire_is = x.wire_is;
+      to_go_is = ap₂ (λ (xs ys : List ℕ). length xs - length ys) (given_stays d hops past others) x.left_is;
+      unread_is = ap₂ (λ (xs ys : List ℕ). length xs - length ys) x.came_is (read_stays d hops past others);
+    }

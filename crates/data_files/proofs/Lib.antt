@@ -1,6 +1,7 @@
 mod Hopping
 mod FileSteps
 mod Waiting
+mod Growing
 mod Begins
 mod Lifts
-mod Turns
+pub mod Turns

@@ -86,18 +86,18 @@ line_writes r s g t v x octets calls failures (Err why) P takes call h = line_co
 
 -- ## One file
 
-set_dlcis : {Y : Type 0} (files : List (FileState Y)) (i : ℕ) (f : FileState Y) → f.dlci ≡ (slice_index_or files i f).dlci → dlcis (slice_set files i f) ≡ dlcis files
+pub set_dlcis : {Y : Type 0} (files : List (FileState Y)) (i : ℕ) (f : FileState Y) → f.dlci ≡ (slice_index_or files i f).dlci → dlcis (slice_set files i f) ≡ dlcis files
 set_dlcis [] i f e = refl
 set_dlcis (g ∷ files) zero f e = ap (λ (d : ℕ). d ∷ dlcis files) e
 set_dlcis (g ∷ files) (suc i) f e = ap (λ (ds : List ℕ). g.dlci ∷ ds) (set_dlcis files i f e)
 
-dlci_at : {Y : Type 0} (files : List (FileState Y)) (j : ℕ) (f : FileState Y) (x : ℕ) → j < length files → slice_index_or (dlcis files) j x ≡ (slice_index_or files j f).dlci
+pub dlci_at : {Y : Type 0} (files : List (FileState Y)) (j : ℕ) (f : FileState Y) (x : ℕ) → j < length files → slice_index_or (dlcis files) j x ≡ (slice_index_or files j f).dlci
 dlci_at files j f x there = get_or-map (λ (g : FileState _). g.dlci) files j f x there
 
-in_there : {Y : Type 0} (files : List (FileState Y)) (j : ℕ) → j < length files → j < length (dlcis files)
+pub in_there : {Y : Type 0} (files : List (FileState Y)) (j : ℕ) → j < length files → j < length (dlcis files)
 in_there files j there = subst (λ (n : ℕ). j < n) (sym (length-map files (λ (f : FileState _). f.dlci))) there
 
-apart_at : {Y : Type 0} (files : List (FileState Y)) (i j : ℕ) (f : FileState Y) → AreApart (dlcis files) → i < length files → j < length files → j ≢ i
+pub apart_at : {Y : Type 0} (files : List (FileState Y)) (i j : ℕ) (f : FileState Y) → AreApart (dlcis files) → i < length files → j < length files → j ≢ i
     → ((slice_index_or files i f).dlci == (slice_index_or files j f).dlci) ≡ false
 unfolding AreApart
 apart_at files i j f apart there short other =

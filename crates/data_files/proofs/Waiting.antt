@@ -1,7 +1,7 @@
 -- Octets that were read of a connection and wait for its file.
-use Rattle.std.specs.Prelude.{◌≡◌, ◌≢◌, ◌⊎◌, ℕ, ◌-◌, ◌<◌, ◌≤◌, Result, Err, false, List, [], ◌∷◌, ◌++◌, drop, take, length, min}
+use Rattle.std.specs.Prelude.{◌≡◌, ◌⊎◌, ℕ, ◌+◌, ◌-◌, ◌<◌, ◌≤◌, Result, Err, false, List, ◌++◌, drop, take, length, min}
 use Rattle.std.proofs.Common.{ap, sym, ◌∙◌, subst, arith, inl, inr, true≢false, take-append-drop}
-use Rattle.std.proofs.lemmas.List.{append_assoc, length-take, take_min}
+use Rattle.std.proofs.lemmas.List.{append_assoc, length-append, length-drop, length-take, take_min}
 use Rattle.mux_station.specs.declared.role.Role.TheVariants.{Initiator}
 use Rattle.mux_station.specs.Opening.{is_open}
 use Rattle.modem_data.specs.declared.error.DataError.{DataError}
@@ -33,18 +33,14 @@ pub splits : (a b xs ys : List ℕ) (n : ℕ) → b ≡ a ++ take n xs → ys �
 splits a b xs ys n went rest =
     ap (λ (l : List ℕ). l ++ ys) went ∙ (ap (λ (l : List ℕ). (a ++ take n xs) ++ l) rest ∙ (append_assoc a (take n xs) (drop n xs) ∙ ap (λ (l : List ℕ). a ++ l) (take-append-drop n xs)))
 
-longer : (xs : List ℕ) (y : ℕ) (ys : List ℕ) → xs ++ (y ∷ ys) ≢ xs
-longer [] y ys e = cc
-longer (x ∷ xs) y ys e = longer xs y ys (ap (λ (l : List ℕ). drop 1 l) e)
-
-grew_by : (a zs : List ℕ) → 0 < length zs → a ++ zs ≢ a
-grew_by a [] some = absurd (omega (arith, some))
-grew_by a (z ∷ zs) some = longer a z zs
-
-pub grew : (a b xs : List ℕ) (n : ℕ) → b ≡ a ++ take n xs → n ≤ length xs → 0 < n → b ≢ a
+pub grew : (a b xs : List ℕ) (n : ℕ) → b ≡ a ++ take n xs → n ≤ length xs → 0 < n → length a < length b
 grew a b xs n e few some =
-    let long = length-take n xs in
-    λ q. grew_by a (take n xs) (omega (arith, long, few, some)) (sym e ∙ q)
+    let part = length-take n xs in
+    let long : length b ≡ length a + length (take n xs) = ap length e ∙ length-append a (take n xs) in
+    omega (arith, part, long, few, some)
+
+pub drop_fewer : (n : ℕ) (xs ys : List ℕ) → ys ≡ drop n xs → length ys ≤ length xs
+drop_fewer n xs ys e = let long = ap length e ∙ length-drop n xs in omega (arith, long)
 
 -- ## Octets that wait to be given
 

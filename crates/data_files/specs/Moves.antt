@@ -1,5 +1,5 @@
 -- What moves between a connection that carries data and its file.
-use Rattle.std.specs.Prelude.{◌≡◌, ◌≢◌, ◌⊎◌, ◌==◌, ℕ, ◌-◌, ◌<◌, Bool, true, false, List, [], ◌++◌, drop, length, min, slice_index_or, slice_set}
+use Rattle.std.specs.Prelude.{◌≡◌, ◌≢◌, ◌⊎◌, ◌==◌, ℕ, ◌+◌, ◌-◌, ◌^◌, ◌<◌, ◌≤◌, Bool, true, false, List, [], ◌++◌, drop, length, min, slice_index_or, slice_set}
 use Rattle.std.specs.List.{list_all}
 use Rattle.mux_station.specs.declared.role.Role.TheVariants.{Initiator}
 use Rattle.mux_station.specs.Opening.{is_open}
@@ -9,14 +9,14 @@ use Rattle.modem_data.specs.Switching.{Data}
 use Rattle.modem_data.specs.Passing.{Pass, Gave, Read, carries, to_go, unread, wire}
 use Rattle.modem_data.specs.PipeSets.{IsNotData, OfEachPast, PipeSet}
 use Rattle.modem_data.specs.Hops.{Hop, Hops, Passed, Relay, passes}
-use Rattle.modem_data_line.specs.DataLines.{Before, DataLineState, LineFits, may_pass}
-use Rattle.data_files.specs.Files.{FileFits, FileState, FiledState, begun}
+use Rattle.modem_data_line.specs.DataLines.{Before, DataLineState, LineFits}
+use Rattle.data_files.specs.Files.{FileFits, FileState, FiledState, begun, dlcis}
 
--- octets of data are given or read on this connection; or octets and frames pass
+-- octets of data are given or read on this connection
 abbrev pub is_of_file : ℕ → Hop → Bool
 is_of_file d (Passed (Gave e octets)) = e == d
 is_of_file d (Passed (Read e octets)) = e == d
-is_of_file d a = may_pass false a
+is_of_file d a = false
 
 -- by some hops, of which no other connection's data is given or read, the one line leads to the other, and the file goes along
 pub record FileMoves {X Y : Type 0} (received sent : X → List ℕ) (gave took : Y → List ℕ) (old new : DataLineState X)
@@ -47,32 +47,80 @@ IsUnread pipes d count = OfEachPast pipes (λ past. count ≡ min (unread d past
 abbrev pub ReadsOn : PipeSet → ℕ → (octets : List ℕ) → Type 0
 ReadsOn pipes d octets = IsNotData pipes d ⊎ IsUnread pipes d (length octets)
 
--- a file was asked for octets: it gave some, or had none, or gives no more
+-- the data that waits to be read of d is the same behind one line as before, whatever passed
+pub record StaysUnread {X : Type 0} (received sent : X → List ℕ) (new : DataLineState X) (n1 : ℕ) (ds : List ℕ) (b : Before) (d : ℕ)
+    (past : List Hop) : Type 0 where
+  pub behind : List Hop
+  pub fits : LineFits received sent n1 ds b new behind
+  pub same : unread d (passes behind) ≡ unread d (passes past)
+
+-- that holds of each past
+abbrev pub KeepsUnread : {X : Type 0} (received sent : X → List ℕ) → (old new : DataLineState X) → ℕ → Type 0
+KeepsUnread received sent old new d = (n1 : ℕ) (ds : List ℕ) (b : Before) (past : List Hop) → LineFits received sent n1 ds b old past
+    → StaysUnread received sent new n1 ds b d past
+
+-- ## A turn
+
+-- a file was asked for octets: it gave some, or had none and that was counted, or gives no more
 abbrev pub IsAskedFile : {Y : Type 0} (received : Y → List ℕ) (empty_reads : Y → ℕ) → (old new : FileState Y) → Type 0
 IsAskedFile received empty_reads old new = (new.has_ended ≡ true)
-    ⊎ ((received new.file ≢ received old.file) ⊎ (empty_reads new.file ≡ one_more (empty_reads old.file)))
+    ⊎ ((length (received old.file) < length (received new.file)) ⊎ (one_more (empty_reads old.file) ≤ empty_reads new.file))
 
 -- a file was offered octets: it took some, or took none and that was counted, or takes no more
 abbrev pub IsOfferedFile : {Y : Type 0} (sent : Y → List ℕ) (stalled_writes : Y → ℕ) → (old new : FileState Y) → Type 0
 IsOfferedFile sent stalled_writes old new = (new.is_broken ≡ true)
-    ⊎ ((sent new.file ≢ sent old.file) ⊎ (stalled_writes new.file ≡ one_more (stalled_writes old.file)))
+    ⊎ ((length (sent old.file) < length (sent new.file)) ⊎ (one_more (stalled_writes old.file) ≤ stalled_writes new.file))
 
--- A file's turn came: where none of its octets waited it was asked for some, and where some waited for it they were offered.
-pub record TurnCame {Y : Type 0} (received sent : Y → List ℕ) (empty_reads stalled_writes : Y → ℕ) (old new : FileState Y) : Type 0 where
-  pub asked : old.ungiven ≡ [] → old.has_ended ≡ false → IsAskedFile received empty_reads old new
-  pub offered : old.unwritten ≢ [] → IsOfferedFile sent stalled_writes old new
+-- a count that stops at u64::MAX doesn't fall
+abbrev pub IsKept : (before after : ℕ) → Type 0
+IsKept before after = min before (2 ^ 64 - 1) ≤ after
 
--- so did that of each of these
-abbrev pub TurnsCame : {Y : Type 0} (received sent : Y → List ℕ) (empty_reads stalled_writes : Y → ℕ) (old new : List (FileState Y)) → Type 0
-TurnsCame {Y} received sent empty_reads stalled_writes old new =
-    (i : ℕ) (f : FileState Y) → i < length old → TurnCame received sent empty_reads stalled_writes (slice_index_or old i f) (slice_index_or new i f)
+-- Nothing of a file came back: what it gave and took only grows, and so does what was given of it and read for it; and one that
+-- gives or takes no more stays so.
+pub record FileGrows {Y : Type 0} (received sent : Y → List ℕ) (empty_reads stalled_writes : Y → ℕ) (f g : FileState Y) : Type 0 where
+  pub came : length (received f.file) ≤ length (received g.file)
+  pub given : length (received f.file) + length g.ungiven ≤ length (received g.file) + length f.ungiven
+  pub went : length (sent f.file) ≤ length (sent g.file)
+  pub read : length (sent f.file) + length f.unwritten ≤ length (sent g.file) + length g.unwritten
+  pub empty : IsKept (empty_reads f.file) (empty_reads g.file)
+  pub stalled : IsKept (stalled_writes f.file) (stalled_writes g.file)
+  pub ended : f.has_ended ≡ true → g.has_ended ≡ true
+  pub broken : f.is_broken ≡ true → g.is_broken ≡ true
+
+-- d is open, carries data, and has room for some
+pub record HasRoom (d : ℕ) (past : List Pass) : Type 0 where
+  pub carries_data : carries d past ≡ Data
+  pub open_there : is_open Initiator d (wire past) ≡ true
+  pub room : to_go d past < most_to_go
+
+-- Since a line was as it is here, a file had a turn. Where none of its octets waited it was asked for some; where some did, and its
+-- connection had room, some more of them were given there. Where none waited for it, and there was data, some was read; where some
+-- did, they were offered to it. And nothing of it came back.
+pub record HadTurn {X Y : Type 0} (received sent : X → List ℕ) (gave took : Y → List ℕ) (empty_reads stalled_writes : Y → ℕ)
+    (n1 : ℕ) (ds : List ℕ) (b : Before) (v : DataLineState X) (f g : FileState Y) : Type 0 where
+  pub asked : f.ungiven ≡ [] → f.has_ended ≡ false → IsAskedFile gave empty_reads f g
+  pub given : f.ungiven ≢ [] → (past : List Hop) → LineFits received sent n1 ds b v past → HasRoom f.dlci (passes past)
+      → length (gave f.file) + length g.ungiven < length (gave g.file) + length f.ungiven
+  pub read : f.unwritten ≡ [] → (past : List Hop) → LineFits received sent n1 ds b v past → 0 < unread f.dlci (passes past)
+      → length (took f.file) + length f.unwritten < length (took g.file) + length g.unwritten
+  pub offered : f.unwritten ≢ [] → IsOfferedFile took stalled_writes f g
+  pub grows : FileGrows gave took empty_reads stalled_writes f g
+
+-- so had each of a line's, which are so now
+pub record HadTurns {X Y : Type 0} (received sent : X → List ℕ) (gave took : Y → List ℕ) (empty_reads stalled_writes : Y → ℕ)
+    (v : FiledState X Y) (now : List (FileState Y)) : Type 0 where
+  pub count : length now ≡ length v.files
+  pub each : (i : ℕ) (f : FileState Y) → i < length v.files
+      → HadTurn received sent gave took empty_reads stalled_writes v.n1 (dlcis v.files) v.before v.line
+      (slice_index_or v.files i f) (slice_index_or now i f)
 
 -- at one place the file moved on with the line, and no other changed
 pub record MovesAt {X Y : Type 0} (received sent : X → List ℕ) (gave took : Y → List ℕ) (empty_reads stalled_writes : Y → ℕ) (place : ℕ)
     (v w : FiledState X Y) : Type 0 where
   pub file : FileState Y
   pub moves : FileMoves received sent gave took v.line w.line (slice_index_or v.files place file) file
-  pub turn : TurnCame gave took empty_reads stalled_writes (slice_index_or v.files place file) file
+  pub turn : HadTurn received sent gave took empty_reads stalled_writes v.n1 (dlcis v.files) v.before v.line
+      (slice_index_or v.files place file) file
   pub files_are : w.files ≡ slice_set v.files place file
 
 -- the lanes of the first so many files began on a line, in order, and nothing else happened to it

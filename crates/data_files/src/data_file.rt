@@ -1,9 +1,10 @@
 //! A file beside a connection that carries data.
-ghost use Rattle.std.specs.Prelude.{◌≡◌, ◌≢◌, ◌⊎◌, ◌↔◌, List, [], length, true, false, IfOk, OnErr, OnOk};
+ghost use Rattle.std.specs.Prelude.{◌≡◌, ◌≢◌, ◌⊎◌, ◌↔◌, ◌≤◌, ℕ, List, [], length, true, false, IfOk, OnErr, OnOk};
 ghost use Rattle.modem_data.specs.Passing.{IsOver, Pass};
-ghost use Rattle.modem_data.specs.PipeSets.{IsNotData, OfEachPast};
+ghost use Rattle.modem_data.specs.PipeSets.{IsNotData, NoneOf, OfEachPast};
+ghost use Rattle.modem_data_line.specs.DataLines.{Before};
 ghost use Rattle.data_files.specs.Files.{FileFits, new_file};
-ghost use Rattle.data_files.specs.Moves.{FileMoves, GaveFirst, GivesOn, IsAskedFile, IsOfferedFile, ReadsOn, TurnCame};
+ghost use Rattle.data_files.specs.Moves.{FileGrows, FileMoves, GaveFirst, GivesOn, HadTurn, IsAskedFile, IsOfferedFile, KeepsUnread, ReadsOn};
 
 use crate::unwritten::Unwritten;
 use modem_data::DataError;
@@ -54,6 +55,7 @@ fn give<L: SerialLine>(
     ensures gives { GivesOn line.old.relay.pipes dlci.number octets.old octets.new }
     ensures beside { line.new ≡ record line.old { relay = line.new.relay } }
     ensures err { OnErr result ((line.new ≡ line.old) × (octets.new ≡ octets.old)) }
+    ensures fewer { length octets.new ≤ length octets.old }
 {
     let waiting = octets.as_slice();
     let length = waiting.len();
@@ -110,8 +112,43 @@ impl<P: SerialLine> DataFile<P> {
         self.by_connect
     }
 
+    /// Whether the file gives no more: a read of it failed.
+    pub fn has_ended(&self) -> bool
+        ensures { result ≡ self.now.has_ended }
+    {
+        self.has_ended
+    }
+
+    /// Whether the file takes no more: a write to it failed. What is read of its connection then waits.
+    pub fn is_broken(&self) -> bool
+        ensures { result ≡ self.now.is_broken }
+    {
+        self.is_broken
+    }
+
+    /// Whether the connection's lane is over and all of its data was read, as the last read of it said.
+    pub fn is_over(&self) -> bool
+        ensures { result ≡ self.now.is_over }
+    {
+        self.is_over
+    }
+
+    /// How many octets the file gave that its connection hasn't taken.
+    pub fn ungiven(&self) -> usize
+        ensures { result ≡ length self.now.ungiven }
+    {
+        self.ungiven.as_slice().len()
+    }
+
+    /// How many octets were read of the connection that the file hasn't taken.
+    pub fn unwritten(&self) -> usize
+        ensures { result ≡ length self.now.unwritten }
+    {
+        self.unwritten.len()
+    }
+
     /// Reads the file once, where none of its octets wait to be given.
-    #[tactic(auto, using(crate::proofs::FileSteps::came_of_file))]
+    #[tactic(auto, using(crate::proofs::FileSteps::came_of_file, crate::proofs::Growing::grows_none))]
     fn read_file(&mut self)
         ensures fits { (past : List Pass) → FileFits P.received P.sent past self.old → FileFits P.received P.sent past self.new }
         ensures same { self.new ≡ record self.old {
@@ -121,6 +158,7 @@ impl<P: SerialLine> DataFile<P> {
         } }
         ensures asked { self.old.ungiven ≡ [] → self.old.has_ended ≡ false → IsAskedFile P.received P.empty_reads self.old self.new }
         ensures still { self.old.ungiven ≢ [] → self.new ≡ self.old }
+        ensures grows { FileGrows P.received P.sent P.empty_reads P.stalled_writes self.old self.new }
         ensures none_went { (P.sent self.new.file ≡ P.sent self.old.file) × (P.stalled_writes self.new.file ≡ P.stalled_writes self.old.file) }
     {
         if self.has_ended || !self.ungiven.is_empty() {
@@ -132,12 +170,14 @@ impl<P: SerialLine> DataFile<P> {
     }
 
     /// Gives the connection octets that wait for it, and says whether it took some.
-    #[tactic(auto, using(crate::proofs::FileSteps::gives, crate::proofs::FileSteps::moves_same))]
+    #[tactic(auto, using(crate::proofs::FileSteps::gives, crate::proofs::FileSteps::moves_same, crate::proofs::Growing::unread_same))]
     fn give<L: SerialLine>(&mut self, line: &mut DataLine<L>) -> bool
         ensures moves { FileMoves L.received L.sent P.received P.sent line.old line.new self.old self.new }
         ensures same { self.new ≡ record self.old { ungiven = self.new.ungiven } }
         ensures beside { line.new ≡ record line.old { relay = line.new.relay } }
         ensures gives { GivesOn line.old.relay.pipes self.old.dlci self.old.ungiven self.new.ungiven }
+        ensures fewer { length self.new.ungiven ≤ length self.old.ungiven }
+        ensures unread { KeepsUnread L.received L.sent line.old line.new self.old.dlci }
     {
         match give(line, self.dlci, &mut self.ungiven) {
             Ok(count) => count > 0,
@@ -155,6 +195,7 @@ impl<P: SerialLine> DataFile<P> {
         ensures over { self.old.unwritten ≡ [] → IsNotData line.old.relay.pipes self.old.dlci
             ⊎ OfEachPast line.new.relay.pipes (λ past. self.new.is_over ≡ true ↔ IsOver self.old.dlci past) }
         ensures still { self.old.unwritten ≢ [] → self.new ≡ self.old }
+        ensures more { length self.old.unwritten ≤ length self.new.unwritten }
     {
         if !self.unwritten.is_empty() {
             return false;
@@ -167,7 +208,7 @@ impl<P: SerialLine> DataFile<P> {
     }
 
     /// Writes octets that wait to the file, once, and says whether it took some.
-    #[tactic(auto, using(crate::proofs::FileSteps::went_to_file))]
+    #[tactic(auto, using(crate::proofs::FileSteps::went_to_file, crate::proofs::Growing::grows_none))]
     fn write_file(&mut self) -> bool
         ensures fits { (past : List Pass) → FileFits P.received P.sent past self.old → FileFits P.received P.sent past self.new }
         ensures same { self.new ≡ record self.old {
@@ -177,6 +218,7 @@ impl<P: SerialLine> DataFile<P> {
         } }
         ensures offered { self.old.unwritten ≢ [] → IsOfferedFile P.sent P.stalled_writes self.old self.new }
         ensures still { self.old.unwritten ≡ [] → self.new ≡ self.old }
+        ensures grows { FileGrows P.received P.sent P.empty_reads P.stalled_writes self.old self.new }
         ensures none_came { (P.received self.new.file ≡ P.received self.old.file) × (P.empty_reads self.new.file ≡ P.empty_reads self.old.file) }
     {
         if self.is_broken || self.unwritten.is_empty() {
@@ -192,11 +234,11 @@ impl<P: SerialLine> DataFile<P> {
     }
 
     /// Moves octets between the connection and its file, both ways, and says whether any moved.
-    #[tactic(auto, using(crate::proofs::FileSteps::moves_then, crate::proofs::FileSteps::moves_file, crate::proofs::FileSteps::turn_came))]
     pub(crate) fn move_on<L: SerialLine>(&mut self, line: &mut DataLine<L>) -> bool
         ensures moves { FileMoves L.received L.sent P.received P.sent line.old line.new self.old self.new }
         ensures beside { line.new ≡ record line.old { relay = line.new.relay } }
-        ensures turn { TurnCame P.received P.sent P.empty_reads P.stalled_writes self.old self.new }
+        ensures turn { (n1 : ℕ) (ds : List ℕ) (b : Before) → (NoneOf ds self.old.dlci → ⊥)
+            → HadTurn L.received L.sent P.received P.sent P.empty_reads P.stalled_writes n1 ds b line.old self.old self.new }
     {
         self.read_file();
         let gave = self.give(line);

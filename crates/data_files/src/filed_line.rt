@@ -4,7 +4,7 @@ ghost use Rattle.serial_line.specs.Counts.{one_more, counted_if_none};
 ghost use Rattle.modem_data.specs.Hops.{BeginsRelay};
 ghost use Rattle.modem_data_line.specs.DataLines.{new_data_line};
 ghost use Rattle.data_files.specs.Files.{BeginsFiled, HasMoved, IsFresh, dlcis};
-ghost use Rattle.data_files.specs.Moves.{HasBegunTo, MovesAt, TurnsCame};
+ghost use Rattle.data_files.specs.Moves.{HadTurns, HasBegunTo, MovesAt};
 
 use crate::before::Before;
 use crate::data_file::DataFile;
@@ -18,7 +18,7 @@ use std::marker::Model;
 const ROUNDS: u32 = 256;
 
 /// A line some of whose connections carry data, and a file beside each of these. A driver reads and writes it as its line. With each
-/// read octets move between connections and files, both ways, until nothing moves: what a file gave goes to its connection, in order,
+/// read octets move between connections and files first, both ways, until nothing moves: what a file gave goes to its connection, in order,
 /// as far as it takes them; what comes on the connection goes to the file, in order, as far as it takes them. What isn't taken waits.
 ///
 /// Contracts see the line with its relay, the files, N1, and what the line itself had given and taken before.
@@ -114,6 +114,13 @@ impl<L: SerialLine, P: SerialLine> FiledLine<L, P> {
         let _ = &self.line;
     }
 
+    /// The files.
+    pub fn files(&self) -> &[DataFile<P>]
+        ensures { result.now ≡ self.now.files }
+    {
+        self.files.as_slice()
+    }
+
     /// The line with its relay, and the files. What was given and read is what the files' own octets say.
     pub fn into_parts(self) -> (DataLine<L>, Vec<DataFile<P>>)
         ensures line { result.0 ≡ self.line }
@@ -136,9 +143,9 @@ impl<L: SerialLine, P: SerialLine> FiledLine<L, P> {
     }
 
     /// Moves octets of each file and its connection, and says whether any moved.
-    #[tactic(auto, using(crate::proofs::Turns::turns_more, crate::proofs::Turns::turns_all))]
+    #[tactic(auto, using(crate::proofs::Turns::turns_none, crate::proofs::Turns::turns_more, crate::proofs::Turns::turns_all))]
     fn move_files(&mut self) -> bool
-        ensures turns { TurnsCame P.received P.sent P.empty_reads P.stalled_writes self.old.files self.new.files }
+        ensures turns { HadTurns L.received L.sent P.received P.sent P.empty_reads P.stalled_writes self.old self.new.files }
         ensures same { self.new ≡ record self.old { line = self.new.line; files = self.new.files } }
         ensures beside { self.new.line ≡ record self.old.line { relay = self.new.line.relay } }
     {
@@ -180,7 +187,7 @@ impl<L: SerialLine, P: SerialLine> FiledLine<L, P> {
 
     /// One round: it moves octets of each file, writes the line once and reads it once, and says whether anything moved.
     fn round(&mut self) -> bool
-        ensures turns { TurnsCame P.received P.sent P.empty_reads P.stalled_writes self.old.files self.new.files }
+        ensures turns { HadTurns L.received L.sent P.received P.sent P.empty_reads P.stalled_writes self.old self.new.files }
         ensures same { self.new ≡ record self.old { line = self.new.line; files = self.new.files } }
         ensures beside { self.new.line ≡ record self.old.line {
           line = self.new.line.line;
@@ -195,8 +202,11 @@ impl<L: SerialLine, P: SerialLine> FiledLine<L, P> {
         moved | went | came
     }
 
-    /// Moves octets until none move.
-    pub(crate) fn move_all(&mut self)
+    /// Moves octets between connections and files, both ways, and writes and reads the line, until nothing moves. Each file has a turn.
+    /// The driver sees nothing of it.
+    #[tactic(auto, using(crate::proofs::Turns::turns_then))]
+    pub fn move_all(&mut self)
+        ensures turns { HadTurns L.received L.sent P.received P.sent P.empty_reads P.stalled_writes self.old self.new.files }
         ensures same { self.new ≡ record self.old { line = self.new.line; files = self.new.files } }
         ensures beside { self.new.line ≡ record self.old.line {
           line = self.new.line.line;
@@ -205,7 +215,10 @@ impl<L: SerialLine, P: SerialLine> FiledLine<L, P> {
           is_lost = self.new.line.is_lost;
         } }
     {
-        for _ in 0..ROUNDS {
+        if !self.round() {
+            return;
+        }
+        for _ in 1..ROUNDS {
             if !self.round() {
                 return;
             }

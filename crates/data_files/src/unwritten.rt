@@ -4,7 +4,7 @@ ghost use Rattle.serial_line.specs.Counts.{one_more};
 ghost use Rattle.modem_data.specs.Passing.{IsOver, Read};
 ghost use Rattle.modem_data.specs.PipeSets.{IsNotData, OfEachPast};
 ghost use Rattle.modem_data.specs.Hops.{Hops, Passed};
-ghost use Rattle.data_files.specs.Moves.{IsUnread};
+ghost use Rattle.data_files.specs.Moves.{IsKept, IsUnread};
 
 use modem_data::DataError;
 use modem_data_line::DataLine;
@@ -52,6 +52,13 @@ impl Unwritten {
         self.start == self.end
     }
 
+    /// How many wait.
+    pub fn len(&self) -> usize
+        ensures { result ≡ length self.now }
+    {
+        self.as_slice().len()
+    }
+
     /// The octets, lent.
     fn as_slice(&self) -> &[u8]
         ensures { result.now ≡ self.now }
@@ -82,14 +89,15 @@ impl Unwritten {
     }
 
     /// Writes them to a file, once, and says how many it took.
-    #[tactic(auto, using(crate::proofs::Waiting::splits, crate::proofs::Waiting::grew))]
+    #[tactic(auto, using(crate::proofs::Waiting::splits, crate::proofs::Waiting::grew, crate::proofs::Growing::none_stalled, crate::proofs::Growing::kept_counted, crate::proofs::Growing::kept_same))]
     pub fn write<P: SerialLine>(&mut self, file: &mut P) -> Result<usize, LineFault>
         ensures split { P.sent file.new ++ self.new ≡ P.sent file.old ++ self.old }
         ensures same { (P.received file.new ≡ P.received file.old) × (P.empty_reads file.new ≡ P.empty_reads file.old) }
         ensures count { IfOk result (λ n. self.new ≡ drop n self.old) }
-        ensures some { IfOk result (λ n. 0 < n → P.sent file.new ≢ P.sent file.old) }
+        ensures some { IfOk result (λ n. 0 < n → length (P.sent file.old) < length (P.sent file.new)) }
         ensures none { IfOk result (λ n. n ≡ 0 → 0 < length self.old
-            → P.stalled_writes file.new ≡ one_more (P.stalled_writes file.old)) }
+            → one_more (P.stalled_writes file.old) ≤ P.stalled_writes file.new) }
+        ensures stalled { IsKept (P.stalled_writes file.old) (P.stalled_writes file.new) }
         ensures err { OnErr result (self.new ≡ self.old) }
     {
         let count = file.try_write(self.as_slice())?;

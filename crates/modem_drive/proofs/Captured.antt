@@ -21,7 +21,7 @@ octets_more d (p ∷ ps) qs =
 -- of one history
 goes_on : (old new : CaptureState) (before : Option (List ℕ)) (passed : List Passed) (p : Passed) → Captures old new p → HasCaptured before passed old → HasCaptured before (passed ++ p ∷ []) new
 unfolding Captures
-goes_on old new before passed p h c = h before passed c
+goes_on old new before passed p h c = h before [] passed c
 
 -- what has failed stays so
 was_good : (old new : CaptureState) (b : Bool) → old.failed ≡ b → (old.failed ≡ true → new ≡ old) → new.failed ≡ false → old.failed ≡ false

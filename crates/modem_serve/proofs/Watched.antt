@@ -92,7 +92,7 @@ record CapturedSoFar (s : Setting) (came went : List ℕ) (first now : CaptureSt
 
 captures_on : (old new : CaptureState) (p : Passed) (at_first : Option (List ℕ)) (passed : List Passed) → Captures old new p → HasCaptured at_first passed old → HasCaptured at_first (passed ++ p ∷ []) new
 unfolding Captures
-captures_on old new p at_first passed captures h = captures at_first passed h
+captures_on old new p at_first passed captures h = captures at_first [] passed h
 
 captured_so_far : (s : Setting) (first : CaptureState) (came went : List ℕ) (now : CaptureState) → Seen SeesPassed s first came went now → now.failed ≡ false → CapturedSoFar s came went first now
 captured_so_far s first _ _ _ nothing_yet good = record { passed = []; exchanged = nothing; n1 = refl; captured = λ at_first h. h }

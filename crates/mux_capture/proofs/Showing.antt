@@ -201,7 +201,7 @@ frames_both [] qs = refl
 frames_both (framed b f ∷ ps) qs = ap (λ l. f ∷ l) (frames_both ps qs)
 frames_both (damage d ∷ ps) qs = frames_both ps qs
 
-no_frames : (octets : List ℕ) (ps : List Piece) → AreDamage octets ps → frames_of ps ≡ []
+pub no_frames : (octets : List ℕ) (ps : List Piece) → AreDamage octets ps → frames_of ps ≡ []
 no_frames _ _ shows.none = refl
 no_frames _ _ (shows.some octets more some are) = no_frames (drop most_damage octets) more are
 
@@ -237,7 +237,7 @@ damage_of_all _ _ (shows.some octets more some are) =
     ap unflagged (sym (take-append-drop most_damage octets)) ∙ unflagged_both (take most_damage octets) (drop most_damage octets)
     ∙ ap (λ l. unflagged (take most_damage octets) ++ l) (damage_of_all (drop most_damage octets) more are)
 
-front_of_all : (front : List ℕ) (ps : List Piece) → AreDamage (behind_flags front) ps → unflagged front ≡ all_of ps
+pub front_of_all : (front : List ℕ) (ps : List Piece) → AreDamage (behind_flags front) ps → unflagged front ≡ all_of ps
 front_of_all front ps are = sym (unflagged_front front) ∙ damage_of_all (behind_flags front) ps are
 
 pub shows_all : ShowsAll

@@ -10,7 +10,7 @@ use Rattle.mux_capture.specs.declared.packet.Direction.TheVariants.{ToModem, Fro
 use Rattle.mux_capture.specs.declared.packet.Kind.TheVariants as kind
 use Rattle.mux_capture.specs.declared.packet.Stamp.{Stamp}
 use Rattle.mux_capture.specs.Pcap.{file_header, packet}
-use Rattle.mux_capture.specs.Pieces.{Piece, IsAll, Shows, damage, framed, frames_of}
+use Rattle.mux_capture.specs.Pieces.{AreDamage, Piece, IsAll, Shows, behind_flags, damage, framed, frames_of}
 
 -- octets that passed, when, and which way
 pub record Passed : Type 0 where
@@ -82,18 +82,62 @@ pub record CaptureState : Type 0 where
   pub from_modem : List ℕ
   pub failed : Bool
 
--- It hasn't failed, and since its writer held this, it wrote the header of a file and a packet for each piece of what passed.
-pub record HasCaptured (before : Option (List ℕ)) (passed : List Passed) (s : CaptureState) : Type 0 where
+-- Octets that could still become a frame each way came to none: they are damage, which was captured at this time.
+pub record AreRests (stamp : Stamp) (to from : List ℕ) (packed : List Packed) : Type 0 where
+  pub sent : List Piece
+  pub came : List Piece
+  pub sent_are : AreDamage (behind_flags to) sent
+  pub came_are : AreDamage (behind_flags from) came
+  pub packed_is : packed ≡ map (packed_at stamp ToModem) sent ++ map (packed_at stamp FromModem) came
+
+-- what passed while a frame might have so much information
+pub record Stretch : Type 0 where
+  pub n1 : ℕ
+  pub passed : List Passed
+
+-- a stretch is over: what was captured of it, the rests behind its pieces
+pub record IsOver (s : Stretch) (packed : List Packed) : Type 0 where
+  pub before : List Packed
+  pub to : List ℕ
+  pub from : List ℕ
+  pub catches : Catches s.n1 s.passed before to from
+  pub stamp : Stamp
+  pub rests : List Packed
+  pub are_rests : AreRests stamp to from rests
+  pub packed_is : packed ≡ before ++ rests
+
+-- all of these are, one after the other
+pub data AreOver : List Stretch → List Packed → Type 0 where
+  none_over : AreOver [] []
+  one_over :
+      (over : List Stretch) (s : Stretch) (packed more : List Packed) → AreOver over packed → IsOver s more
+      → AreOver (over ++ s ∷ []) (packed ++ more)
+
+-- It hasn't failed, and since its writer held this, it wrote the header of a file and a packet for each piece of what passed: in
+-- stretches that are over, and then in one that goes on.
+pub record HasStretches (before : Option (List ℕ)) (over : List Stretch) (passed : List Passed) (s : CaptureState) : Type 0 where
   pub good : s.failed ≡ false
+  pub ended : List Packed
+  pub are_over : AreOver over ended
   pub packed : List Packed
   pub catches : Catches s.n1 passed packed s.to_modem s.from_modem
-  pub written : Appends before s.written (file_header ++ flat_map packet_with packed)
+  pub written : Appends before s.written (file_header ++ flat_map packet_with (ended ++ packed))
+
+-- the same in one stretch, which goes on
+abbrev pub HasCaptured : (before : Option (List ℕ)) (passed : List Passed) → CaptureState → Type 0
+HasCaptured before passed = HasStretches before [] passed
 
 -- whatever it captured before, it captures this too
 unfoldable pub Captures : (old new : CaptureState) → Passed → Type 0
 Captures old new p =
-    (before : Option (List ℕ)) (passed : List Passed) → HasCaptured before passed old
-    → HasCaptured before (passed ++ p ∷ []) new
+    (before : Option (List ℕ)) (over : List Stretch) (passed : List Passed) → HasStretches before over passed old
+    → HasStretches before over (passed ++ p ∷ []) new
+
+-- whatever it captured before, the stretch that went on is over, and nothing has passed in the next
+unfoldable pub Renews : (old new : CaptureState) → Type 0
+Renews old new =
+    (before : Option (List ℕ)) (over : List Stretch) (passed : List Passed) → HasStretches before over passed old
+    → HasStretches before (over ++ record { n1 = old.n1; passed = passed } ∷ []) [] new
 
 -- ## Laws
 
@@ -113,3 +157,13 @@ abbrev pub CatchesAll : Type 0
 CatchesAll =
     (n1 : ℕ) (passed : List Passed) (packed : List Packed) (to from : List ℕ) → Catches n1 passed packed to from
     → IsAll (octets_in ToModem passed) (pieces_in ToModem packed) to × IsAll (octets_in FromModem passed) (pieces_in FromModem packed) from
+
+-- Of a stretch that is over the frames captured that way are those that all its octets are read as, and but for flags nothing is missing.
+pub record IsReadWhole (d : Direction) (s : Stretch) (packed : List Packed) : Type 0 where
+  pub rest : List ℕ
+  pub reads : Reads s.n1 (octets_in d s.passed) (frames_in d packed) rest
+  pub all : IsAll (octets_in d s.passed) (pieces_in d packed) []
+
+-- each way
+abbrev pub OverIsRead : Type 0
+OverIsRead = (s : Stretch) (packed : List Packed) → IsOver s packed → IsReadWhole ToModem s packed × IsReadWhole FromModem s packed

@@ -1,10 +1,10 @@
 -- Packets are written for the pieces of a text.
-use Rattle.std.specs.Prelude.{◌≡◌, ℕ, Bool, true, false, List, ◌++◌, Option}
+use Rattle.std.specs.Prelude.{◌≡◌, ℕ, Bool, true, false, List, [], ◌++◌, Option}
 use Rattle.std.specs.List.{flat_map}
 use Rattle.std.specs.Io.KnownBytes.{Appends}
 use Rattle.mux_capture.specs.declared.packet.Direction.{Direction}
 use Rattle.mux_capture.specs.declared.packet.Stamp.{Stamp}
-use Rattle.mux_capture.specs.Passing.{piece_packet}
+use Rattle.mux_capture.specs.Passing.{AreRests, Packed, packet_with, piece_packet}
 use Rattle.mux_capture.specs.Pieces.{AreDamage, Piece, Shows, behind_flags}
 
 -- packets of these pieces stand behind what stood before
@@ -35,3 +35,11 @@ pub record Passes (n1 : ℕ) (stamp : Stamp) (direction : Direction) (kept octet
   pub pieces : List Piece
   pub shows : Shows n1 (kept ++ octets) pieces rest
   pub written : Appends before after (flat_map (piece_packet stamp direction) pieces)
+
+-- the packets of what could still become a frame each way are written, as damage, and nothing of it is kept
+pub record PushesRests (stamp : Stamp) (to from to_left from_left : List ℕ) (before after : Option (List ℕ)) : Type 0 where
+  pub packed : List Packed
+  pub are : AreRests stamp to from packed
+  pub none_to : to_left ≡ []
+  pub none_from : from_left ≡ []
+  pub written : Appends before after (flat_map packet_with packed)

@@ -1,11 +1,11 @@
 //! A file of packets, a packet for each frame of what passes on a line, and for octets that are none.
 ghost use Rattle.std.specs.Prelude.{◌≡◌, [], false, true, IfOk, OnOk};
 ghost use Rattle.std.specs.Io.KnownBytes.{Appends};
-ghost use Rattle.mux_capture.specs.Passing.{Captures, HasCaptured};
-ghost use Rattle.mux_capture.specs.Pushing.{Passes};
+ghost use Rattle.mux_capture.specs.Passing.{Captures, HasCaptured, Renews};
+ghost use Rattle.mux_capture.specs.Pushing.{Passes, PushesRests};
 
 use crate::packet::{Direction, Stamp, push_header};
-use crate::pieces::push_pieces;
+use crate::pieces::{push_all_damage, push_pieces};
 use std::alloc::{AllocError, Global};
 use std::io::Write;
 use std::marker::Model;
@@ -89,6 +89,25 @@ fn pass<C: Write>(
     put(output, packets.as_slice())
 }
 
+/// Writes the packets of what could still become a frame each way, as damage, and keeps nothing of it.
+fn put_rests<C: Write>(
+    alloc: Global,
+    stamp: Stamp,
+    to_modem: &mut Vec<u8>,
+    from_modem: &mut Vec<u8>,
+    output: &mut C,
+) -> Result<(), CaptureFault>
+    ensures { OnOk result (PushesRests stamp to_modem.old.items from_modem.old.items to_modem.new.items from_modem.new.items
+        (C.contents output.old) (C.contents output.new)) }
+{
+    let mut packets = Vec::new(alloc);
+    push_all_damage(stamp, Direction::ToModem, to_modem.as_slice(), &mut packets)?;
+    push_all_damage(stamp, Direction::FromModem, from_modem.as_slice(), &mut packets)?;
+    to_modem.clear();
+    from_modem.clear();
+    put(output, packets.as_slice())
+}
+
 impl<C: Write> Capture<C> {
     /// Begins a capture: writes the header of a file. N1 is the most octets of information that a frame may have.
     pub fn with_n1(alloc: Global, output: C, n1: u16) -> Result<Capture<C>, CaptureFault>
@@ -165,6 +184,34 @@ impl<C: Write> Capture<C> {
     {
         if !self.failed {
             self.failed = self.write(stamp, direction, octets).is_err();
+        }
+    }
+
+    /// Writes as damage what could still become a frame each way, and goes on with this N1.
+    fn write_rests(&mut self, stamp: Stamp, n1: u16) -> Result<(), CaptureFault>
+        ensures same { (self.new.failed ≡ self.old.failed) × (self.new.n1 ≡ n1) }
+        ensures renews { OnOk result (Renews self.old self.new) }
+    {
+        self.n1 = n1;
+        put_rests(
+            self.alloc,
+            stamp,
+            &mut self.to_modem,
+            &mut self.from_modem,
+            &mut self.output,
+        )
+    }
+
+    /// Begins another stretch at this time, in which a frame may have N1 octets of information: the entry into a multiplexer names
+    /// one of its own. Each way, octets that could still become a frame come to none, and are written as damage. Once a packet can't
+    /// be written or memory is refused, the capture has failed, and nothing more is written.
+    pub fn renew(&mut self, stamp: Stamp, n1: u16)
+        ensures renews { self.new.failed ≡ false → Renews self.old self.new }
+        ensures n1 { self.new.failed ≡ false → self.new.n1 ≡ n1 }
+        ensures over { self.old.failed ≡ true → self.new ≡ self.old }
+    {
+        if !self.failed {
+            self.failed = self.write_rests(stamp, n1).is_err();
         }
     }
 

@@ -37,7 +37,7 @@ fn cut(octets: &[u8]) -> (&[u8], &[u8])
 }
 
 /// Writes the packets of octets that are no frame.
-fn push_all_damage(
+pub(crate) fn push_all_damage(
     stamp: Stamp,
     direction: Direction,
     octets: &[u8],

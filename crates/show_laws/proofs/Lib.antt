@@ -8,3 +8,5 @@ pub mod rows
 pub mod answered
 pub mod stops
 pub mod sound
+pub mod talks
+pub mod simulated

@@ -2,6 +2,7 @@
 pub mod ModeAnswers
 pub mod UaBehindSabm
 pub mod QuietFrames
+pub mod OpenBelowZero
 pub mod DriverFollows
 pub mod DriverOpen
 pub mod NoneUnopened
@@ -10,6 +11,9 @@ pub mod DiscBehindUa
 pub mod FreshAsks
 pub mod ModemFollows
 pub mod ResponderCalls
+pub mod ModemCloses
 pub mod ModemOpen
 pub mod ModemLine
 pub mod BothOpen
+pub mod AskedLines
+pub mod ClosersBehindSabm

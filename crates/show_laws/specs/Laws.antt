@@ -5,9 +5,10 @@ use Rattle.mux_capture.specs.declared.packet.Direction.TheVariants.{ToModem}
 use Rattle.mux_capture.specs.declared.packet.Stamp.{Stamp}
 use Rattle.mux_station.specs.declared.role.Role.TheVariants.{Initiator, Responder}
 use Rattle.mux_station.specs.Acts as station
-use Rattle.mux_frame.specs.Frames.{Frame}
-use Rattle.mux_station.specs.Messages.{Message, brings_command, cld, fcoff, message_in, msc, msc_stops}
-use Rattle.mux_station.specs.Sending.{StationSetting, is_loss, owed_frames}
+use Rattle.mux_frame.specs.declared.frame.Kind.TheVariants.{Sabm}
+use Rattle.mux_station.specs.Written.{is_kind}
+use Rattle.mux_station.specs.Messages.{Message, fcoff, message_in, msc, msc_stops}
+use Rattle.mux_station.specs.Sending.{StationSetting, owed_frames}
 use Rattle.modem_desk.specs.declared.request.Ask.{Ask}
 use Rattle.modem_desk.specs.declared.request.Ask.TheVariants.{Probe}
 use Rattle.modem_history.specs.Acts as driver
@@ -16,7 +17,6 @@ use Rattle.modem_history.specs.Calls.{Setting}
 use Rattle.modem_history.specs.TwoEnds.{AsksOnce, TakesCommandLines, frames_sent}
 use Rattle.modem_history.specs.Wholes.{taken_requests}
 use Rattle.modem_show.specs.declared.rule.Rule.TheVariants.{Unasked, Unopened, Unstopped, TooLong, Astray}
-use Rattle.modem_show.specs.Asking.{is_mode_command}
 use Rattle.modem_show.specs.Judging.{faults_from, is_text, unanswered}
 use Rattle.modem_show.specs.Rows.{sound}
 use Rattle.show_laws.specs.Lines.{IsDone, IsLawfulLine, ReadsWhileOpen, LineAct, NoneBreaks, NoneBreaksIn, captured, driver_past, modem_past, responding}
@@ -58,32 +58,14 @@ CarriesText s n1 line =
 
 -- ## Openings
 
--- no CLD was sent
-abbrev pub NeverClosesDown : List station.Act → Type 0
-NeverClosesDown past = list_any (brings_command cld) (frames_sent past) ≡ false
-
--- The driver sends no data on a connection that isn't open, where it asks for each connection once at most, and the modem sends no
--- CLD.
+-- the driver sends no data on a connection that isn't open, where it asks for each connection once at most
 unfoldable pub SendsWhileOpen : Setting → ℕ → List LineAct → Type 0
 SendsWhileOpen s n1 line =
-    IsLawfulLine s n1 line → AsksOnce (wire (driver_past line)) → NeverClosesDown (modem_past line)
-    → (stamps : ℕ → Stamp) (most : ℕ) → NoneBreaksIn ToModem Unopened most (captured stamps line)
+    IsLawfulLine s n1 line → AsksOnce (wire (driver_past line)) → (stamps : ℕ → Stamp) (most : ℕ) → NoneBreaksIn ToModem Unopened most (captured stamps line)
 
--- ## Answers
-
--- where nothing is under way each ask was answered, where each control command came while 0 was open
-unfoldable pub AnswersAll : Setting → ℕ → List LineAct → Type 0
-AnswersAll s n1 line =
-    IsLawfulLine s n1 line → IsDone s n1 line → ReadsWhileOpen Initiator (wire (driver_past line)) → ReadsWhileOpen Responder (modem_past line)
-    → (stamps : ℕ → Stamp)
-    → (unanswered Initiator (captured stamps line) ≡ []) × (unanswered Responder (captured stamps line) ≡ [])
-
--- no SABM, DISC or CLD was sent
-abbrev pub opens_or_closes : Frame → Bool
-opens_or_closes f = is_mode_command f || brings_command cld f
-
-abbrev pub OpensAndClosesNothing : List station.Act → Type 0
-OpensAndClosesNothing past = list_any opens_or_closes (frames_sent past) ≡ false
+-- no SABM was sent
+abbrev pub OpensNothing : List station.Act → Type 0
+OpensNothing past = list_any (λ f. is_kind f.kind Sabm) (frames_sent past) ≡ false
 
 -- all that an act calls for was sent before the next one
 abbrev pub IsPrompt : StationSetting → List station.Act → Type 0
@@ -93,12 +75,21 @@ IsPrompt s (station.Given ∷ past) = IsPrompt s past
 IsPrompt s (a ∷ past) = (owed_frames s past ≡ []) × IsPrompt s past
 
 -- Neither end sends data on a connection that isn't open, where the driver asks for each connection once at most, and the modem is
--- prompt, opens and closes nothing by itself, and isn't told of a loss of the line.
+-- prompt, and opens none by itself.
 unfoldable pub BothSendWhileOpen : Setting → ℕ → List LineAct → Type 0
 BothSendWhileOpen s n1 line =
-    IsLawfulLine s n1 line → AsksOnce (wire (driver_past line)) → OpensAndClosesNothing (modem_past line)
-    → IsPrompt (responding n1) (modem_past line) → list_any is_loss (modem_past line) ≡ false
+    IsLawfulLine s n1 line → AsksOnce (wire (driver_past line)) → OpensNothing (modem_past line)
+    → IsPrompt (responding n1) (modem_past line)
     → (stamps : ℕ → Stamp) (most : ℕ) → NoneBreaks Unopened most (captured stamps line)
+
+-- ## Answers
+
+-- where nothing is under way each ask was answered, where each control command came while 0 was open
+unfoldable pub AnswersAll : Setting → ℕ → List LineAct → Type 0
+AnswersAll s n1 line =
+    IsLawfulLine s n1 line → IsDone s n1 line → ReadsWhileOpen Initiator (wire (driver_past line)) → ReadsWhileOpen Responder (modem_past line)
+    → (stamps : ℕ → Stamp)
+    → (unanswered Initiator (captured stamps line) ≡ []) × (unanswered Responder (captured stamps line) ≡ [])
 
 -- ## Stops
 
@@ -117,17 +108,19 @@ NeverStopped s n1 line =
     IsLawfulLine s n1 line → StopsNothing (wire (driver_past line)) → StopsNothing (modem_past line)
     → (stamps : ℕ → Stamp) (most : ℕ) → NoneBreaks Unstopped most (captured stamps line)
 
+-- No data is sent on a connection that is stopped, whichever end stops it, where the driver asks for each connection once at most.
+unfoldable pub HeedsStops : Setting → ℕ → List LineAct → Type 0
+HeedsStops s n1 line =
+    IsLawfulLine s n1 line → AsksOnce (wire (driver_past line)) → (stamps : ℕ → Stamp) (most : ℕ) → NoneBreaks Unstopped most (captured stamps line)
+
 -- ## All rules of a frame
 
 -- a lawful line on which all this holds
 pub record IsPlainLine (s : Setting) (n1 : ℕ) (line : List LineAct) : Type 0 where
   pub lawful : IsLawfulLine s n1 line
   pub once : AsksOnce (wire (driver_past line))
-  pub steady : OpensAndClosesNothing (modem_past line)
+  pub opens_none : OpensNothing (modem_past line)
   pub prompt : IsPrompt (responding n1) (modem_past line)
-  pub live : list_any is_loss (modem_past line) ≡ false
-  pub driver_stops : StopsNothing (wire (driver_past line))
-  pub modem_stops : StopsNothing (modem_past line)
   pub commands : TakesCommandLines (driver_past line)
   pub offers : OffersText (modem_past line)
   pub probes : TakesShortProbes (driver_past line)

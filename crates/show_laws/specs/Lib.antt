@@ -1,3 +1,5 @@
 pub mod Lines
 pub mod Laws
+pub mod Talks
 pub mod LineRows
+pub mod Simulated

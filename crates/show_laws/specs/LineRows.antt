@@ -16,7 +16,7 @@ use Rattle.modem_history.specs.Rows as row
 use Rattle.modem_history.specs.Rows.{takes, tells, tells_done, zero, one}
 use Rattle.modem_show.specs.Judging.{faults_from, unanswered}
 use Rattle.modem_show.specs.Rows.{never_answered, sound}
-use Rattle.show_laws.specs.Laws.{IsPlainLine, NeverClosesDown}
+use Rattle.show_laws.specs.Laws.{IsPlainLine}
 use Rattle.show_laws.specs.Lines.{AtDriver, AtModem, IsDone, IsLawfulLine, LineAct, ReadsWhileOpen, captured, driver_past, modem_past}
 
 -- the line after these acts, of which the first comes first
@@ -94,7 +94,6 @@ pub record IsRight (acts : List LineAct) : Type 0 where
 -- all that the laws ask of a line
 pub record MeetsAll (acts : List LineAct) : Type 0 where
   pub plain : IsPlainLine (replaying 31) 31 (after [] acts)
-  pub stays : NeverClosesDown (modem_past (after [] acts))
   pub done : IsDone (replaying 31) 31 (after [] acts)
   pub at_driver : ReadsWhileOpen Initiator (wire (driver_past (after [] acts)))
   pub at_modem : ReadsWhileOpen Responder (modem_past (after [] acts))

@@ -3,7 +3,11 @@ ghost use Rattle.std.specs.Prelude.{ℕ, List};
 ghost use Rattle.modem_history.specs.Calls.{Setting};
 ghost use Rattle.show_laws.specs.Lines.{LineAct};
 ghost use Rattle.show_laws.specs.LineRows.{AreRight};
-ghost use Rattle.show_laws.specs.Laws.{AllSound, AnswersAll, AnswersAsks, BothSendWhileOpen, CarriesText, FitsN1, NeverStopped, SendsWhileOpen};
+ghost use Rattle.show_laws.specs.Talks.{FinishesTalk, TalksInTurn};
+ghost use Rattle.modem_sim.specs.Acts.{End};
+ghost use Rattle.modem_ends.specs.OneModem.{EndAct};
+ghost use Rattle.show_laws.specs.Simulated.{Simulates, SoundToModem};
+ghost use Rattle.show_laws.specs.Laws.{AllSound, AnswersAll, AnswersAsks, BothSendWhileOpen, CarriesText, FitsN1, HeedsStops, NeverStopped, SendsWhileOpen};
 
 /// No frame between a driver that keeps its laws and a modem that keeps the responder's tables is judged an answer that nothing waits
 /// for.
@@ -26,15 +30,13 @@ pub fn texts()
     ensures { (s : Setting) (n1 : ℕ) (line : List LineAct) → CarriesText s n1 line }
 {}
 
-/// No data of the driver is judged to be on a connection that isn't open, where the driver asks for each connection once at most and the
-/// modem sends no CLD.
+/// No data of the driver is judged to be on a connection that isn't open, where the driver asks for each connection once at most.
 #[tactic(auto, using(crate::proofs::openings::NoneUnopened::sends_while_open))]
 pub fn openings()
     ensures { (s : Setting) (n1 : ℕ) (line : List LineAct) → SendsWhileOpen s n1 line }
 {}
 
-/// No data of either end is judged so where, beyond this, the modem does at once what each act calls for, sends no SABM, DISC or CLD of its
-/// own, and isn't told of a loss of the line.
+/// No data of either end is judged so where, beyond this, the modem does at once what each act calls for, and sends no SABM of its own.
 #[tactic(auto, using(crate::proofs::openings::BothOpen::both_send_while_open))]
 pub fn openings_of_both()
     ensures { (s : Setting) (n1 : ℕ) (line : List LineAct) → BothSendWhileOpen s n1 line }
@@ -44,6 +46,12 @@ pub fn openings_of_both()
 #[tactic(auto, using(crate::proofs::stops::NoneStopped::never_stopped))]
 pub fn stops()
     ensures { (s : Setting) (n1 : ℕ) (line : List LineAct) → NeverStopped s n1 line }
+{}
+
+/// No data is judged to be on a connection that is stopped, whichever end stops it, where the driver asks for each connection once at most.
+#[tactic(auto, using(crate::proofs::stops::NoneUnstopped::heeds_stops))]
+pub fn stops_heeded()
+    ensures { (s : Setting) (n1 : ℕ) (line : List LineAct) → HeedsStops s n1 line }
 {}
 
 /// Nothing is judged wrong with any frame of a line on which all this holds.
@@ -57,6 +65,32 @@ pub fn frames()
 #[tactic(auto, using(crate::proofs::answered::NoneWaits::answers_all))]
 pub fn answered()
     ensures { (s : Setting) (n1 : ℕ) (line : List LineAct) → AnswersAll s n1 line }
+{}
+
+/// Of what is told of a line no command overlaps another one, and no final code answers nothing, where the modem offers final codes to commands
+/// alone.
+#[tactic(auto, using(crate::proofs::talks::InTurn::talks_in_turn))]
+pub fn talks()
+    ensures { (s : Setting) (n1 : ℕ) (line : List LineAct) → TalksInTurn s n1 line }
+{}
+
+/// There no command is left without an answer, where each that came has its final code.
+#[tactic(auto, using(crate::proofs::talks::InTurn::finishes_talk))]
+pub fn talks_end()
+    ensures { (s : Setting) (n1 : ℕ) (line : List LineAct) → FinishesTalk s n1 line }
+{}
+
+/// A line of a driver and a simulated modem is such a lawful line, on which each connection is asked for once, and the modem opens none.
+#[tactic(auto, using(crate::proofs::simulated::SimulatedLines::simulates))]
+pub fn simulated()
+    ensures { (s : Setting) (e : End) (line : List EndAct) → Simulates s e line }
+{}
+
+/// Nothing is judged wrong with any frame of it, where the modem does at once what each act calls for, what is offered is text, and probes
+/// are short.
+#[tactic(auto, using(crate::proofs::simulated::SimulatedLines::sound_to_modem))]
+pub fn simulated_frames()
+    ensures { (s : Setting) (e : End) (line : List EndAct) → SoundToModem s e line }
 {}
 
 /// Worked lines that are lawful, on which no frame is judged wrong and nothing is left unanswered: a command and a stop, which meets all that

@@ -5,7 +5,7 @@ use Rattle.std.proofs.Common.{ap, arith, ◌∙◌}
 use Rattle.mux_frame.specs.Frames.{Frame}
 use Rattle.mux_station.specs.Acts as station
 use Rattle.mux_station.specs.Sending as sending
-use Rattle.mux_station.specs.Sending.{Sends, StationLawful, StationSetting, called_frames, frames_seeing, owed_frames, station_view}
+use Rattle.mux_station.specs.Sending.{Sends, StationLawful, StationSetting, called_frames, owed_frames, station_view}
 use Rattle.mux_station.specs.Tables.{by_frame}
 use Rattle.mux_station.specs.Written.{is_data_frame}
 use Rattle.mux_station.proofs.states.OpenedStates.{opened_is_open}

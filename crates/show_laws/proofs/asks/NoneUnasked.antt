@@ -70,7 +70,7 @@ all_shaped (f ∷ fs) h = by_test (is_shaped f) refl (λ k. all_shaped fs k)
     by_test true e rest = rest (omega (arith, h))
     by_test false e rest = let x : unit (misshapen f) ≡ 1 = ap (λ b. unit (not b)) e in absurd (omega (arith, x, h))
 
-driver_shaped : (s : Setting) (past : List driver.Act) → Lawful s past → list_all is_shaped (frames_sent (wire past)) ≡ true
+pub driver_shaped : (s : Setting) (past : List driver.Act) → Lawful s past → list_all is_shaped (frames_sent (wire past)) ≡ true
 driver_shaped s past l =
     let few = driver_sends AnyProbe s misshapen (λ (f : Frame). false) (shapes_balanced s.n1 s.role) past l (any_probes past) in
     let none = none_many (frames_got (wire past)) in
@@ -84,7 +84,7 @@ modem_shaped n1 past l =
 
 -- ## One answer
 
-self_alike : (g : Frame) → is_answer g ≡ true → is_alike g g ≡ true
+pub self_alike : (g : Frame) → is_answer g ≡ true → is_alike g g ≡ true
 self_alike g answer = by_mode (is_mode_answer g) (message_in g) refl answer
   where
     same : (o : Option Message) → message_answers o ≡ true → same_message o o ≡ true

@@ -30,26 +30,30 @@ none_of_flow P most r u t b state d signals =
     few_if u 0 (is_opened (state d)) (msc_frame r d signals ∷ []) []
     (none_one u (msc_frame r d signals) (b.command msc ((4 * d + 3) ∷ signals ∷ []) refl (omega arith))) (omega arith)
 
-kind_if : (P : List ℕ → Type 0) (most : ℕ) (r : Role) (u t : Frame → Bool) → Balanced P most r u t → (d : ℕ) (c : Bool) → u (written r (if c then Disc else Sabm) d []) ≡ false
-kind_if P most r u t b d true = b.disc d
-kind_if P most r u t b d false = b.sabm d
+kind_if : (r : Role) (u : Frame → Bool) → ((d : ℕ) → u (written r Sabm d []) ≡ false) → ((d : ℕ) → u (written r Disc d []) ≡ false) → (d : ℕ) (c : Bool) → u (written r (if c then Disc else Sabm) d []) ≡ false
+kind_if r u sabm disc d true = disc d
+kind_if r u sabm disc d false = sabm d
 
 fitting : (u : Frame → Bool) (n1 queued : ℕ) (f : Frame) → u f ≡ false → many u (if_room n1 queued (Some f)) ≤ 0
 fitting u n1 queued f h = few_if u 0 (has_room n1 queued f) (f ∷ []) [] (none_one u f h) (omega arith)
 
-roomed : (P : List ℕ → Type 0) (most : ℕ) (r : Role) (u t : Frame → Bool) → Balanced P most r u t → (n1 queued d : ℕ) (own : State) → many u (if_room n1 queued (again r d own)) ≤ 0
-roomed P most r u t b n1 queued d IsShut = omega arith
-roomed P most r u t b n1 queued d IsOpened = omega arith
-roomed P most r u t b n1 queued d (IsStopping n) = omega arith
-roomed P most r u t b n1 queued d (IsOpening n) = fitting u n1 queued (written r (if n == 3 then Disc else Sabm) d []) (kind_if P most r u t b d (n == 3))
-roomed P most r u t b n1 queued d (IsClosing n) = closing (n == 3)
+roomed : (r : Role) (u : Frame → Bool) → ((d : ℕ) → u (written r Sabm d []) ≡ false) → ((d : ℕ) → u (written r Disc d []) ≡ false) → (n1 queued d : ℕ) (own : State) → many u (if_room n1 queued (again r d own)) ≤ 0
+roomed r u sabm disc n1 queued d IsShut = omega arith
+roomed r u sabm disc n1 queued d IsOpened = omega arith
+roomed r u sabm disc n1 queued d (IsStopping n) = omega arith
+roomed r u sabm disc n1 queued d (IsOpening n) = fitting u n1 queued (written r (if n == 3 then Disc else Sabm) d []) (kind_if r u sabm disc d (n == 3))
+roomed r u sabm disc n1 queued d (IsClosing n) = closing (n == 3)
   where
     closing : (c : Bool) → many u (if_room n1 queued (if c then None else Some (written r Disc d []))) ≤ 0
     closing true = omega arith
-    closing false = fitting u n1 queued (written r Disc d []) (b.disc d)
+    closing false = fitting u n1 queued (written r Disc d []) (disc d)
+
+-- a tick calls for SABM and DISC alone
+pub tick_none : (r : Role) (u : Frame → Bool) → ((d : ℕ) → u (written r Sabm d []) ≡ false) → ((d : ℕ) → u (written r Disc d []) ≡ false) → (n1 : ℕ) (state : ℕ → State) (queued d count : ℕ) → many u (ticked r n1 state queued d count) ≤ 0
+tick_none r u sabm disc n1 state queued d zero = omega arith
+tick_none r u sabm disc n1 state queued d (suc count) =
+    let here = if_room n1 queued (again r d (state d)) in
+    few_both u 0 0 here (ticked r n1 state (queued + octets_of here) (d + 1) count) (roomed r u sabm disc n1 queued d (state d)) (tick_none r u sabm disc n1 state (queued + octets_of here) (d + 1) count)
 
 pub none_of_tick : (P : List ℕ → Type 0) (most : ℕ) (r : Role) (u t : Frame → Bool) → Balanced P most r u t → (n1 : ℕ) (state : ℕ → State) (queued d count : ℕ) → many u (ticked r n1 state queued d count) ≤ 0
-none_of_tick P most r u t b n1 state queued d zero = omega arith
-none_of_tick P most r u t b n1 state queued d (suc count) =
-    let here = if_room n1 queued (again r d (state d)) in
-    few_both u 0 0 here (ticked r n1 state (queued + octets_of here) (d + 1) count) (roomed P most r u t b n1 queued d (state d)) (none_of_tick P most r u t b n1 state (queued + octets_of here) (d + 1) count)
+none_of_tick P most r u t b n1 state queued d count = tick_none r u b.sabm b.disc n1 state queued d count

@@ -1,6 +1,6 @@
 -- A driver sends no more frames of the first of two balanced tests than frames of the second came.
 use Rattle.std.specs.Prelude.{◌≡◌, ℕ, ◌+◌, ◌≤◌, not, Bool, true, false, List, [], ◌∷◌, ◌++◌, map, drop, refl, is_none, if◌then◌else◌}
-use Rattle.std.proofs.Common.{ap, arith, ◌∙◌}
+use Rattle.std.proofs.Common.{ap, append-nil, arith, ◌∙◌}
 use Rattle.mux_frame.specs.Frames.{Frame}
 use Rattle.mux_frame.specs.declared.frame.Kind.TheVariants.{Sabm, Disc}
 use Rattle.mux_station.specs.declared.role.Role.{Role}
@@ -11,7 +11,7 @@ use Rattle.modem_desk.specs.declared.request.Ask.{Ask}
 use Rattle.modem_desk.specs.declared.request.Ask.TheVariants.{OpenChannel, CloseChannel, Command, Probe, Stop}
 use Rattle.modem_history.specs.Acts.{Act, Took, Got, Sent, Told, Heard, Tick, Lost, Held, Freed, Given, wire}
 use Rattle.modem_history.specs.Calls.{Setting, HistoryView, asking, at_once, calls_behind, calls_seeing, frames, frames_by, lines_said, said_at_once, seen_behind, states_now, tolds}
-use Rattle.modem_history.specs.Lawful.{Gated, IsNext, Lawful, When, owed, unsent}
+use Rattle.modem_history.specs.Lawful.{Gated, IsNext, Lawful, When, owed, owes_frame, unsent}
 use Rattle.modem_history.specs.TwoEnds.{frames_got, frames_sent}
 use Rattle.modem_history.proofs.calls.CalledActs.{Deliveries, spoken}
 use Rattle.show_laws.proofs.counts.ManyFrames.{few_if, many, many_both, none_one, unit}
@@ -33,7 +33,7 @@ frames_in [] = []
 frames_in (Sent f ∷ acts) = f ∷ frames_in acts
 frames_in (_ ∷ acts) = frames_in acts
 
-in_both : (xs ys : List Act) → frames_in (xs ++ ys) ≡ frames_in xs ++ frames_in ys
+pub in_both : (xs ys : List Act) → frames_in (xs ++ ys) ≡ frames_in xs ++ frames_in ys
 in_both [] ys = refl
 in_both (Sent f ∷ xs) ys = ap (λ (fs : List Frame). f ∷ fs) (in_both xs ys)
 in_both (Took q ∷ xs) ys = in_both xs ys
@@ -85,6 +85,20 @@ unsent_none u (Held d ∷ acts) = unsent_none u acts
 unsent_none u (Freed d ∷ acts) = unsent_none u acts
 unsent_none u (Given ∷ acts) = unsent_none u acts
 
+-- while nothing but requests, ticks and the like happen no frame is owed
+pub none_owed : (u : Frame → Bool) (owing : List Act) → owes_frame owing ≡ false → sends u owing ≤ 0
+none_owed u [] h = omega arith
+none_owed u (Sent f ∷ owing) h = cc
+none_owed u (Took q ∷ owing) h = none_owed u owing h
+none_owed u (Got f ∷ owing) h = none_owed u owing h
+none_owed u (Told o ∷ owing) h = none_owed u owing h
+none_owed u (Heard k d l ∷ owing) h = none_owed u owing h
+none_owed u (Tick ∷ owing) h = none_owed u owing h
+none_owed u (Lost ∷ owing) h = none_owed u owing h
+none_owed u (Held d ∷ owing) h = none_owed u owing h
+none_owed u (Freed d ∷ owing) h = none_owed u owing h
+none_owed u (Given ∷ owing) h = none_owed u owing h
+
 pub dropped : (u : Frame → Bool) (acts : List Act) → sends u (drop 1 acts) ≤ sends u acts
 dropped u [] = omega arith
 dropped u (Sent f ∷ acts) = omega arith
@@ -98,7 +112,34 @@ dropped u (Held d ∷ acts) = omega arith
 dropped u (Freed d ∷ acts) = omega arith
 dropped u (Given ∷ acts) = omega arith
 
--- of what an act calls for, the frames are those by its table
+-- of what an act calls for, the frames are those that it calls for
+mapped_in : (fs : List Frame) → frames_in (map Sent fs) ≡ fs
+mapped_in [] = refl
+mapped_in (f ∷ fs) = ap (λ (gs : List Frame). f ∷ gs) (mapped_in fs)
+
+none_in : (acts : List Act) → Deliveries acts → frames_in acts ≡ []
+none_in [] h = refl
+none_in (Told o ∷ acts) h = none_in acts h
+none_in (Heard k d line ∷ acts) h = none_in acts h
+none_in (Took r ∷ acts) h = never h
+none_in (Got f ∷ acts) h = never h
+none_in (Sent f ∷ acts) h = never h
+none_in (Tick ∷ acts) h = never h
+none_in (Lost ∷ acts) h = never h
+none_in (Held d ∷ acts) h = never h
+none_in (Freed d ∷ acts) h = never h
+none_in (Given ∷ acts) h = never h
+
+pub in_calls : (s : Setting) (v : HistoryView) (a : Act) → frames_in (calls_seeing s v a) ≡ frames s v a
+in_calls s v a =
+    let sent = map Sent (frames s v a) in
+    let now = states_now s v (a ∷ sent) in
+    let said = said_at_once s v a ++ (lines_said s v a ++ tolds v now a) in
+    in_both sent said
+    ∙ (ap (λ (fs : List Frame). fs ++ frames_in said) (mapped_in (frames s v a))
+    ∙ (ap (λ (gs : List Frame). frames s v a ++ gs) (none_in said (spoken s v a now)) ∙ append-nil (frames s v a)))
+
+-- and those by its table
 pub called : (u : Frame → Bool) (n : ℕ) (s : Setting) (v : HistoryView) (a : Act) → many u (frames_by s v a) ≤ n → sends u (calls_seeing s v a) ≤ n
 called u n s v a h =
     let sent = map Sent (frames s v a) in

@@ -24,7 +24,7 @@ use Rattle.show_laws.proofs.counts.DriverCounts.{called, dropped, sends, sends_b
 use Rattle.show_laws.proofs.openings.DriverStates.{Says, state_says}
 use Rattle.show_laws.proofs.openings.ModeAnswers.{modes_few}
 
-abbrev discs : ℕ → Frame → Bool
+abbrev pub discs : ℕ → Frame → Bool
 discs d f = is_on Disc d f
 
 either_of : {P : Type 0} → (m n k : ℕ) → 1 ≤ (m + n) + k → (1 ≤ m + k → P) → (1 ≤ n → P) → P
@@ -36,12 +36,12 @@ none_here n h k = absurd (omega (arith, h, k))
 
 -- ## Ticks
 
-same_place : (b c : Bool) → 1 ≤ unit (b && c) → c ≡ true
+pub same_place : (b c : Bool) → 1 ≤ unit (b && c) → c ≡ true
 same_place true true h = refl
 same_place true false h = absurd (omega (arith, h))
 same_place false c h = absurd (omega (arith, h))
 
-one_of : (t : Frame → Bool) (n1 queued : ℕ) (f : Frame) → 1 ≤ many t (if_room n1 queued (Some f)) → 1 ≤ unit (t f)
+pub one_of : (t : Frame → Bool) (n1 queued : ℕ) (f : Frame) → 1 ≤ many t (if_room n1 queued (Some f)) → 1 ≤ unit (t f)
 one_of t n1 queued f h = by_room (has_room n1 queued f) h
   where
     by_room : (b : Bool) → 1 ≤ many t (if b then f ∷ [] else []) → 1 ≤ unit (t f)
@@ -63,7 +63,7 @@ here_disc {P} r n1 queued d e (IsClosing n) c o h = closing (n == 3) h
     closing true h = absurd (omega (arith, h))
     closing false h = c (same_place true (e == d) (one_of (discs d) n1 queued (written r Disc e []) h)) n refl
 
-tick_disc : {P : Type 0} → (r : Role) (n1 d : ℕ) (state : ℕ → State) → ((n : ℕ) → state d ≡ IsClosing n → P) → ((n : ℕ) → state d ≡ IsOpening n → (n == 3) ≡ true → P) → (queued e count : ℕ) → 1 ≤ many (discs d) (ticked r n1 state queued e count) → P
+pub tick_disc : {P : Type 0} → (r : Role) (n1 d : ℕ) (state : ℕ → State) → ((n : ℕ) → state d ≡ IsClosing n → P) → ((n : ℕ) → state d ≡ IsOpening n → (n == 3) ≡ true → P) → (queued e count : ℕ) → 1 ≤ many (discs d) (ticked r n1 state queued e count) → P
 tick_disc r n1 d state c o queued e zero h = absurd (omega (arith, h))
 tick_disc {P} r n1 d state c o queued e (suc count) h =
     let here = if_room n1 queued (again r e (state e)) in
@@ -101,7 +101,7 @@ asked_disc s v q d true e (CloseChannel c) is open_there h =
 
 -- ## The past
 
-disc_never : (d : ℕ) (r : Role) (state : ℕ → State) (f : Frame) → many (discs d) (by_frame r state f) ≤ 0
+pub disc_never : (d : ℕ) (r : Role) (state : ℕ → State) (f : Frame) → many (discs d) (by_frame r state f) ≤ 0
 disc_never d r state f =
     let e = modes_few (discs d) (λ n. false) (record { uih = λ q e info. refl; answer = λ q e b. either q e b }) r state f in
     let z = none (is_kind f.kind Sabm || is_kind f.kind Disc) in
@@ -144,7 +144,7 @@ calls_on s d past a h k some =
 says_there : (s : Setting) (d : ℕ) (past : List Act) → s.role ≡ Initiator → Says (uas d past) (many (is_on Sabm d) (frames_sent (wire past))) (state_of s.role d (wire past))
 says_there s d past is = subst (λ (r : Role). Says (uas d past) (many (is_on Sabm d) (frames_sent (wire past))) (state_of r d (wire past))) (sym is) (state_says d (wire past))
 
-from_opened : (ua sabm : ℕ) (s : State) → Says ua sabm s → is_opened s ≡ true → 1 ≤ ua
+pub from_opened : (ua sabm : ℕ) (s : State) → Says ua sabm s → is_opened s ≡ true → 1 ≤ ua
 from_opened ua sabm IsOpened h o = h
 from_opened ua sabm IsShut h o = cc
 from_opened ua sabm (IsOpening n) h o = cc

@@ -13,8 +13,7 @@ use Rattle.modem_show.specs.Asking.{is_mode_command, message_asks}
 use Rattle.modem_show.specs.Ends.{come}
 use Rattle.show_laws.proofs.asks.AnswerShapes.{message_no_mode, or_elim}
 use Rattle.show_laws.proofs.counts.ManyFrames.{unit}
-use Rattle.show_laws.proofs.openings.ModeAnswers.{is_ending}
-use Rattle.show_laws.proofs.openings.QuietFrames.{EndsNone, asked_at, ender_shuts, ends_none, is_ender, open_at, zero_at}
+use Rattle.show_laws.proofs.openings.QuietFrames.{EndsNone, asked_at, cld_asks, ends_none, open_at, zero_at}
 
 -- d is open, or it is asked for and each UA on it came that was sent
 pub data Ready (d : ℕ) (q : List Act) (sent got : ℕ) : Type 0 where
@@ -59,14 +58,14 @@ opened_by d q sent got f came is (there o) = o
 opened_by d q sent got f came is (asked_there a l) = let e : unit (is_on Ua d f) ≡ 1 = ap unit is in absurd (omega (arith, e, came, l))
 
 pub got_step : (d : ℕ) (p q : List Act) (endings endings2 sabms sabms2 sent got : ℕ) (f : Frame) → Follows d p q endings sabms sent got
-    → unit (is_on Ua d f) + got ≤ sent → (1 ≤ endings2 → is_ender d f ≡ true) → sabms2 ≤ 0 → Follows d (Got f ∷ p) q endings2 sabms2 sent (unit (is_on Ua d f) + got)
-got_step d p q endings endings2 sabms sabms2 sent got f h came ender none = record {
+    → unit (is_on Ua d f) + got ≤ sent → (1 ≤ endings2 → (open_at d (Got f ∷ p) ≡ false) × (asked_at d (Got f ∷ p) ≡ false)) → sabms2 ≤ 0 → Follows d (Got f ∷ p) q endings2 sabms2 sent (unit (is_on Ua d f) + got)
+got_step d p q endings endings2 sabms sabms2 sent got f h came shuts none = record {
   opens = λ k.
       or_elim (is_on Ua d f && asked_at d p) (open_at d p && not (ends (zero_at d p) d (Got f))) k
       (λ u. let x = and_parts (is_on Ua d f) (asked_at d p) u in opened_by d q sent got f came x.0 (h.asks x.1))
       (λ o. h.opens (and_parts (open_at d p) (not (ends (zero_at d p) d (Got f))) o).0);
   asks = λ k. later d q sent got (unit (is_on Ua d f) + got) (omega arith) (h.asks (and_parts (asked_at d p) (not (is_mode_frame_on d f || ends (zero_at d p) d (Got f))) k).0);
-  owes = λ k. ender_shuts d f p (ender k);
+  owes = λ k. shuts k;
   free = λ k. none;
 }
 
@@ -76,7 +75,7 @@ off_sum : (a b : Bool) → a ≡ false → (a && b) ≡ false
 off_sum true b e = cc
 off_sum false b e = refl
 
-sent_closed : (d : ℕ) (f : Frame) (p : List Act) → open_at d p ≡ false → asked_at d p ≡ false → is_on Sabm d f ≡ false → (open_at d (Sent f ∷ p) ≡ false) × (asked_at d (Sent f ∷ p) ≡ false)
+pub sent_closed : (d : ℕ) (f : Frame) (p : List Act) → open_at d p ≡ false → asked_at d p ≡ false → is_on Sabm d f ≡ false → (open_at d (Sent f ∷ p) ≡ false) × (asked_at d (Sent f ∷ p) ≡ false)
 sent_closed d f p o a s = (
   off_sum (open_at d p) (not (ends (zero_at d p) d (Sent f))) o,
   both (is_on Sabm d f) (asked_at d p) (not (is_mode_frame_on d f || ends (zero_at d p) d (Sent f))) s a,
@@ -123,17 +122,17 @@ sent_open d p q r endings endings2 sabms sabms2 sent got f h fewer fewer_sabms l
         asked_there (second (is_on Sabm d f) (asked_at d r && not (is_mode_frame_on d f || ends (zero_at d r) d (Sent f)))
         (and_from (asked_at d r) (not (is_mode_frame_on d f || ends (zero_at d r) d (Sent f))) (same_asked ∙ a) n)) l
 
-pub sent_step : (d : ℕ) (p q r : List Act) (endings endings2 sabms sabms2 sent got : ℕ) (f : Frame) → Follows d p q endings sabms sent got
-    → endings2 + unit (is_ending d f) ≤ endings → sabms2 + unit (is_on Sabm d f) ≤ sabms → (is_on Sabm d f ≡ true → sent ≤ got)
-    → (is_ending d f ≡ false → (open_at d r ≡ open_at d q) × (asked_at d r ≡ asked_at d q)) → Follows d (Sent f ∷ p) (Sent f ∷ r) endings2 sabms2 sent got
-sent_step d p q r endings endings2 sabms sabms2 sent got f h fewer fewer_sabms level quiet = by_ending (is_ending d f) refl
+pub sent_step : (d : ℕ) (p q r : List Act) (endings endings2 sabms sabms2 sent got : ℕ) (f : Frame) (ending : Bool) → Follows d p q endings sabms sent got
+    → endings2 + unit ending ≤ endings → sabms2 + unit (is_on Sabm d f) ≤ sabms → (is_on Sabm d f ≡ true → sent ≤ got)
+    → (ending ≡ false → (open_at d r ≡ open_at d q) × (asked_at d r ≡ asked_at d q)) → Follows d (Sent f ∷ p) (Sent f ∷ r) endings2 sabms2 sent got
+sent_step d p q r endings endings2 sabms sabms2 sent got f ending h fewer fewer_sabms level quiet = by_ending ending refl
   where
-    by_ending : (b : Bool) → is_ending d f ≡ b → Follows d (Sent f ∷ p) (Sent f ∷ r) endings2 sabms2 sent got
+    by_ending : (b : Bool) → ending ≡ b → Follows d (Sent f ∷ p) (Sent f ∷ r) endings2 sabms2 sent got
     by_ending false e =
         let s = quiet e in
         sent_open d p q r endings endings2 sabms sabms2 sent got f h (omega (arith, fewer)) fewer_sabms level s.0 s.1
     by_ending true e =
-        let x : unit (is_ending d f) ≡ 1 = ap unit e in
+        let x : unit ending ≡ 1 = ap unit e in
         let c = h.owes (omega (arith, x, fewer)) in
         let n = h.free (omega (arith, x, fewer)) in
         let shut = sent_closed d f p c.0 c.1 (no_sabm d f sabms sabms2 fewer_sabms n) in
@@ -230,12 +229,12 @@ asks_no_ua : (d : ℕ) (f : Frame) (o : Option Message) → message_in f ≡ o �
 asks_no_ua d f None e h = cc
 asks_no_ua d f (Some m) e h = off_sum (is_kind f.kind Ua) (f.dlci == d) (or_parts (is_kind f.kind Ua) (is_kind f.kind Dm) (message_no_mode f m e).1).0
 
-pub passed_step : (d : ℕ) (p q : List Act) (endings sabms sent got : ℕ) (f : Frame) → Follows d p q endings sabms sent got → brings_command cld f ≡ false
+pub passed_step : (d : ℕ) (p q : List Act) (endings sabms sent got : ℕ) (f : Frame) → Follows d p q endings sabms sent got
     → Follows d p (come f q) endings sabms (unit (is_on Ua d f) + sent) got
-passed_step d p q endings sabms sent got f h no_cld = by_come (is_mode_command f) (message_asks (message_in f)) (is_kind f.kind Dm) refl refl refl
+passed_step d p q endings sabms sent got f h = by_come (is_mode_command f) (message_asks (message_in f)) (is_kind f.kind Dm) refl refl refl
   where
     by_come : (a b c : Bool) → is_mode_command f ≡ a → message_asks (message_in f) ≡ b → is_kind f.kind Dm ≡ c → Follows d p (if (a || b) || c then q else Got f ∷ q) endings sabms (unit (is_on Ua d f) + sent) got
     by_come true b c m e k = unread d p q endings sabms sent got f h (no_ua f.kind (f.dlci == d) m)
     by_come false true c m e k = unread d p q endings sabms sent got f h (asks_no_ua d f (message_in f) refl e)
     by_come false false true m e k = unread d p q endings sabms sent got f h (dm_no_ua f.kind (f.dlci == d) k)
-    by_come false false false m e k = read d p q endings sabms sent got f h m k no_cld
+    by_come false false false m e k = read d p q endings sabms sent got f h m k (cld_asks f e)

@@ -41,7 +41,7 @@ opened u w h r d = few_if u 0 (d == 0) [] (msc_frame r d ready ∷ []) (omega ar
 alone : (u : Frame → Bool) (w : ℕ → Bool) → OfModes u w → (r : Role) (d : ℕ) (b : Bool) → many u (ua_or_dm r d b ∷ []) ≤ unit (w d)
 alone u w h r d b = let e = h.answer r d b in omega (arith, e)
 
-tabled : (u : Frame → Bool) (w : ℕ → Bool) → OfModes u w → (r : Role) (d : ℕ) (channel own : State) (k : Kind) → many u (by_table r d channel own k) ≤ unit ((is_kind k Sabm || is_kind k Disc) && w d)
+pub tabled : (u : Frame → Bool) (w : ℕ → Bool) → OfModes u w → (r : Role) (d : ℕ) (channel own : State) (k : Kind) → many u (by_table r d channel own k) ≤ unit ((is_kind k Sabm || is_kind k Disc) && w d)
 tabled u w h Initiator d channel own Ua = few_if u 0 (is_opening own) (msc_after_opening Initiator d) [] (opened u w h Initiator d) (omega arith)
 tabled u w h Initiator d channel own Sabm = alone u w h Initiator d false
 tabled u w h Initiator d channel own Dm = omega arith
@@ -104,7 +104,7 @@ ua_balanced most r d =
 abbrev pub is_ending : ℕ → Frame → Bool
 is_ending d g = is_mode_answer g && ((g.dlci == d) || (g.dlci == 0))
 
-ending_modes : (d : ℕ) → OfModes (is_ending d) (λ n. (n == d) || (n == 0))
+pub ending_modes : (d : ℕ) → OfModes (is_ending d) (λ n. (n == d) || (n == 0))
 ending_modes d = record {
   uih = λ r e info. refl;
   answer = λ r e b. either r e b;

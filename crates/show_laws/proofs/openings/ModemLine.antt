@@ -9,7 +9,7 @@ use Rattle.mux_frame.specs.declared.frame.Kind.TheVariants.{Sabm, Ua, Dm, Disc, 
 use Rattle.mux_capture.specs.declared.packet.Stamp.{Stamp}
 use Rattle.mux_station.specs.declared.role.Role.TheVariants.{Initiator, Responder}
 use Rattle.mux_station.specs.Acts as station
-use Rattle.mux_station.specs.Messages.{Message, cld, nsc, brings_command, is_command, message_in, message_of, octet_is}
+use Rattle.mux_station.specs.Messages.{cld, brings_command, message_in, message_of, octet_is}
 use Rattle.mux_station.specs.Opening.{ends, ends_itself, is_mode_frame_on}
 use Rattle.mux_station.specs.Sending.{Sends, StationLawful, called_frames, frames_seeing, is_loss, owed_frames, refused, station_view}
 use Rattle.mux_station.specs.States.{is_opened, state_of}
@@ -24,22 +24,21 @@ use Rattle.modem_history.specs.TwoEnds.{frames_got, frames_sent}
 use Rattle.modem_show.specs.Asking.{Ask, answered_by, answers, is_again, is_ask, is_mode_answer, is_mode_command, message_asks, waiting}
 use Rattle.modem_show.specs.Ends.{come, handled, own}
 use Rattle.show_laws.specs.Lines.{AtDriver, AtModem, LineAct, captured, driver_past, modem_past, responding}
-use Rattle.show_laws.specs.Laws.{OpensAndClosesNothing}
 use Rattle.show_laws.proofs.asks.AnswerShapes.{is_shaped}
 use Rattle.show_laws.proofs.asks.AnswersCalled.{AnyProbe}
 use Rattle.show_laws.proofs.asks.NoneUnasked.{modem_shaped}
 use Rattle.show_laws.proofs.asks.WaitingAsks.{frames_of, frames_to}
 use Rattle.show_laws.proofs.counts.ManyFrames.{many, unit}
-use Rattle.show_laws.proofs.counts.BalancedTables.{is_command_octet, none_of_tick}
+use Rattle.show_laws.proofs.counts.BalancedTables.{none_of_tick}
 use Rattle.show_laws.proofs.counts.StationCounts.{asked, called, station_sends}
 use Rattle.show_laws.proofs.lines.CapturedFrames.{both_ways, came_few, shows}
 use Rattle.show_laws.proofs.openings.ModeAnswers.{modes_few}
 use Rattle.show_laws.proofs.openings.ModemFollows.{FollowsM, IsSabm, answer_on, ask_on, call_step, come_step, control_step, data_step, open_m, still_step, zero_m}
-use Rattle.show_laws.proofs.openings.ModemOpen.{IsSteadyLine, above, asks_parts, disc_after, has_fresh, never_stops, steady_line_before}
-use Rattle.show_laws.proofs.openings.QuietFrames.{EndsNone, Quiet, ender_ends, ends_none}
+use Rattle.show_laws.proofs.openings.ModemOpen.{IsSteadyLine, above, asks_parts, disc_after, has_fresh, never_stops, steady_line_before, steady_zero}
+use Rattle.show_laws.proofs.openings.QuietFrames.{EndsNone, Quiet, cld_asks, ender_ends, ends_none}
 use Rattle.show_laws.proofs.openings.DriverOpen.{quiet_one}
 use Rattle.show_laws.proofs.openings.DiscBehindUa.{once_many}
-use Rattle.show_laws.proofs.openings.ResponderCalls.{answer_balanced, answer_modes, cld_answer, down_balanced, down_called, every, is_down, opening_answered, tail_none}
+use Rattle.show_laws.proofs.openings.ResponderCalls.{answer_balanced, answer_modes, down_balanced, down_called, every, is_down, not_cld, opening_answered, tail_none}
 use Rattle.show_laws.proofs.openings.UaBehindSabm.{shut, ua_behind}
 
 -- ## Quiet frames at a responder
@@ -62,7 +61,7 @@ quiet_open_m d f past h =
     let n = no_mode d f h.mode in
     keep (is_on Sabm d f) ((d == 0) || zero_m d past) (open_m d past) (ends (zero_m d past) d (station.Got f)) n.sabm (ends_none (zero_m d past) d f n (no_mode 0 f h.mode_of_zero) h.no_cld)
 
-found_passes : (p : Frame → Bool) (asks : List Ask) (a : Ask) → find (λ x. p x.frame) asks ≡ Some a → p a.frame ≡ true
+pub found_passes : (p : Frame → Bool) (asks : List Ask) (a : Ask) → find (λ x. p x.frame) asks ≡ Some a → p a.frame ≡ true
 found_passes p [] a e = cc
 found_passes p (x ∷ asks) a e = by_test (p x.frame) refl e (found_passes p asks a)
   where
@@ -78,13 +77,6 @@ no_ending : (a b c : Bool) → (a && b) ≡ false → (a && c) ≡ false → (a 
 no_ending true true c h k = cc
 no_ending true false c h k = k
 no_ending false b c h k = refl
-
-not_cld : (f g : Frame) → is_shaped g ≡ true → answers f g ≡ true → is_down g ≡ false → brings_command cld f ≡ false
-not_cld f g s a d = by_cld (brings_command cld f) refl
-  where
-    by_cld : (b : Bool) → brings_command cld f ≡ b → b ≡ false
-    by_cld false e = refl
-    by_cld true e = let x : true ≡ false = sym (cld_answer f g e s a) ∙ d in cc
 
 quiet_handled_m : (d : ℕ) (g : Frame) (asks : List Ask) (q : List station.Act) (o : Option Ask) → answered_by g asks ≡ o → is_shaped g ≡ true → answer_on d g ≡ false → answer_on 0 g ≡ false → is_down g ≡ false → open_m d (handled o ++ q) ≡ open_m d q
 quiet_handled_m d g asks q None e s a z n = refl
@@ -105,7 +97,7 @@ with_owed : (d : ℕ) (p q : List station.Act) (xs ys : List Frame) (sent : ℕ)
 with_owed d p q xs ys sent e h = subst (λ (fs : List Frame). FollowsM d p q fs sent) e h
 
 -- where d is open a SABM on it came
-asked_there : (s : Setting) (n1 d : ℕ) (line : List LineAct) → IsSteadyLine s n1 line → open_m d (modem_past line) ≡ true → 1 ≤ many (is_on Sabm d) (frames_got (modem_past line))
+asked_there : (s : Setting) (n1 d : ℕ) (line : List LineAct) → IsSteadyLine s n1 d line → open_m d (modem_past line) ≡ true → 1 ≤ many (is_on Sabm d) (frames_got (modem_past line))
 asked_there s n1 d line h o = by_count (many (is_on Sabm d) (frames_got (modem_past line))) refl
   where
     by_count : (n : ℕ) → many (is_on Sabm d) (frames_got (modem_past line)) ≡ n → 1 ≤ n
@@ -113,7 +105,7 @@ asked_there s n1 d line h o = by_count (many (is_on Sabm d) (frames_got (modem_p
     by_count zero e = absurd (let x : true ≡ false = sym o ∙ (shut n1 d (modem_past line) h.lawful.modem_lawful (omega (arith, e))).open_not in cc)
 
 -- what the modem answers with a UA or DM on d, as the first of its answers there while d is open
-sabm_answered : (s : Setting) (n1 d : ℕ) (stamps : ℕ → Stamp) (f : Frame) (line : List LineAct) → IsSteadyLine s n1 line → answer_on d f ≡ true → open_m d (modem_past line) ≡ true
+sabm_answered : (s : Setting) (n1 d : ℕ) (stamps : ℕ → Stamp) (f : Frame) (line : List LineAct) → IsSteadyLine s n1 d line → answer_on d f ≡ true → open_m d (modem_past line) ≡ true
     → many (answer_on d) (frames_sent (modem_past line)) ≤ 0 → IsSabm d (answered_by f (waiting Initiator (captured stamps line)))
 sabm_answered s n1 d stamps f line h a o none =
     let got = asked_there s n1 d line h o in
@@ -125,9 +117,9 @@ sabm_answered s n1 d stamps f line h a o none =
     let p = and_parts (is_mode_answer f) (f.dlci == d) a in
     record { ask = r.ask; is = r.found f p.0 (eqb-true f.dlci d p.1); sabm = r.sabm; new = r.new }
 
-modem_sent : (s : Setting) (n1 : ℕ) (stamps : ℕ → Stamp) (f : Frame) (line : List LineAct) → IsSteadyLine s n1 (AtModem (station.Sent f) ∷ line) → ((d : ℕ) → FollowsOn n1 stamps line d) → (d : ℕ) → FollowsOn n1 stamps (AtModem (station.Sent f) ∷ line) d
+modem_sent : (s : Setting) (n1 d : ℕ) (stamps : ℕ → Stamp) (f : Frame) (line : List LineAct) → IsSteadyLine s n1 d (AtModem (station.Sent f) ∷ line) → FollowsOn n1 stamps line d → FollowsOn n1 stamps line 0 → FollowsOn n1 stamps (AtModem (station.Sent f) ∷ line) d
 unfolding StationLawful Sends
-modem_sent s n1 stamps f line h before d = by_data (is_data_frame f) refl h.lawful.modem_lawful.0
+modem_sent s n1 d stamps f line h before before_zero = by_data (is_data_frame f) refl h.lawful.modem_lawful.0
   where
     past : List station.Act
     past = modem_past line
@@ -151,17 +143,17 @@ modem_sent s n1 stamps f line h before d = by_data (is_data_frame f) refl h.lawf
         → FollowsM d (station.Sent f ∷ modem_past line) (station.Sent f ∷ (handled (answered_by f (waiting Initiator (captured stamps line))) ++ own Responder (captured stamps line)))
         (if b then owed_frames (responding n1) (modem_past line) else drop 1 (owed_frames (responding n1) (modem_past line))) (unit (answer_on d f) + many (answer_on d) (frames_sent (modem_past line)))
     by_data true is g =
-        let k = with_owed d (modem_past line) (own Responder (captured stamps line)) (owed_frames (responding n1) (modem_past line)) [] (many (answer_on d) (frames_sent (modem_past line))) g.behind (before d) in
+        let k = with_owed d (modem_past line) (own Responder (captured stamps line)) (owed_frames (responding n1) (modem_past line)) [] (many (answer_on d) (frames_sent (modem_past line))) g.behind before in
         with_owed d _ _ [] (owed_frames (responding n1) (modem_past line)) _ (sym g.behind)
         (data_step d (modem_past line) (own Responder (captured stamps line)) f (answered_by f (waiting Initiator (captured stamps line))) (many (answer_on d) (frames_sent (modem_past line))) (unit (answer_on d f) + many (answer_on d) (frames_sent (modem_past line))) k
-        (quiet_handled_m d f (waiting Initiator (captured stamps line)) (own Responder (captured stamps line)) (answered_by f (waiting Initiator (captured stamps line))) refl shape (data_answer d is) (data_answer 0 is) ((down_balanced (length f.info)).plain f is (le-leb (length f.info) (length f.info) (omega arith)))))
+        (quiet_handled_m d f (waiting Initiator (captured stamps line)) (own Responder (captured stamps line)) (answered_by f (waiting Initiator (captured stamps line))) refl shape (data_answer d is) (data_answer 0 is) ((down_balanced (length f.info) Responder).plain f is (le-leb (length f.info) (length f.info) (omega arith)))))
     by_data false is g =
-        let k = with_owed d (modem_past line) (own Responder (captured stamps line)) (owed_frames (responding n1) (modem_past line)) (f ∷ g.later) (many (answer_on d) (frames_sent (modem_past line))) g.is_next (before d) in
-        let k0 = with_owed 0 (modem_past line) (own Responder (captured stamps line)) (owed_frames (responding n1) (modem_past line)) (f ∷ g.later) (many (answer_on 0) (frames_sent (modem_past line))) g.is_next (before 0) in
+        let k = with_owed d (modem_past line) (own Responder (captured stamps line)) (owed_frames (responding n1) (modem_past line)) (f ∷ g.later) (many (answer_on d) (frames_sent (modem_past line))) g.is_next before in
+        let k0 = with_owed 0 (modem_past line) (own Responder (captured stamps line)) (owed_frames (responding n1) (modem_past line)) (f ∷ g.later) (many (answer_on 0) (frames_sent (modem_past line))) g.is_next before_zero in
         with_owed d _ _ g.later (drop 1 (owed_frames (responding n1) (modem_past line))) _ (sym (ap (λ (fs : List Frame). drop 1 fs) g.is_next))
         (control_step d (modem_past line) (own Responder (captured stamps line)) f g.later (answered_by f (waiting Initiator (captured stamps line))) (many (answer_on d) (frames_sent (modem_past line))) (many (answer_on 0) (frames_sent (modem_past line))) k k0
         (λ apart o. above d (modem_past line) apart o)
-        (λ a o none. sabm_answered s n1 d stamps f line (steady_line_before s n1 (AtModem (station.Sent f)) line h) a o none)
+        (λ a o none. sabm_answered s n1 d stamps f line (steady_line_before s n1 d (AtModem (station.Sent f)) line h) a o none)
         (λ a z n. quiet_handled_m d f (waiting Initiator (captured stamps line)) (own Responder (captured stamps line)) (answered_by f (waiting Initiator (captured stamps line))) refl shape a z n))
 
 -- ## A frame comes to the modem
@@ -191,13 +183,13 @@ uih_no_sabm Ua x y c h = cc
 uih_no_sabm Dm x y c h = cc
 uih_no_sabm Disc x y c h = cc
 
-first_answer : (s : Setting) (n1 d : ℕ) (f : Frame) (line : List LineAct) → IsSteadyLine s n1 (AtModem (station.Got f) ∷ line) → is_on Sabm d f ≡ true → many (answer_on d) (frames_sent (modem_past line)) ≤ 0
+first_answer : (s : Setting) (n1 d : ℕ) (f : Frame) (line : List LineAct) → IsSteadyLine s n1 d (AtModem (station.Got f) ∷ line) → is_on Sabm d f ≡ true → many (answer_on d) (frames_sent (modem_past line)) ≤ 0
 first_answer s n1 d f line h is =
     let now = came_few (is_on Sabm d) (wire (driver_past line)) (modem_past (AtModem (station.Got f) ∷ line)) (both_ways (AtModem (station.Got f) ∷ line) h.lawful.one_line).at_modem in
     let once = h.once d in
     let few = once_many (is_on Sabm d) (frames_sent (wire (driver_past line))) in
     let one : unit (is_on Sabm d f) ≡ 1 = ap unit is in
-    let older = steady_line_before s n1 (AtModem (station.Got f)) line h in
+    let older = steady_line_before s n1 d (AtModem (station.Got f)) line h in
     let ua = ua_behind n1 d (modem_past line) older.lawful.modem_lawful (omega (arith, now, once, few, one)) in
     let discs = disc_none (many (is_on Disc d) (frames_sent (wire (driver_past line)))) (disc_after s n1 d line older) ua in
     let came = came_few (is_on Disc d) (wire (driver_past line)) (modem_past line) (both_ways line older.lawful.one_line).at_modem in
@@ -209,8 +201,8 @@ first_answer s n1 d f line h is =
     disc_none zero k none = omega arith
     disc_none (suc n) k none = let x = k (omega arith) in absurd (omega (arith, x, none))
 
-modem_got : (s : Setting) (n1 : ℕ) (stamps : ℕ → Stamp) (f : Frame) (line : List LineAct) → IsSteadyLine s n1 (AtModem (station.Got f) ∷ line) → (d : ℕ) → FollowsOn n1 stamps line d → FollowsOn n1 stamps (AtModem (station.Got f) ∷ line) d
-modem_got s n1 stamps f line h d before =
+modem_got : (s : Setting) (n1 d : ℕ) (stamps : ℕ → Stamp) (f : Frame) (line : List LineAct) → IsSteadyLine s n1 d (AtModem (station.Got f) ∷ line) → FollowsOn n1 stamps line d → FollowsOn n1 stamps (AtModem (station.Got f) ∷ line) d
+modem_got s n1 d stamps f line h before =
     let past = modem_past line in
     let st = responding n1 in
     let owing = h.prompt.0 in
@@ -234,14 +226,14 @@ modem_got s n1 stamps f line h d before =
     shut_by (is_on Sabm d f) ((d == 0) || z) (open_m d past) (ends z d (station.Got f)) (second (is_kind f.kind Sabm) (f.dlci == d) away)
     (ender_ends z d f (and_from (is_mode_command f) ((f.dlci == d) || (f.dlci == 0)) p.0 (either (f.dlci == d) (f.dlci == 0) p.1))))
     (λ some.
-    let p = down_called (λ e. state_of Responder e past) f (never_stops past (steady_of h)) some in
+    let p = down_called (λ e. state_of Responder e past) f (never_stops past (older_none h)) some in
     let open_zero : z ≡ true = zero_is ∙ p.0 in
     shut_by (is_on Sabm d f) ((d == 0) || z) (open_m d past) (ends z d (station.Got f)) (uih_no_sabm f.kind (f.dlci == d) (f.dlci == 0) (octet_is (λ n. n) cld (message_of f.info)) p.1)
     (ap (λ (b : Bool). b || (not (d == 0) && ends_itself z 0 (station.Got f))) (down_ends (is_on Disc d f) (is_on Dm d f) (is_on Sabm d f) z (brings_command cld f) open_zero p.1)))
     (tail_none d (λ e. state_of Responder e past) f))
   where
-    steady_of : IsSteadyLine s n1 (AtModem (station.Got f) ∷ line) → OpensAndClosesNothing (modem_past line)
-    steady_of k = (steady_line_before s n1 (AtModem (station.Got f)) line k).steady
+    older_none : IsSteadyLine s n1 d (AtModem (station.Got f) ∷ line) → many (brings_command cld) (frames_sent (modem_past line)) ≤ 0
+    older_none k = (steady_line_before s n1 d (AtModem (station.Got f)) line k).down_none
 
     swapped : (d == 0) ≡ false → (0 == d) ≡ false
     swapped e = by_test (0 == d) refl
@@ -289,30 +281,6 @@ call_line s n1 stamps a line d owing before open_before none none_down =
     (call_step d past (a ∷ past) (own Responder (captured stamps line)) (called_frames st past a) (many (answer_on d) (frames_sent past))
     (with_owed d past (own Responder (captured stamps line)) (owed_frames st past) [] (many (answer_on d) (frames_sent past)) owing before) open_before (none d) (none 0) none_down)
 
--- a CLD asks
-cld_asks : (f : Frame) → message_asks (message_in f) ≡ false → brings_command cld f ≡ false
-cld_asks f h = by_on (is_on Uih 0 f) h
-  where
-    off : (x y : Bool) → x ≡ true → y ≡ true → (x && not y) ≡ false
-    off true true e g = refl
-    off true false e g = cc
-    off false y e g = cc
-
-    by_octet : (m : Message) (b : Bool) → (m.octet == cld) ≡ b → (is_command m && not (m.octet == nsc)) ≡ false → b ≡ false
-    by_octet m false e k = refl
-    by_octet m true e k =
-        let same = eqb-true m.octet cld e in
-        let x : (is_command_octet m.octet && not (m.octet == nsc)) ≡ true = ap (λ n. is_command_octet n && not (n == nsc)) same in
-        let y : true ≡ false = sym x ∙ k in cc
-
-    by_message : (o : Option Message) → message_asks o ≡ false → octet_is (λ n. n) cld o ≡ false
-    by_message None k = refl
-    by_message (Some m) k = by_octet m (m.octet == cld) refl k
-
-    by_on : (b : Bool) → message_asks (if b then message_of f.info else None) ≡ false → (b && octet_is (λ n. n) cld (message_of f.info)) ≡ false
-    by_on true k = by_message (message_of f.info) k
-    by_on false k = refl
-
 plain_kinds : (k : Kind) (x : Bool) → (is_kind k Sabm || is_kind k Disc) ≡ false → is_kind k Dm ≡ false → ((is_kind k Disc && x) ≡ false) × (((is_kind k Dm && x) ≡ false) × ((is_kind k Sabm && x) ≡ false))
 plain_kinds Ua x h g = (refl, (refl, refl))
 plain_kinds Uih x h g = (refl, (refl, refl))
@@ -340,46 +308,46 @@ come_open d f q o = by_come (is_ask f || is_kind f.kind Dm) refl
         kept (is_on Sabm d f && ((d == 0) || zero_m d q)) (open_m d q) (ends (zero_m d q) d (station.Got f)) o
         (ends_none (zero_m d q) d f (plain d a.0 p.1) (plain 0 a.0 p.1) (cld_asks f a.1))
 
-pub modem_line : (s : Setting) (n1 : ℕ) (stamps : ℕ → Stamp) (line : List LineAct) → IsSteadyLine s n1 line → (d : ℕ) → FollowsOn n1 stamps line d
-modem_line s n1 stamps [] h d = record { opens = λ o. let x : false ≡ true = o in cc; fresh = λ o some. omega arith; zero = λ some apart. refl; down = λ some. refl; tail = omega arith }
-modem_line s n1 stamps (AtModem (station.Sent f) ∷ line) h d = modem_sent s n1 stamps f line h (λ e. modem_line s n1 stamps line (steady_line_before s n1 (AtModem (station.Sent f)) line h) e) d
-modem_line s n1 stamps (AtModem (station.Got f) ∷ line) h d = modem_got s n1 stamps f line h d (modem_line s n1 stamps line (steady_line_before s n1 (AtModem (station.Got f)) line h) d)
-modem_line s n1 stamps (AtModem (station.Called c) ∷ line) h d =
+pub modem_line : (s : Setting) (n1 d : ℕ) (stamps : ℕ → Stamp) (line : List LineAct) → IsSteadyLine s n1 d line → FollowsOn n1 stamps line d
+modem_line s n1 d stamps [] h = record { opens = λ o. let x : false ≡ true = o in cc; fresh = λ o some. omega arith; zero = λ some apart. refl; down = λ some. refl; tail = omega arith }
+modem_line s n1 d stamps (AtModem (station.Sent f) ∷ line) h = modem_sent s n1 d stamps f line h (modem_line s n1 d stamps line (steady_line_before s n1 d (AtModem (station.Sent f)) line h)) (modem_line s n1 0 stamps line (steady_zero s n1 d line (steady_line_before s n1 d (AtModem (station.Sent f)) line h)))
+modem_line s n1 d stamps (AtModem (station.Got f) ∷ line) h = modem_got s n1 d stamps f line h (modem_line s n1 d stamps line (steady_line_before s n1 d (AtModem (station.Got f)) line h))
+modem_line s n1 d stamps (AtModem (station.Called c) ∷ line) h =
     let past = modem_past line in
     let st = responding n1 in
     let a = station.Called c in
-    call_line s n1 stamps a line d h.prompt.0 (modem_line s n1 stamps line (steady_line_before s n1 (AtModem a) line h) d)
+    call_line s n1 stamps a line d h.prompt.0 (modem_line s n1 d stamps line (steady_line_before s n1 d (AtModem a) line h))
     (λ o. (and_parts (open_m d past) (not (ends (zero_m d past) d a)) o).0)
     (λ e. called (answer_on e) 0 st past a (asked AnyProbe st (answer_on e) (ask_on e) (answer_balanced n1 Responder e) (station_view st past) c (is_none (refused st (station_view st past) c)) refl))
-    (called is_down 0 st past a (asked AnyProbe st is_down every (down_balanced n1) (station_view st past) c (is_none (refused st (station_view st past) c)) refl))
-modem_line s n1 stamps (AtModem station.Tick ∷ line) h d =
+    (called is_down 0 st past a (asked AnyProbe st is_down every (down_balanced n1 Responder) (station_view st past) c (is_none (refused st (station_view st past) c)) refl))
+modem_line s n1 d stamps (AtModem station.Tick ∷ line) h =
     let past = modem_past line in
     let st = responding n1 in
     let v = station_view st past in
-    call_line s n1 stamps station.Tick line d h.prompt.0 (modem_line s n1 stamps line (steady_line_before s n1 (AtModem station.Tick) line h) d)
+    call_line s n1 stamps station.Tick line d h.prompt.0 (modem_line s n1 d stamps line (steady_line_before s n1 d (AtModem station.Tick) line h))
     (λ o. (and_parts (open_m d past) (not (ends (zero_m d past) d station.Tick)) o).0)
     (λ e. called (answer_on e) 0 st past station.Tick (none_of_tick AnyProbe n1 Responder (answer_on e) (ask_on e) (answer_balanced n1 Responder e) n1 v.state v.queued 0 62))
-    (called is_down 0 st past station.Tick (none_of_tick AnyProbe n1 Responder is_down every (down_balanced n1) n1 v.state v.queued 0 62))
-modem_line s n1 stamps (AtModem station.Lost ∷ line) h d = absurd (let x : true ≡ false = h.live in cc)
-modem_line s n1 stamps (AtModem station.Given ∷ line) h d =
+    (called is_down 0 st past station.Tick (none_of_tick AnyProbe n1 Responder is_down every (down_balanced n1 Responder) n1 v.state v.queued 0 62))
+modem_line s n1 d stamps (AtModem station.Lost ∷ line) h = absurd (let x : true ≡ false = h.live in cc)
+modem_line s n1 d stamps (AtModem station.Given ∷ line) h =
     let past = modem_past line in
     let st = responding n1 in
-    let older = steady_line_before s n1 (AtModem station.Given) line h in
+    let older = steady_line_before s n1 d (AtModem station.Given) line h in
     let none : called_frames st past station.Given ≡ [] = ap (λ (b : Bool). if b then [] else frames_seeing st (station_view st past) station.Given) older.live in
     let same : owed_frames st past ++ called_frames st past station.Given ≡ owed_frames st past = ap (λ (fs : List Frame). owed_frames st past ++ fs) none ∙ append-nil (owed_frames st past) in
     with_owed d (station.Given ∷ past) (own Responder (captured stamps line)) (owed_frames st past) (owed_frames st past ++ called_frames st past station.Given) (many (answer_on d) (frames_sent past)) (sym same)
-    (still_step d past (station.Given ∷ past) (own Responder (captured stamps line)) (own Responder (captured stamps line)) (owed_frames st past) (many (answer_on d) (frames_sent past)) (modem_line s n1 stamps line older d)
+    (still_step d past (station.Given ∷ past) (own Responder (captured stamps line)) (own Responder (captured stamps line)) (owed_frames st past) (many (answer_on d) (frames_sent past)) (modem_line s n1 d stamps line older)
     (λ o. (and_parts (open_m d past) (not (ends (zero_m d past) d station.Given)) o).0) (λ o. o))
-modem_line s n1 stamps (AtDriver (driver.Sent f) ∷ line) h d =
+modem_line s n1 d stamps (AtDriver (driver.Sent f) ∷ line) h =
     let past = modem_past line in
     still_step d past past (own Responder (captured stamps line)) (come f (own Responder (captured stamps line))) (owed_frames (responding n1) past) (many (answer_on d) (frames_sent past))
-    (modem_line s n1 stamps line (steady_line_before s n1 (AtDriver (driver.Sent f)) line h) d) (λ o. o) (λ o. come_open d f (own Responder (captured stamps line)) o)
-modem_line s n1 stamps (AtDriver (driver.Took q) ∷ line) h d = modem_line s n1 stamps line (steady_line_before s n1 (AtDriver (driver.Took q)) line h) d
-modem_line s n1 stamps (AtDriver (driver.Got f) ∷ line) h d = modem_line s n1 stamps line (steady_line_before s n1 (AtDriver (driver.Got f)) line h) d
-modem_line s n1 stamps (AtDriver (driver.Told o) ∷ line) h d = modem_line s n1 stamps line (steady_line_before s n1 (AtDriver (driver.Told o)) line h) d
-modem_line s n1 stamps (AtDriver (driver.Heard k e l) ∷ line) h d = modem_line s n1 stamps line (steady_line_before s n1 (AtDriver (driver.Heard k e l)) line h) d
-modem_line s n1 stamps (AtDriver driver.Tick ∷ line) h d = modem_line s n1 stamps line (steady_line_before s n1 (AtDriver driver.Tick) line h) d
-modem_line s n1 stamps (AtDriver driver.Lost ∷ line) h d = modem_line s n1 stamps line (steady_line_before s n1 (AtDriver driver.Lost) line h) d
-modem_line s n1 stamps (AtDriver (driver.Held e) ∷ line) h d = modem_line s n1 stamps line (steady_line_before s n1 (AtDriver (driver.Held e)) line h) d
-modem_line s n1 stamps (AtDriver (driver.Freed e) ∷ line) h d = modem_line s n1 stamps line (steady_line_before s n1 (AtDriver (driver.Freed e)) line h) d
-modem_line s n1 stamps (AtDriver driver.Given ∷ line) h d = modem_line s n1 stamps line (steady_line_before s n1 (AtDriver driver.Given) line h) d
+    (modem_line s n1 d stamps line (steady_line_before s n1 d (AtDriver (driver.Sent f)) line h)) (λ o. o) (λ o. come_open d f (own Responder (captured stamps line)) o)
+modem_line s n1 d stamps (AtDriver (driver.Took q) ∷ line) h = modem_line s n1 d stamps line (steady_line_before s n1 d (AtDriver (driver.Took q)) line h)
+modem_line s n1 d stamps (AtDriver (driver.Got f) ∷ line) h = modem_line s n1 d stamps line (steady_line_before s n1 d (AtDriver (driver.Got f)) line h)
+modem_line s n1 d stamps (AtDriver (driver.Told o) ∷ line) h = modem_line s n1 d stamps line (steady_line_before s n1 d (AtDriver (driver.Told o)) line h)
+modem_line s n1 d stamps (AtDriver (driver.Heard k e l) ∷ line) h = modem_line s n1 d stamps line (steady_line_before s n1 d (AtDriver (driver.Heard k e l)) line h)
+modem_line s n1 d stamps (AtDriver driver.Tick ∷ line) h = modem_line s n1 d stamps line (steady_line_before s n1 d (AtDriver driver.Tick) line h)
+modem_line s n1 d stamps (AtDriver driver.Lost ∷ line) h = modem_line s n1 d stamps line (steady_line_before s n1 d (AtDriver driver.Lost) line h)
+modem_line s n1 d stamps (AtDriver (driver.Held e) ∷ line) h = modem_line s n1 d stamps line (steady_line_before s n1 d (AtDriver (driver.Held e)) line h)
+modem_line s n1 d stamps (AtDriver (driver.Freed e) ∷ line) h = modem_line s n1 d stamps line (steady_line_before s n1 d (AtDriver (driver.Freed e)) line h)
+modem_line s n1 d stamps (AtDriver driver.Given ∷ line) h = modem_line s n1 d stamps line (steady_line_before s n1 d (AtDriver driver.Given) line h)

@@ -11,7 +11,7 @@ use Rattle.mux_capture.specs.Passing.{Caught}
 use Rattle.mux_station.specs.declared.role.Role.TheVariants.{Initiator, Responder}
 use Rattle.mux_station.specs.Acts as station
 use Rattle.mux_station.specs.Messages.{cld, brings_command, brings_response, message_of, octet_is}
-use Rattle.mux_station.specs.Opening.{ends, ends_itself}
+use Rattle.mux_station.specs.Opening.{ends}
 use Rattle.mux_station.specs.Sending.{is_loss}
 use Rattle.mux_station.specs.States.{State, IsShut, IsOpening, IsOpened, IsClosing, IsStopping, at_answered, at_close_down, at_sent, at_tick, is_stopping, own_after, state_of, states}
 use Rattle.mux_station.specs.Written.{is_kind, is_on}
@@ -21,9 +21,9 @@ use Rattle.modem_history.specs.Acts as driver
 use Rattle.modem_history.specs.Acts.{wire}
 use Rattle.modem_history.specs.Calls.{Setting}
 use Rattle.modem_history.specs.TwoEnds.{AsksOnce, frames_sent}
-use Rattle.modem_show.specs.Asking.{asked_with, excused_by, is_mode_command, unanswered_by, waiting}
+use Rattle.modem_show.specs.Asking.{asked_with, excused_by, unanswered_by, waiting}
 use Rattle.show_laws.specs.Lines.{AtDriver, AtModem, IsLawfulLine, LineAct, captured, driver_past, modem_past, responding}
-use Rattle.show_laws.specs.Laws.{IsPrompt, OpensAndClosesNothing, opens_or_closes}
+use Rattle.show_laws.specs.Laws.{IsPrompt}
 use Rattle.show_laws.proofs.asks.AnswerShapes.{or_elim}
 use Rattle.show_laws.proofs.asks.AnswersCalled.{AnyProbe}
 use Rattle.show_laws.proofs.asks.NoneUnasked.{any_probes}
@@ -36,27 +36,30 @@ use Rattle.show_laws.proofs.openings.DiscBehindUa.{disc_behind}
 use Rattle.show_laws.proofs.openings.DriverOpen.{once_before}
 use Rattle.show_laws.proofs.openings.FreshAsks.{Fresh, other_answers, other_asks, sabm_asks}
 use Rattle.show_laws.proofs.openings.ModemFollows.{answer_on, ask_on, open_m, uas_fewer, zero_m}
+use Rattle.show_laws.proofs.openings.QuietFrames.{itself_zero, kept_zero, unended}
 use Rattle.show_laws.proofs.openings.ResponderCalls.{answer_balanced}
 
 -- ## The line
 
--- a lawful line of a modem that is prompt, and opens and closes nothing
-pub record IsSteadyLine (s : Setting) (n1 : ℕ) (line : List LineAct) : Type 0 where
+-- a lawful line of a modem that is prompt, and hasn't asked to open or close this connection or 0
+pub record IsSteadyLine (s : Setting) (n1 d : ℕ) (line : List LineAct) : Type 0 where
   pub lawful : IsLawfulLine s n1 line
   pub once : AsksOnce (wire (driver_past line))
-  pub steady : OpensAndClosesNothing (modem_past line)
   pub prompt : IsPrompt (responding n1) (modem_past line)
   pub live : list_any is_loss (modem_past line) ≡ false
+  pub asks_none : many (ask_on d) (frames_sent (modem_past line)) ≤ 0
+  pub zero_none : many (ask_on 0) (frames_sent (modem_past line)) ≤ 0
+  pub down_none : many (brings_command cld) (frames_sent (modem_past line)) ≤ 0
 
-steady_before : (a : station.Act) (past : List station.Act) → OpensAndClosesNothing (a ∷ past) → OpensAndClosesNothing past
-steady_before (station.Sent f) past h = (or_parts (opens_or_closes f) (list_any opens_or_closes (frames_sent past)) h).1
-steady_before (station.Called c) past h = h
-steady_before (station.Got f) past h = h
-steady_before station.Tick past h = h
-steady_before station.Lost past h = h
-steady_before station.Given past h = h
+few_before : (t : Frame → Bool) (a : station.Act) (past : List station.Act) → many t (frames_sent (a ∷ past)) ≤ 0 → many t (frames_sent past) ≤ 0
+few_before t (station.Sent f) past h = omega (arith, h)
+few_before t (station.Called c) past h = h
+few_before t (station.Got f) past h = h
+few_before t station.Tick past h = h
+few_before t station.Lost past h = h
+few_before t station.Given past h = h
 
-prompt_before : (n1 : ℕ) (a : station.Act) (past : List station.Act) → IsPrompt (responding n1) (a ∷ past) → IsPrompt (responding n1) past
+pub prompt_before : (n1 : ℕ) (a : station.Act) (past : List station.Act) → IsPrompt (responding n1) (a ∷ past) → IsPrompt (responding n1) past
 prompt_before n1 (station.Sent f) past h = h
 prompt_before n1 (station.Given) past h = h
 prompt_before n1 (station.Called c) past h = h.1
@@ -67,24 +70,31 @@ prompt_before n1 station.Lost past h = h.1
 live_before : (a : station.Act) (past : List station.Act) → list_any is_loss (a ∷ past) ≡ false → list_any is_loss past ≡ false
 live_before a past h = (or_parts (is_loss a) (list_any is_loss past) h).1
 
-pub steady_line_before : (s : Setting) (n1 : ℕ) (x : LineAct) (line : List LineAct) → IsSteadyLine s n1 (x ∷ line) → IsSteadyLine s n1 line
-steady_line_before s n1 (AtDriver a) line h = record { lawful = lawful_before s n1 (AtDriver a) line h.lawful; once = once_before a (driver_past line) h.once; steady = h.steady; prompt = h.prompt; live = h.live }
-steady_line_before s n1 (AtModem a) line h = record { lawful = lawful_before s n1 (AtModem a) line h.lawful; once = h.once; steady = steady_before a (modem_past line) h.steady; prompt = prompt_before n1 a (modem_past line) h.prompt; live = live_before a (modem_past line) h.live }
+pub steady_line_before : (s : Setting) (n1 d : ℕ) (x : LineAct) (line : List LineAct) → IsSteadyLine s n1 d (x ∷ line) → IsSteadyLine s n1 d line
+steady_line_before s n1 d (AtDriver a) line h = record {
+  lawful = lawful_before s n1 (AtDriver a) line h.lawful;
+  once = once_before a (driver_past line) h.once;
+  prompt = h.prompt;
+  live = h.live;
+  asks_none = h.asks_none;
+  zero_none = h.zero_none;
+  down_none = h.down_none;
+}
+steady_line_before s n1 d (AtModem a) line h = record {
+  lawful = lawful_before s n1 (AtModem a) line h.lawful;
+  once = h.once;
+  prompt = prompt_before n1 a (modem_past line) h.prompt;
+  live = live_before a (modem_past line) h.live;
+  asks_none = few_before (ask_on d) a (modem_past line) h.asks_none;
+  zero_none = few_before (ask_on 0) a (modem_past line) h.zero_none;
+  down_none = few_before (brings_command cld) a (modem_past line) h.down_none;
+}
+
+-- so it is of 0
+pub steady_zero : (s : Setting) (n1 d : ℕ) (line : List LineAct) → IsSteadyLine s n1 d line → IsSteadyLine s n1 0 line
+steady_zero s n1 d line h = record { lawful = h.lawful; once = h.once; prompt = h.prompt; live = h.live; asks_none = h.zero_none; zero_none = h.zero_none; down_none = h.down_none }
 
 -- ## Counts
-
-none_asks : (d : ℕ) (fs : List Frame) → list_any opens_or_closes fs ≡ false → many (ask_on d) fs ≤ 0
-none_asks d [] h = omega arith
-none_asks d (f ∷ fs) h =
-    let p = or_parts (opens_or_closes f) (list_any opens_or_closes fs) h in
-    let q = or_parts (is_mode_command f) (brings_command cld f) p.0 in
-    let x : unit (ask_on d f) ≡ 0 = ap unit (off (is_mode_command f) (f.dlci == d) q.0) in
-    let y = none_asks d fs p.1 in
-    omega (arith, x, y)
-  where
-    off : (a b : Bool) → a ≡ false → (a && b) ≡ false
-    off true b e = cc
-    off false b e = refl
 
 pub asks_parts : (d : ℕ) (fs : List Frame) → many (ask_on d) fs ≤ many (is_on Sabm d) fs + many (is_on Disc d) fs
 asks_parts d [] = omega arith
@@ -102,15 +112,15 @@ none_one t f n h = by_test (t f) refl
     by_test true e = let x : unit (t f) ≡ 1 = ap unit e in absurd (omega (arith, x, h))
 
 -- the driver answers nothing on d, where the modem asks nothing
-driver_answers_none : (s : Setting) (n1 d : ℕ) (line : List LineAct) → IsSteadyLine s n1 line → many (answer_on d) (frames_sent (wire (driver_past line))) ≤ 0
+driver_answers_none : (s : Setting) (n1 d : ℕ) (line : List LineAct) → IsSteadyLine s n1 d line → many (answer_on d) (frames_sent (wire (driver_past line))) ≤ 0
 driver_answers_none s n1 d line h =
     let sent = driver_sends AnyProbe s (answer_on d) (ask_on d) (answer_balanced s.n1 s.role d) (driver_past line) h.lawful.driver_lawful (any_probes (driver_past line)) in
     let came = came_few (ask_on d) (modem_past line) (wire (driver_past line)) (both_ways line h.lawful.one_line).at_driver in
-    let none = none_asks d (frames_sent (modem_past line)) h.steady in
+    let none = h.asks_none in
     omega (arith, sent, came, none)
 
 -- a DISC was sent behind the modem's UA
-pub disc_after : (s : Setting) (n1 d : ℕ) (line : List LineAct) → IsSteadyLine s n1 line → 1 ≤ many (is_on Disc d) (frames_sent (wire (driver_past line))) → 1 ≤ many (is_on Ua d) (frames_sent (modem_past line))
+pub disc_after : (s : Setting) (n1 d : ℕ) (line : List LineAct) → IsSteadyLine s n1 d line → 1 ≤ many (is_on Disc d) (frames_sent (wire (driver_past line))) → 1 ≤ many (is_on Ua d) (frames_sent (modem_past line))
 disc_after s n1 d line h some =
     let got = disc_behind s d (driver_past line) h.lawful.is_initiator h.lawful.driver_lawful h.once some in
     let came = came_few (is_on Ua d) (modem_past line) (wire (driver_past line)) (both_ways line h.lawful.one_line).at_driver in
@@ -121,7 +131,7 @@ disc_after s n1 d line h some =
 abbrev HasFresh : ℕ → List Caught → Type 0
 HasFresh d line = 1 ≤ many (is_on Sabm d) (frames_of Initiator line) → many (answer_on d) (frames_to Initiator line) ≤ 0 → Fresh d (waiting Initiator line)
 
-driver_fresh : (s : Setting) (n1 d : ℕ) (stamps : ℕ → Stamp) (stamp : Stamp) (f : Frame) (line : List LineAct) → IsSteadyLine s n1 (AtDriver (driver.Sent f) ∷ line) → HasFresh d (captured stamps line)
+driver_fresh : (s : Setting) (n1 d : ℕ) (stamps : ℕ → Stamp) (stamp : Stamp) (f : Frame) (line : List LineAct) → IsSteadyLine s n1 d (AtDriver (driver.Sent f) ∷ line) → HasFresh d (captured stamps line)
     → 1 ≤ unit (is_on Sabm d f) + many (is_on Sabm d) (frames_of Initiator (captured stamps line)) → many (answer_on d) (frames_to Initiator (captured stamps line)) ≤ 0
     → Fresh d (map (excused_by f) (asked_with stamp f ++ waiting Initiator (captured stamps line)))
 driver_fresh s n1 d stamps stamp f line h q some none = by_sabm (is_on Sabm d f) refl
@@ -154,18 +164,18 @@ driver_fresh s n1 d stamps stamp f line h q some none = by_sabm (is_on Sabm d f)
         (record { asks = no_ask (ask_on d f) refl e; answers = none_one (answer_on d) f (many (answer_on d) (frames_sent (wire (driver_past line)))) all })
         (q (omega (arith, some, x)) none)
 
-modem_fresh : (s : Setting) (n1 d : ℕ) (stamps : ℕ → Stamp) (f : Frame) (line : List LineAct) → IsSteadyLine s n1 (AtModem (station.Sent f) ∷ line) → HasFresh d (captured stamps line)
+modem_fresh : (s : Setting) (n1 d : ℕ) (stamps : ℕ → Stamp) (f : Frame) (line : List LineAct) → IsSteadyLine s n1 d (AtModem (station.Sent f) ∷ line) → HasFresh d (captured stamps line)
     → 1 ≤ many (is_on Sabm d) (frames_of Initiator (captured stamps line)) → unit (answer_on d f) + many (answer_on d) (frames_to Initiator (captured stamps line)) ≤ 0
     → Fresh d (map (excused_by f) (unanswered_by f (waiting Initiator (captured stamps line))))
 modem_fresh s n1 d stamps f line h q some none =
-    let asks = none_asks d (f ∷ frames_sent (modem_past line)) h.steady in
+    let asks = h.asks_none in
     other_answers d f (waiting Initiator (captured stamps line))
     (record { asks = none_one (ask_on d) f (many (ask_on d) (frames_sent (modem_past line))) asks; answers = none_one (answer_on d) f (many (answer_on d) (frames_to Initiator (captured stamps line))) none })
     (q some (omega (arith, none)))
 
-pub has_fresh : (s : Setting) (n1 d : ℕ) (stamps : ℕ → Stamp) (line : List LineAct) → IsSteadyLine s n1 line → HasFresh d (captured stamps line)
+pub has_fresh : (s : Setting) (n1 d : ℕ) (stamps : ℕ → Stamp) (line : List LineAct) → IsSteadyLine s n1 d line → HasFresh d (captured stamps line)
 has_fresh s n1 d stamps line h =
-    over (IsSteadyLine s n1) (λ x line k. steady_line_before s n1 x line k) (HasFresh d) stamps (λ some none. absurd (omega (arith, some)))
+    over (IsSteadyLine s n1 d) (λ x line k. steady_line_before s n1 d x line k) (HasFresh d) stamps (λ some none. absurd (omega (arith, some)))
     (λ f line k q some none. driver_fresh s n1 d stamps (stamps (length (captured stamps line))) f line k q some none)
     (λ f line k q some none. modem_fresh s n1 d stamps f line k q some none) line h
 
@@ -236,12 +246,12 @@ tick_going (IsClosing n) h = either (n == 3)
     either false = refl
 tick_going (IsStopping n) h = let x : true ≡ false = h in cc
 
-going : (s : State) (a : station.Act) → (is_stopping s ≡ false) → list_any opens_or_closes (frames_sent (a ∷ [])) ≡ false → is_stopping (own_after Responder 0 true s a) ≡ false
+going : (s : State) (a : station.Act) → (is_stopping s ≡ false) → many (brings_command cld) (frames_sent (a ∷ [])) ≤ 0 → is_stopping (own_after Responder 0 true s a) ≡ false
 going s (station.Called c) h k = h
 going s station.Given h k = h
 going s station.Lost h k = refl
 going s station.Tick h k = tick_going s h
-going s (station.Sent f) h k = by_cld (brings_command cld f) (or_parts (is_mode_command f) (brings_command cld f) (or_parts (opens_or_closes f) false k).0).1
+going s (station.Sent f) h k = by_cld (brings_command cld f) (none_one (brings_command cld) f 0 k)
   where
     by_here : (b : Bool) → is_stopping (if b then at_sent s f.kind else s) ≡ false
     by_here true = sent_going s f.kind h
@@ -256,42 +266,21 @@ going s (station.Got f) h k = by_here (f.dlci == 0)
     by_here true = down_going (brings_command cld f) (brings_response cld f) (at_answered true s f.kind) (got_going s f.kind h)
     by_here false = h
 
-steady_one : (a : station.Act) (past : List station.Act) → OpensAndClosesNothing (a ∷ past) → list_any opens_or_closes (frames_sent (a ∷ [])) ≡ false
-steady_one (station.Sent f) past h = ap (λ (b : Bool). b || false) (or_parts (opens_or_closes f) (list_any opens_or_closes (frames_sent past)) h).0
-steady_one (station.Called c) past h = refl
-steady_one (station.Got f) past h = refl
-steady_one station.Tick past h = refl
-steady_one station.Lost past h = refl
-steady_one station.Given past h = refl
+none_now : (a : station.Act) (past : List station.Act) → many (brings_command cld) (frames_sent (a ∷ past)) ≤ 0 → many (brings_command cld) (frames_sent (a ∷ [])) ≤ 0
+none_now (station.Sent f) past h = omega (arith, h)
+none_now (station.Called c) past h = omega arith
+none_now (station.Got f) past h = omega arith
+none_now station.Tick past h = omega arith
+none_now station.Lost past h = omega arith
+none_now station.Given past h = omega arith
 
-pub never_stops : (past : List station.Act) → OpensAndClosesNothing past → is_stopping (state_of Responder 0 past) ≡ false
+pub never_stops : (past : List station.Act) → many (brings_command cld) (frames_sent past) ≤ 0 → is_stopping (state_of Responder 0 past) ≡ false
 never_stops [] h = refl
 never_stops (a ∷ past) h =
-    let before : is_stopping (states Responder 0 past).zero ≡ false = ap is_stopping (sym (zero_own Responder past)) ∙ never_stops past (steady_before a past h) in
-    going (states Responder 0 past).zero a before (steady_one a past h)
+    let before : is_stopping (states Responder 0 past).zero ≡ false = ap is_stopping (sym (zero_own Responder past)) ∙ never_stops past (few_before (brings_command cld) a past h) in
+    going (states Responder 0 past).zero a before (none_now a past h)
 
 -- ## Below 0
-
-itself_zero : (z : Bool) (a : station.Act) (d : ℕ) → (d == 0) ≡ false → ends z d a ≡ false → ends z 0 a ≡ false
-itself_zero z a d apart h =
-    let p = or_parts (ends_itself z d a) (not (d == 0) && ends_itself z 0 a) h in
-    let q : ends_itself z 0 a ≡ false = sym (ap (λ (b : Bool). not b && ends_itself z 0 a) apart) ∙ p.1 in
-    last (ends_itself z 0 a) q
-  where
-    last : (x : Bool) → x ≡ false → (x || false) ≡ false
-    last true e = cc
-    last false e = refl
-
-unended : (o e : Bool) → (o && not e) ≡ true → (o ≡ true) × (e ≡ false)
-unended true false h = (refl, refl)
-unended true true h = cc
-unended false e h = cc
-
-kept_zero : (x z e : Bool) → z ≡ true → e ≡ false → (x || (z && not e)) ≡ true
-kept_zero true z e h k = refl
-kept_zero false true false h k = refl
-kept_zero false true true h k = cc
-kept_zero false false e h k = cc
 
 sabm_elsewhere : (z : Bool) (d : ℕ) (f : Frame) → is_on Sabm d f ≡ true → (d == 0) ≡ false → ends z 0 (station.Got f) ≡ false
 sabm_elsewhere z d f is apart =

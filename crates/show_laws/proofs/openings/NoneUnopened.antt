@@ -20,7 +20,7 @@ use Rattle.show_laws.specs.Laws.{SendsWhileOpen}
 use Rattle.show_laws.proofs.lines.EveryFrame.{every_in}
 use Rattle.show_laws.proofs.openings.DriverOpen.{IsOnceLine, follows, once_line_before, seen_by}
 
-data_gated : (s : Setting) (past : List Act) (f : Frame) → Lawful s (Sent f ∷ past) → is_data_frame f ≡ true → Gated s past (owed s past) f
+pub data_gated : (s : Setting) (past : List Act) (f : Frame) → Lawful s (Sent f ∷ past) → is_data_frame f ≡ true → Gated s past (owed s past) f
 unfolding Lawful
 data_gated s past f l is = subst (λ (b : Bool). When b (Gated s past (owed s past) f)) is l.0.gated
 
@@ -38,7 +38,7 @@ driver_open s n1 stamps f line h =
 
 pub sends_while_open : (s : Setting) (n1 : ℕ) (line : List LineAct) → SendsWhileOpen s n1 line
 unfolding SendsWhileOpen
-sends_while_open s n1 line h once stays stamps most =
+sends_while_open s n1 line h once stamps most =
     every_in (IsOnceLine s n1) (λ x line k. once_line_before s n1 x line k) Unopened most stamps
     (λ f line k. driver_open s n1 stamps f line k)
-    line (record { lawful = h; once = once; stays = stays })
+    line (record { lawful = h; once = once })

@@ -1,5 +1,5 @@
 -- Frames that change nothing of a connection of the initiator, and frames that end it.
-use Rattle.std.specs.Prelude.{◌≡◌, ℕ, ◌==◌, ◌&&◌, ◌||◌, not, Bool, true, false, List, ◌∷◌, refl}
+use Rattle.std.specs.Prelude.{◌≡◌, ℕ, ◌==◌, ◌&&◌, ◌||◌, not, Bool, true, false, List, ◌∷◌, Option, Some, None, refl, if◌then◌else◌}
 use Rattle.std.proofs.Common.{ap, sym, ◌∙◌, eqb-true}
 use Rattle.std.proofs.lemmas.Bool.{and_parts, or_parts}
 use Rattle.mux_frame.specs.Frames.{Frame}
@@ -7,10 +7,11 @@ use Rattle.mux_frame.specs.declared.frame.Kind.{Kind}
 use Rattle.mux_frame.specs.declared.frame.Kind.TheVariants.{Sabm, Ua, Dm, Disc, Uih}
 use Rattle.mux_station.specs.declared.role.Role.TheVariants.{Initiator}
 use Rattle.mux_station.specs.Acts.{Act, Got}
-use Rattle.mux_station.specs.Messages.{cld, brings_command}
+use Rattle.mux_station.specs.Messages.{Message, cld, nsc, brings_command, is_command, message_in, message_of, octet_is}
 use Rattle.mux_station.specs.Opening.{ends, ends_itself, is_mode_frame_on, is_open, standings}
 use Rattle.mux_station.specs.Written.{is_kind, is_on}
-use Rattle.modem_show.specs.Asking.{is_mode_command}
+use Rattle.modem_show.specs.Asking.{is_mode_command, message_asks}
+use Rattle.show_laws.proofs.counts.BalancedTables.{is_command_octet}
 
 -- whether d is open at an initiator of this past, is asked for, and 0 is open
 abbrev pub open_at : ℕ → List Act → Bool
@@ -143,3 +144,52 @@ ender_shuts d f past h =
     unasked true true true h = refl
     unasked true false true h = refl
     unasked false m true h = refl
+
+-- ## Below 0
+
+pub itself_zero : (z : Bool) (a : Act) (d : ℕ) → (d == 0) ≡ false → ends z d a ≡ false → ends z 0 a ≡ false
+itself_zero z a d apart h =
+    let p = or_parts (ends_itself z d a) (not (d == 0) && ends_itself z 0 a) h in
+    let q : ends_itself z 0 a ≡ false = sym (ap (λ (b : Bool). not b && ends_itself z 0 a) apart) ∙ p.1 in
+    last (ends_itself z 0 a) q
+  where
+    last : (x : Bool) → x ≡ false → (x || false) ≡ false
+    last true e = cc
+    last false e = refl
+
+pub unended : (o e : Bool) → (o && not e) ≡ true → (o ≡ true) × (e ≡ false)
+unended true false h = (refl, refl)
+unended true true h = cc
+unended false e h = cc
+
+pub kept_zero : (x z e : Bool) → z ≡ true → e ≡ false → (x || (z && not e)) ≡ true
+kept_zero true z e h k = refl
+kept_zero false true false h k = refl
+kept_zero false true true h k = cc
+kept_zero false false e h k = cc
+
+-- ## Control messages
+
+-- a CLD asks
+pub cld_asks : (f : Frame) → message_asks (message_in f) ≡ false → brings_command cld f ≡ false
+cld_asks f h = by_on (is_on Uih 0 f) h
+  where
+    off : (x y : Bool) → x ≡ true → y ≡ true → (x && not y) ≡ false
+    off true true e g = refl
+    off true false e g = cc
+    off false y e g = cc
+
+    by_octet : (m : Message) (b : Bool) → (m.octet == cld) ≡ b → (is_command m && not (m.octet == nsc)) ≡ false → b ≡ false
+    by_octet m false e k = refl
+    by_octet m true e k =
+        let same = eqb-true m.octet cld e in
+        let x : (is_command_octet m.octet && not (m.octet == nsc)) ≡ true = ap (λ n. is_command_octet n && not (n == nsc)) same in
+        let y : true ≡ false = sym x ∙ k in cc
+
+    by_message : (o : Option Message) → message_asks o ≡ false → octet_is (λ n. n) cld o ≡ false
+    by_message None k = refl
+    by_message (Some m) k = by_octet m (m.octet == cld) refl k
+
+    by_on : (b : Bool) → message_asks (if b then message_of f.info else None) ≡ false → (b && octet_is (λ n. n) cld (message_of f.info)) ≡ false
+    by_on true k = by_message (message_of f.info) k
+    by_on false k = refl

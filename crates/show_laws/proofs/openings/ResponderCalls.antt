@@ -6,11 +6,11 @@ use Rattle.mux_frame.specs.Frames.{Frame}
 use Rattle.mux_frame.specs.declared.frame.Kind.{Kind}
 use Rattle.mux_frame.specs.declared.frame.Kind.TheVariants.{Sabm, Ua, Dm, Disc, Uih}
 use Rattle.mux_station.specs.declared.role.Role.{Role}
-use Rattle.mux_station.specs.declared.role.Role.TheVariants.{Responder}
+use Rattle.mux_station.specs.declared.role.Role.TheVariants.{Initiator, Responder}
 use Rattle.mux_station.specs.Written.{is_data_frame, is_kind, is_on}
 use Rattle.mux_station.specs.Messages.{Message, cld, msc, nsc, test, brings_command, brings_response, command_of, is_command, message_in, message_of, octet_is, response_of}
 use Rattle.mux_station.specs.States.{State, IsShut, IsOpening, IsOpened, IsClosing, IsStopping, is_opened, is_stopping}
-use Rattle.mux_station.specs.Tables.{by_frame, by_message, by_table, is_supported, message_frame, msc_after_opening, msc_frame, ready, response_to, ua_or_dm}
+use Rattle.mux_station.specs.Tables.{by_frame, by_message, by_table, is_opening, is_supported, message_frame, msc_after_opening, msc_frame, ready, response_to, ua_or_dm}
 use Rattle.modem_show.specs.Asking.{answers, both_respond, is_mode_answer, is_mode_command, message_asks, responds}
 use Rattle.show_laws.proofs.asks.AnswerShapes.{is_shaped, message_no_mode, one_response, or_elim, response_octet, shaped_message, supported_by}
 use Rattle.show_laws.proofs.asks.AnswersCalled.{AnyProbe, IsRead, as_it_is, is_read, unread}
@@ -161,12 +161,17 @@ mode_not_down r e false = omega arith
 status_not_down : (r : Role) (e : ℕ) → many is_down (msc_after_opening r e) ≤ 0
 status_not_down r e = few_if is_down 0 (e == 0) [] (msc_frame r e ready ∷ []) (omega arith) (none_one is_down (msc_frame r e ready) (message_not_down r msc ((4 * e + 3) ∷ ready ∷ []) refl))
 
-table_not_down : (e : ℕ) (channel own : State) (k : Kind) → many is_down (by_table Responder e channel own k) ≤ 0
-table_not_down e channel own Ua = omega arith
-table_not_down e channel own Dm = omega arith
-table_not_down e channel own Uih = omega arith
-table_not_down e channel own Disc = mode_not_down Responder e (is_opened own)
-table_not_down e channel own Sabm =
+pub table_not_down : (r : Role) (e : ℕ) (channel own : State) (k : Kind) → many is_down (by_table r e channel own k) ≤ 0
+table_not_down Initiator e channel own Ua = few_if is_down 0 (is_opening own) (msc_after_opening Initiator e) [] (status_not_down Initiator e) (omega arith)
+table_not_down Initiator e channel own Dm = omega arith
+table_not_down Initiator e channel own Uih = omega arith
+table_not_down Initiator e channel own Disc = mode_not_down Initiator e (is_opened own)
+table_not_down Initiator e channel own Sabm = mode_not_down Initiator e false
+table_not_down Responder e channel own Ua = omega arith
+table_not_down Responder e channel own Dm = omega arith
+table_not_down Responder e channel own Uih = omega arith
+table_not_down Responder e channel own Disc = mode_not_down Responder e (is_opened own)
+table_not_down Responder e channel own Sabm =
     few_if is_down 0 ((e == 0) || is_opened channel) (ua_or_dm Responder e true ∷ msc_after_opening Responder e) (ua_or_dm Responder e false ∷ [])
     (let a = mode_not_down Responder e true in let c = status_not_down Responder e in omega (arith, a, c)) (mode_not_down Responder e false)
 
@@ -179,7 +184,41 @@ down_called state f t h = by_on (is_on Uih 0 f) refl h
         let p = message_down Responder (state 0) f t h in
         let same : octet_is (λ n. n) cld (message_of f.info) ≡ true = sym (ap (λ (b : Bool). octet_is (λ n. n) cld (if b then message_of f.info else None)) e) ∙ p.1 in
         (p.0, and_from (is_on Uih 0 f) (octet_is (λ n. n) cld (message_of f.info)) e same)
-    by_on false e h = let none = table_not_down f.dlci (state 0) (state f.dlci) f.kind in absurd (omega (arith, h, none))
+    by_on false e h = let none = table_not_down Responder f.dlci (state 0) (state f.dlci) f.kind in absurd (omega (arith, h, none))
+
+closing_response : (r : Role) (f : Frame) (b : Bool) → brings_command cld f ≡ b → 1 ≤ many is_down (if b then response_to r (message_in f) else []) → b ≡ true
+closing_response r f true e h = refl
+closing_response r f false e h = absurd (omega (arith, h))
+
+-- what calls for it is a CLD, while 0 is Opened or Stopping
+pub data IsDown (s : State) (f : Frame) : Type 0 where
+  while_opened : is_opened s ≡ true → octet_is (λ n. n) cld (message_in f) ≡ true → IsDown s f
+  while_stopping : is_stopping s ≡ true → brings_command cld f ≡ true → IsDown s f
+
+down_by : (r : Role) (s : State) (f : Frame) → 1 ≤ many is_down (by_message r s f) → IsDown s f
+down_by r IsOpened f h = while_opened refl (response_down r (message_in f) h)
+down_by r (IsStopping n) f h = while_stopping refl (closing_response r f (brings_command cld f) refl h)
+down_by r IsShut f h = absurd (omega (arith, h))
+down_by r (IsOpening n) f h = absurd (omega (arith, h))
+down_by r (IsClosing n) f h = absurd (omega (arith, h))
+
+pub any_down_called : (r : Role) (state : ℕ → State) (f : Frame) → 1 ≤ many is_down (by_frame r state f) → ((is_opened (state 0) || is_stopping (state 0)) ≡ true) × (brings_command cld f ≡ true)
+any_down_called r state f h = by_on (is_on Uih 0 f) refl h
+  where
+    read : is_on Uih 0 f ≡ true → octet_is (λ n. n) cld (message_in f) ≡ true → brings_command cld f ≡ true
+    read e p = and_from (is_on Uih 0 f) (octet_is (λ n. n) cld (message_of f.info)) e (sym (ap (λ (b : Bool). octet_is (λ n. n) cld (if b then message_of f.info else None)) e) ∙ p)
+
+    right : (a b : Bool) → b ≡ true → (a || b) ≡ true
+    right true b e = refl
+    right false b e = e
+
+    by_state : is_on Uih 0 f ≡ true → IsDown (state 0) f → ((is_opened (state 0) || is_stopping (state 0)) ≡ true) × (brings_command cld f ≡ true)
+    by_state e (while_opened o m) = (ap (λ (b : Bool). b || is_stopping (state 0)) o, read e m)
+    by_state e (while_stopping o m) = (right (is_opened (state 0)) (is_stopping (state 0)) o, m)
+
+    by_on : (b : Bool) → is_on Uih 0 f ≡ b → 1 ≤ many is_down (if b then by_message r (state 0) f else by_table r f.dlci (state 0) (state f.dlci) f.kind) → ((is_opened (state 0) || is_stopping (state 0)) ≡ true) × (brings_command cld f ≡ true)
+    by_on true e h = by_state e (down_by r (state 0) f h)
+    by_on false e h = let none = table_not_down r f.dlci (state 0) (state f.dlci) f.kind in absurd (omega (arith, h, none))
 
 -- a CLD is answered by its response
 pub cld_answer : (f g : Frame) → brings_command cld f ≡ true → is_shaped g ≡ true → answers f g ≡ true → is_down g ≡ true
@@ -210,6 +249,14 @@ cld_answer f g c shape h =
         absurd (let z : true ≡ false = sym y.0 ∙ (message_no_mode f m e).0 in cc))
         (λ x. by_answer m e k (message_in g) refl (sym (ap (λ (o : Option Message). both_respond o (message_in g)) e) ∙ x))
 
+-- what another answer answers is no CLD
+pub not_cld : (f g : Frame) → is_shaped g ≡ true → answers f g ≡ true → is_down g ≡ false → brings_command cld f ≡ false
+not_cld f g s a d = by_cld (brings_command cld f) refl
+  where
+    by_cld : (b : Bool) → brings_command cld f ≡ b → b ≡ false
+    by_cld false e = refl
+    by_cld true e = let x : true ≡ false = sym (cld_answer f g e s a) ∙ d in cc
+
 -- ## The response to a CLD, by counts
 
 abbrev pub every : Frame → Bool
@@ -229,7 +276,7 @@ down_responses r (Some m) =
     (at_most_one (message_frame r (response_of m.octet) m.value))
     (few_if is_down 1 (is_command m && not (m.octet == nsc)) (message_frame r (response_of nsc) (m.octet ∷ []) ∷ []) [] (at_most_one (message_frame r (response_of nsc) (m.octet ∷ []))) (omega arith))
 
-down_frames : (r : Role) (s : State) (f : Frame) → many is_down (by_message r s f) ≤ 1
+pub down_frames : (r : Role) (s : State) (f : Frame) → many is_down (by_message r s f) ≤ 1
 down_frames r IsOpened f = down_responses r (message_in f)
 down_frames r (IsStopping n) f = few_if is_down 1 (brings_command cld f) (response_to r (message_in f)) [] (down_responses r (message_in f)) (omega arith)
 down_frames r IsShut f = omega arith
@@ -244,16 +291,16 @@ data_bare f h = off (is_kind f.kind Uih) (f.dlci == 0) (octet_is command_of cld 
     off true false c h = refl
     off false z c h = refl
 
-pub down_balanced : (most : ℕ) → Balanced AnyProbe most Responder is_down every
-down_balanced most = record {
+pub down_balanced : (most : ℕ) (r : Role) → Balanced AnyProbe most r is_down every
+down_balanced most r = record {
   frame = λ state f.
-      few_if is_down 1 (is_on Uih 0 f) (by_message Responder (state 0) f) (by_table Responder f.dlci (state 0) (state f.dlci) f.kind) (down_frames Responder (state 0) f)
-      (let x = table_not_down f.dlci (state 0) (state f.dlci) f.kind in omega (arith, x));
+      few_if is_down 1 (is_on Uih 0 f) (by_message r (state 0) f) (by_table r f.dlci (state 0) (state f.dlci) f.kind) (down_frames r (state 0) f)
+      (let x = table_not_down r f.dlci (state 0) (state f.dlci) f.kind in omega (arith, x));
   plain = λ f is few. data_bare f is;
   sabm = λ d. refl;
   disc = λ d. refl;
-  command = λ octet value is few. message_not_down Responder octet value (no_response octet is);
-  probe = λ octets e. message_not_down Responder test octets refl;
+  command = λ octet value is few. message_not_down r octet value (no_response octet is);
+  probe = λ octets e. message_not_down r test octets refl;
   short = λ octets e. tt;
 }
   where

@@ -33,12 +33,12 @@ still_shut true i e g h = cc
 still_shut false true e g h = cc
 still_shut false false e g h = refl
 
-not_opening : (d : ℕ) (past : List Act) (a : Act) → is_got a ≡ false → is_open Responder d past ≡ false → is_open Responder d (a ∷ past) ≡ false
+pub not_opening : (d : ℕ) (past : List Act) (a : Act) → is_got a ≡ false → is_open Responder d past ≡ false → is_open Responder d (a ∷ past) ≡ false
 not_opening d past a other was =
     let s = standings Responder d past in
     still_shut (opens_now Responder d past a) (is_open Responder d past) (ends s.zero.is_open d a) (opens_none Responder s.zero.is_open s.own.is_asked d a other) was
 
-none_of : (t : Frame → Bool) (f : Frame) (n : ℕ) → unit (t f) + n ≤ 0 → t f ≡ false
+pub none_of : (t : Frame → Bool) (f : Frame) (n : ℕ) → unit (t f) + n ≤ 0 → t f ≡ false
 none_of t f n h = by_test (t f) refl
   where
     by_test : (b : Bool) → t f ≡ b → b ≡ false

@@ -114,16 +114,12 @@ meets_all = record {
       record {
         lawful = record { is_initiator = refl; driver_lawful = (good (replaying 31) command_acts refl refl refl).lawful; modem_lawful = command_station; one_line = command_line };
         once = command_once;
-        steady = refl;
+        opens_none = refl;
         prompt = (refl, (refl, (refl, (refl, (refl, (refl, (refl, tt)))))));
-        live = refl;
-        driver_stops = refl;
-        modem_stops = refl;
         commands = (λ d e. cc, (λ d e. refl, (λ d e. cc, (λ d e. cc, tt))));
         offers = (refl, tt);
         probes = refl;
       };
-  stays = refl;
   done =
       record {
         driver_live = refl;

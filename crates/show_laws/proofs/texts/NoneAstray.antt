@@ -36,7 +36,7 @@ record IsTextLine (s : Setting) (n1 : ℕ) (line : List LineAct) : Type 0 where
   commands : TakesCommandLines (driver_past line)
   offers : OffersText (modem_past line)
 
-commands_before : (a : driver.Act) (past : List driver.Act) → TakesCommandLines (a ∷ past) → TakesCommandLines past
+pub commands_before : (a : driver.Act) (past : List driver.Act) → TakesCommandLines (a ∷ past) → TakesCommandLines past
 commands_before (driver.Took q) past h = h.1
 commands_before (driver.Got f) past h = h
 commands_before (driver.Sent f) past h = h

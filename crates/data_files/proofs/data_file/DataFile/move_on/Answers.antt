@@ -1,6 +1,7 @@
 use Rattle.std.proofs.Common.{ap}
 use Rattle.data_files.specs.Files.{FileState}
-use Rattle.data_files.proofs.FileSteps.{moves_file, moves_then, turn_came}
+use Rattle.data_files.proofs.FileSteps.{moves_file, moves_then}
+use Rattle.data_files.proofs.Growing.{had_turn}
 use Rattle.data_files.proofs.data_file.DataFile.move_on.Goals as goal
 
 pub returns-clause-moves : goal.returns-clause-moves
@@ -10,6 +11,21 @@ returns-clause-moves g c =
     moves_then g.L.SerialLine.received g.L.SerialLine.sent g.P.SerialLine.received g.P.SerialLine.sent _ _ _ _ _ _ read (moves_then g.L.SerialLine.received g.L.SerialLine.sent g.P.SerialLine.received g.P.SerialLine.sent _ _ _ _ _ _ c.give-gave.ensures.moves (moves_then g.L.SerialLine.received g.L.SerialLine.sent g.P.SerialLine.received g.P.SerialLine.sent _ _ _ _ _ _ c.take-took.ensures.moves wrote))
 
 pub returns-clause-turn : goal.returns-clause-turn
-returns-clause-turn g c = turn_came g.P.SerialLine.received g.P.SerialLine.sent g.P.SerialLine.empty_reads g.P.SerialLine.stalled_writes c.args.self.now c.read_file.new.self c.give-gave.new.self c.take-took.new.self c.write_file-wrote.new.self
-    c.read_file.ensures.asked c.read_file.ensures.same c.read_file.ensures.none_went c.give-gave.ensures.same c.take-took.ensures.same c.take-took.ensures.still
-    c.write_file-wrote.ensures.offered c.write_file-wrote.ensures.none_came c.write_file-wrote.ensures.same
+returns-clause-turn g c = had_turn g.L.SerialLine.received g.L.SerialLine.sent g.P.SerialLine.received g.P.SerialLine.sent g.P.SerialLine.empty_reads g.P.SerialLine.stalled_writes c.args.line.now c.give-gave.new.line
+    c.args.self.now c.read_file.new.self c.give-gave.new.self c.take-took.new.self c.write_file-wrote.new.self
+    (record {
+      asks = c.read_file.ensures.asked;
+      still = c.read_file.ensures.still;
+      a_is = c.read_file.ensures.same;
+      a_grows = c.read_file.ensures.grows;
+      gives = c.give-gave.ensures.gives;
+      keeps = c.give-gave.ensures.unread;
+      b_is = c.give-gave.ensures.same;
+      fewer = c.give-gave.ensures.fewer;
+      reads = c.take-took.ensures.reads;
+      kept = c.take-took.ensures.still;
+      c_is = c.take-took.ensures.same;
+      more = c.take-took.ensures.more;
+      offers = c.write_file-wrote.ensures.offered;
+      h_grows = c.write_file-wrote.ensures.grows;
+    })

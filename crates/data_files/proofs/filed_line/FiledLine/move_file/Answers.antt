@@ -1,9 +1,11 @@
 use Rattle.std.specs.Prelude.{◌<◌, length, refl}
 use Rattle.std.proofs.Common.{sym, subst, ◌∙◌}
 use Rattle.std.proofs.lemmas.List.{get_or_default}
-use Rattle.data_files.specs.Files.{FileState, FiledState}
-use Rattle.data_files.specs.Moves.{FileMoves, TurnCame}
+use Rattle.modem_data.specs.PipeSets.{NoneOf}
+use Rattle.data_files.specs.Files.{FileState, FiledState, dlcis}
+use Rattle.data_files.specs.Moves.{FileMoves, HadTurn}
 use Rattle.data_files.proofs.Lifts.{moves_at}
+use Rattle.data_files.proofs.Turns.{not_none}
 use Rattle.data_files.proofs.filed_line.FiledLine.move_file.Goals as goal
 
 pub invariant_of-self : goal.invariant_of-self
@@ -20,6 +22,11 @@ returns-clause-moves g c =
     rw (← c.self.view_is) (record {
       file = c.move_on.new.self;
       moves = subst (λ (f : FileState _). FileMoves g.L.SerialLine.received g.L.SerialLine.sent g.P.SerialLine.received g.P.SerialLine.sent c.self.inside.line c.move_on.new.line f c.move_on.new.self) here c.move_on.ensures.moves;
-      turn = subst (λ (f : FileState _). TurnCame g.P.SerialLine.received g.P.SerialLine.sent g.P.SerialLine.empty_reads g.P.SerialLine.stalled_writes f c.move_on.new.self) here c.move_on.ensures.turn;
+      turn = subst
+          (λ (f : FileState _). HadTurn g.L.SerialLine.received g.L.SerialLine.sent g.P.SerialLine.received g.P.SerialLine.sent g.P.SerialLine.empty_reads g.P.SerialLine.stalled_writes c.self.inside.n1 (dlcis c.self.inside.files.items) c.self.inside.before c.self.inside.line f c.move_on.new.self)
+          here
+          (c.move_on.ensures.turn c.self.inside.n1 (dlcis c.self.inside.files.items) c.self.inside.before
+          (λ none. not_none c.self.inside.files.items c.args.place c.move_on.new.self there
+          (subst (λ (f : FileState _). NoneOf (dlcis c.self.inside.files.items) f.dlci) here none)));
       files_are = refl;
     })

@@ -1,11 +1,6 @@
-use Rattle.std.specs.Prelude.{Result, Ok, Err, OnOk}
 use Rattle.std.proofs.Common.{sym}
-use Rattle.mux_capture.proofs.Passing.{captures_from_modem, captures_to_modem}
+use Rattle.mux_capture.proofs.Passing.{captures_from_modem, captures_to_modem, weaker}
 use Rattle.mux_capture.proofs.capture.Capture.write.Goals as goal
-
-weaker : {A E P Q : Type 0} (r : Result A E) → (P → Q) → OnOk r P → OnOk r Q
-weaker (Ok x) f holds = f holds
-weaker (Err e) f holds = tt
 
 pub returns-in-ToModem-clause-wrote : goal.returns-in-ToModem-clause-wrote
 returns-in-ToModem-clause-wrote g c =

@@ -1,0 +1,2 @@
+-- A driver and a simulated modem.
+pub mod SimulatedLines
