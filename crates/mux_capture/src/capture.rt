@@ -102,7 +102,12 @@ fn put_rests<C: Write>(
 {
     let mut packets = Vec::new(alloc);
     push_all_damage(stamp, Direction::ToModem, to_modem.as_slice(), &mut packets)?;
-    push_all_damage(stamp, Direction::FromModem, from_modem.as_slice(), &mut packets)?;
+    push_all_damage(
+        stamp,
+        Direction::FromModem,
+        from_modem.as_slice(),
+        &mut packets,
+    )?;
     to_modem.clear();
     from_modem.clear();
     put(output, packets.as_slice())
