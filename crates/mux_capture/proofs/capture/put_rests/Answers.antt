@@ -1,4 +1,4 @@
-use Rattle.std.specs.Prelude.{Result, Ok, Err, OnOk, List, ℕ}
+use Rattle.std.specs.Prelude.{List, ℕ}
 use Rattle.std.proofs.Common.{subst}
 use Rattle.std.specs.Io.KnownBytes.{Appends}
 use Rattle.mux_capture.specs.declared.packet.Direction.TheVariants.{ToModem, FromModem}
