@@ -6,4 +6,5 @@ pub mod connections
 pub mod outcomes
 pub mod requests
 pub mod lines
+pub mod rules
 pub mod rows

@@ -12,3 +12,4 @@ pub mod FaultRowFacts
 pub mod BacklogRowFacts
 pub mod BadExchangeFacts
 pub mod EveryTurnRowFacts
+pub mod RuleRowFacts

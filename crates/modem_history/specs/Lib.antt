@@ -33,4 +33,7 @@ pub mod EntryRows
 pub mod FinishRows
 pub mod FaultRows
 pub mod SessionLaws
+pub mod Rules
+pub mod RuleLaws
+pub mod RuleRows
 pub mod TwoEnds

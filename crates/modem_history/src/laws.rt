@@ -20,6 +20,8 @@ ghost use Rattle.modem_history.specs.EntryRows.{IsRightEntry, IsWrongEntry, righ
 ghost use Rattle.modem_history.specs.FinishRows.{IsRightEnd, IsWrongEnd, right_ends, wrong_ends};
 ghost use Rattle.modem_history.specs.GoodSessions.{right_sessions};
 ghost use Rattle.modem_history.specs.BadSessions.{told_and_kept, wrong_sessions};
+ghost use Rattle.modem_history.specs.RuleLaws.{LawfulIsMade, MadeKeepsLaws};
+ghost use Rattle.modem_history.specs.RuleRows.{IsMade, IsUnmade, unmade_rows};
 ghost use Rattle.modem_history.specs.Rows.{AllAre, IsGood, IsIncomplete, IsRefused, IsUnquiet};
 ghost use Rattle.modem_history.specs.ConnectionRows.{CommandsAmongLines, InformationByOpenings, LinesInOrder, PlacedAgain, PlacedByOpenings};
 ghost use Rattle.modem_history.specs.Connections.{HasAllLines, NeedsNoCalls, PlacesAll, PlacesEach};
@@ -44,6 +46,15 @@ pub fn histories()
     ensures answers { (s : Setting) (past : List Act) → Lawful s past → AnswersOnce past }
     ensures tells { (s : Setting) (past : List Act) → Lawful s past → TellsAnswers s past }
     ensures call { (s : Setting) (past : List Act) (a : Act) → CallGoesOn s past a }
+{}
+
+/// A history of whole calls comes about by three rules: nothing; a call, with all that it calls for; what goes out next.
+/// What the rules make is lawful and complete, each of its calls is complete, no request is taken where 128 are in hand,
+/// and each data frame is sent in turn. What is so the rules make.
+#[tactic(auto, using(crate::proofs::rules::MadeLaws::made_keeps_laws, crate::proofs::rules::LawfulHistories::lawful_is_made))]
+pub fn three_rules()
+    ensures keeps { (s : Setting) (past : List Act) → MadeKeepsLaws s past }
+    ensures made { (s : Setting) (past : List Act) → LawfulIsMade s past }
 {}
 
 /// Where an initiator's calls are complete and no caller uses a number twice, its commands are in step: of those
@@ -107,6 +118,16 @@ pub fn worked_examples()
     ensures incomplete { AllAre IsIncomplete incomplete_rows }
     ensures unquiet { AllAre IsUnquiet unquiet_rows }
     ensures own { NotItsOwn }
+{}
+
+/// The rules make the worked histories of a right driver. They make none of those of a wrong one or that lack something,
+/// and none in which a call is broken into, data is sent out of turn or short, or a request is taken past the bound.
+#[tactic(auto, using(crate::proofs::rows::RuleRowFacts::all_made, crate::proofs::rows::RuleRowFacts::none_refused, crate::proofs::rows::RuleRowFacts::none_incomplete, crate::proofs::rows::RuleRowFacts::all_unmade))]
+pub fn worked_rules()
+    ensures made { AllAre IsMade good_rows }
+    ensures refused { AllAre IsUnmade refused_rows }
+    ensures incomplete { AllAre IsUnmade incomplete_rows }
+    ensures unmade { AllAre IsUnmade unmade_rows }
 {}
 
 /// Worked examples of lines and commands on two connections, and of what is heard over two openings, computed by the

@@ -22,7 +22,7 @@ prefix_by text out h =
     let e : out ≡ take (length out) text = (bytes_eq-Decides out (take (length out) text)).0 h in
     record { rest = drop (length out) text; joins = ap (λ (v : List ℕ). v ++ drop (length out) text) e ∙ take-append-drop (length out) text }
 
-more_text : (before more : List Request) → concat (texts (before ++ more)) ≡ concat (texts before) ++ concat (texts more)
+pub more_text : (before more : List Request) → concat (texts (before ++ more)) ≡ concat (texts before) ++ concat (texts more)
 more_text [] more = refl
 more_text (q ∷ qs) more =
     let text = line_of q ++ 13 ∷ [] in

@@ -16,7 +16,7 @@ dropped : (owing acts : List Act) (a : Act) → owing ≡ a ∷ acts → drop 1 
 dropped owing acts a e = ap (λ (v : List Act). drop 1 v) e
 
 -- the first of what is owed comes to stand
-moved : (xs owing total : List Act) (a : Act) → xs ++ owing ≡ total → IsNext owing a → (xs ++ a ∷ []) ++ drop 1 owing ≡ total
+pub moved : (xs owing total : List Act) (a : Act) → xs ++ owing ≡ total → IsNext owing a → (xs ++ a ∷ []) ++ drop 1 owing ≡ total
 moved xs owing total a h next =
     let joined : (xs ++ a ∷ []) ++ drop 1 owing ≡ xs ++ (a ∷ drop 1 owing) = append_assoc xs (a ∷ []) (drop 1 owing) in
     let same : a ∷ drop 1 owing ≡ owing = ap (λ (v : List Act). a ∷ v) (dropped owing next.later a next.is_next) ∙ sym next.is_next in
@@ -49,15 +49,19 @@ pub not_true : (b : Bool) → not b ≡ true → b ≡ false
 not_true false h = refl
 not_true true h = cc
 
-when_not : (b : Bool) (P : Type 0) → b ≡ false → When b P
+pub when_not : (b : Bool) (P : Type 0) → b ≡ false → When b P
 when_not false P h = tt
 when_not true P h = absurd (let e : true ≡ false = h in cc)
 
-when_is : (b : Bool) (P : Type 0) → P → When b P
+pub when_is : (b : Bool) (P : Type 0) → P → When b P
 when_is false P p = tt
 when_is true P p = p
 
-if_false : (b : Bool) (xs ys : List Act) → b ≡ false → (if b then xs else ys) ≡ ys
+pub if_true : (b : Bool) (xs ys : List Act) → b ≡ true → (if b then xs else ys) ≡ xs
+if_true true xs ys h = refl
+if_true false xs ys h = cc
+
+pub if_false : (b : Bool) (xs ys : List Act) → b ≡ false → (if b then xs else ys) ≡ ys
 if_false false xs ys h = refl
 if_false true xs ys h = cc
 
