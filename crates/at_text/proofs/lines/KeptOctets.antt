@@ -1,5 +1,5 @@
 -- What an octet does to the run that is kept.
-use Rattle.std.specs.Prelude.{◌≡◌, ℕ, ◌+◌, ◌<◌, ◌≤◌, ◌-◌, min, take, Bool, true, false, List, [], ◌∷◌, ◌++◌, ◌||◌, zero, suc, Option, None, Some, unwrap_or, Result, Ok, Err, IsOk, OnOk, length, refl, if◌then◌else◌}
+use Rattle.std.specs.Prelude.{◌≡◌, ℕ, ◌+◌, ◌<◌, ◌≤◌, min, take, Bool, true, false, List, [], ◌∷◌, ◌++◌, ◌||◌, zero, suc, Option, None, Some, unwrap_or, Result, Ok, Err, IsOk, OnOk, length, refl, if◌then◌else◌}
 use Rattle.std.proofs.Common.{arith, sym, ap, ◌∙◌}
 use Rattle.std.proofs.Math.Seq.{take-append-add}
 use Rattle.std.proofs.lemmas.List.{append-nil, take_min, length-take, take_all, take-append-le, length-append}

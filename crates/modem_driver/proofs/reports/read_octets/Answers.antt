@@ -1,5 +1,5 @@
 -- The octets are read run by run.
-use Rattle.std.proofs.Common.{◌≡◌, ◌<◌, ◌≤◌, ◌++◌, ◌+◌, ◌-◌, ◌∙◌, take, drop, length, arith, ap, sym, subst}
+use Rattle.std.proofs.Common.{◌≡◌, ◌≤◌, ◌++◌, ◌+◌, ◌-◌, take, drop, length, sym, subst}
 use Rattle.std.specs.Prelude.{List, ℕ, map}
 use Rattle.at_text.specs.Rules.{dialect_of}
 use Rattle.modem_history.specs.Acts.{act_of}
