@@ -1,5 +1,5 @@
 -- One line more stands behind those before it.
-use Rattle.std.proofs.Common.{◌≡◌, ◌++◌, ap, sym, subst, List, ℕ, length, take, drop, arith, length-append}
+use Rattle.std.proofs.Common.{◌≡◌, ◌<◌, ◌++◌, ap, sym, subst, List, ℕ, length, take, drop, arith, length-append}
 use Rattle.std.specs.List.{flat_map}
 use Rattle.at_text.specs.AnswerParts.{line_of}
 use Rattle.modem_c.specs.Texts.{line_text}
@@ -8,7 +8,8 @@ use Rattle.modem_c.proofs.outcomes.put_lines.Goals as goal
 
 pub put_line-place-requires : goal.put_line-place-requires
 put_line-place-requires c =
-    let r = room_for_one c.args.lines.now c.loop-i.i (line_of c.line.result.now) c.loop-i-test.true c.line.ensures in
+    let inside : c.loop-i.i < length c.args.lines.now = subst (λ (n : ℕ). c.loop-i.i < n) c.len-i-end.ensures c.loop-i-test.true in
+    let r = room_for_one c.args.lines.now c.loop-i.i (line_of c.line.result.now) inside c.line.ensures in
     let p = c.loop-i.invariant.place in
     let s = c.loop-i.auto.room in
     let q = c.requires in
@@ -17,7 +18,8 @@ put_line-place-requires c =
 pub loop-i-preserved : goal.loop-i-preserved
 loop-i-preserved c =
     let before = flat_map line_text (take c.loop-i.i c.args.lines.now) in
-    let m = one_more c.args.lines.now c.loop-i.i (line_of c.line.result.now) c.loop-i-test.true c.line.ensures in
+    let inside : c.loop-i.i < length c.args.lines.now = subst (λ (n : ℕ). c.loop-i.i < n) c.len-i-end.ensures c.loop-i-test.true in
+    let m = one_more c.args.lines.now c.loop-i.i (line_of c.line.result.now) inside c.line.ensures in
     let n = c.put_line-place.result in
     let new = c.put_line-place.new.room in
     let l = ap (λ (xs : List ℕ). length xs) m in
