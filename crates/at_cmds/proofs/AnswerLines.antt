@@ -1,6 +1,6 @@
 -- Lines of answers.
-use Rattle.std.specs.Prelude.{◌≡◌, ℕ, suc, ◌+◌, ◌<◌, ◌≤◌, nat_eq, true, false, List, [], ◌∷◌, ◌++◌, length, take, drop, Option, Some, None, IfSome, refl, if◌then◌else◌, codes}
-use Rattle.std.specs.List.{starts_with, filter_map}
+use Rattle.std.specs.Prelude.{◌≡◌, ℕ, suc, ◌+◌, ◌<◌, ◌≤◌, nat_eq, Bool, true, false, List, [], ◌∷◌, ◌++◌, length, take, drop, Option, Some, None, IfSome, refl, if◌then◌else◌, codes}
+use Rattle.std.specs.List.{starts_with, filter_map, position_from}
 use Rattle.std.specs.Str.{bytes_eq}
 use Rattle.std.proofs.Common.{arith, ap, sym, ◌∙◌, add-one, get_or, drop-cons, append-nil}
 use Rattle.std.proofs.Math.Seq.{take-suc}
@@ -13,7 +13,7 @@ use Rattle.at_text.specs.Finals.{final_of}
 use Rattle.at_text.specs.Octets.{number_in}
 use Rattle.at_cmds.specs.declared.reply.Context.{Context}
 use Rattle.at_cmds.specs.declared.reply.Reply.TheVariants.{Contexts}
-use Rattle.at_cmds.specs.Replies.{named_from, context_in, takes_memory}
+use Rattle.at_cmds.specs.Replies.{named_from, context_in, is_malformed_context, takes_memory}
 use Rattle.at_cmds.proofs.values_read.ValueForms.{if_some, holds_of}
 use Rattle.at_cmds.proofs.command_texts.TextTable.{started}
 
@@ -45,6 +45,12 @@ cme_long text n is = holds_of (final_of text) (IsLong text) (final_long text) (C
 at_line : (lines : List AnswerLine) (i : ℕ) (line : AnswerLine) → i < length lines → line ≡ get_or lines i line → drop i lines ≡ line ∷ drop (i + 1) lines
 at_line lines i line inside is = rw add-one (drop-cons lines i line inside ∙ ap (λ x. x ∷ drop (suc i) lines) (sym is))
 
+first_is : (test : AnswerLine → Bool) (i : ℕ) (line : AnswerLine) (lines : List AnswerLine) → test line ≡ true → position_from test i (line ∷ lines) ≡ Some i
+first_is test i line lines so = rw so refl
+
+first_is_not : (test : AnswerLine → Bool) (i : ℕ) (line : AnswerLine) (lines : List AnswerLine) → test line ≡ false → position_from test i (line ∷ lines) ≡ position_from test (i + 1) lines
+first_is_not test i line lines other = rw other refl
+
 -- a line that begins with the name is the first of those that are left
 pub named_here : (name : List ℕ) (lines : List AnswerLine) (i : ℕ) (line : AnswerLine) → i < length lines → line ≡ get_or lines i line → starts_with nat_eq line.text name ≡ true → named_from name i (drop i lines) ≡ Some (i, drop (length name) line.text)
 named_here name lines i line inside is begins = ap (named_from name i) (at_line lines i line inside is) ∙ rw begins refl
@@ -52,6 +58,14 @@ named_here name lines i line inside is begins = ap (named_from name i) (at_line 
 -- another line is passed over
 pub named_passed : (name : List ℕ) (lines : List AnswerLine) (i : ℕ) (line : AnswerLine) → i < length lines → line ≡ get_or lines i line → starts_with nat_eq line.text name ≡ false → named_from name i (drop i lines) ≡ named_from name (i + 1) (drop (i + 1) lines)
 named_passed name lines i line inside is other = ap (named_from name i) (at_line lines i line inside is) ∙ rw other refl
+
+-- a line that is malformed is the first of those that are left
+pub malformed_here : (lines : List AnswerLine) (i : ℕ) (line : AnswerLine) → i < length lines → line ≡ get_or lines i line → is_malformed_context line ≡ true → position_from is_malformed_context i (drop i lines) ≡ Some i
+malformed_here lines i line inside is so = ap (position_from is_malformed_context i) (at_line lines i line inside is) ∙ first_is is_malformed_context i line (drop (i + 1) lines) so
+
+-- another line is passed over
+pub malformed_passed : (lines : List AnswerLine) (i : ℕ) (line : AnswerLine) → i < length lines → line ≡ get_or lines i line → is_malformed_context line ≡ false → position_from is_malformed_context i (drop i lines) ≡ position_from is_malformed_context (i + 1) (drop (i + 1) lines)
+malformed_passed lines i line inside is other = ap (position_from is_malformed_context i) (at_line lines i line inside is) ∙ first_is_not is_malformed_context i line (drop (i + 1) lines) other
 
 split_at : (lines : List AnswerLine) (i : ℕ) (line : AnswerLine) → i < length lines → line ≡ get_or lines i line → take (i + 1) lines ≡ take i lines ++ line ∷ []
 split_at lines i line inside is = rw add-one (take-suc lines i line inside ∙ ap (λ x. take i lines ++ x ∷ []) (sym is))

@@ -16,7 +16,7 @@ use crate::reply::{Context, Contexts, NamedOper, PinState, Reply};
 use crate::texts::Quoted;
 use crate::values::{number_of, quoted_of};
 use at_text::octets::skip_blanks;
-use at_text::{AnswerLine, Final, Text, final_of};
+use at_text::{AnswerLines, Final, Text, final_of};
 use std::alloc::{AllocError, Global};
 
 /// How a CME code begins.
@@ -27,11 +27,11 @@ const CONTEXT: &[u8] = b"+CGDCONT:";
 
 /// Why the last line leaves no reply, if it leaves none.
 #[tactic(auto, unfolding(crate::specs::Replies::fault_of))]
-pub(crate) fn fault_in(lines: &[AnswerLine]) -> Option<ReplyFault>
+pub(crate) fn fault_in(lines: &AnswerLines) -> Option<ReplyFault>
     ensures { result ≡ fault_of lines.now }
 {
     match lines.last() {
-        Some(line) => fault_by(line.text.as_slice()),
+        Some(line) => fault_by(line),
         None => Some(ReplyFault::Missing),
     }
 }
@@ -62,11 +62,11 @@ fn words_fault(code: &[u8]) -> ReplyFault
 
 /// The first line that begins with a name: its index, and what follows the name.
 #[tactic(auto, using(crate::proofs::AnswerLines::named_here, crate::proofs::AnswerLines::named_passed), unfolding(crate::specs::Replies::first_named))]
-fn first_named<'a>(lines: &'a [AnswerLine], name: &[u8]) -> Option<(usize, &'a [u8])>
+fn first_named<'a>(lines: &'a AnswerLines, name: &[u8]) -> Option<(usize, &'a [u8])>
     ensures { option_map (λ line. (line.0, line.1.now)) result ≡ first_named name.now lines.now }
 {
-    for (i, line) in lines.iter().enumerate() {
-        let text = line.text.as_slice();
+    for i in 0..lines.len() {
+        let text = lines.line(i);
         if text.starts_with(name) {
             return Some((i, &text[name.len()..]));
         }
@@ -74,7 +74,7 @@ fn first_named<'a>(lines: &'a [AnswerLine], name: &[u8]) -> Option<(usize, &'a [
     None
 }
 
-pub(crate) fn pin_reply(alloc: Global, lines: &[AnswerLine]) -> Result<Reply, ReplyFault>
+pub(crate) fn pin_reply(alloc: Global, lines: &AnswerLines) -> Result<Reply, ReplyFault>
     ensures { Answers result
         (read_line (λ text. Some (Pin (pin_of text))) (first_named (codes "+CPIN:") lines.now)) }
 {
@@ -94,7 +94,7 @@ pub(crate) fn pin_reply(alloc: Global, lines: &[AnswerLine]) -> Result<Reply, Re
     Ok(Reply::Pin(state))
 }
 
-pub(crate) fn reg_reply(lines: &[AnswerLine]) -> Result<Reply, ReplyFault>
+pub(crate) fn reg_reply(lines: &AnswerLines) -> Result<Reply, ReplyFault>
     ensures { Answers result
         (read_line (λ text. reg_of (parameters text)) (first_named (codes "+CREG:") lines.now)) }
 {
@@ -114,7 +114,7 @@ fn reg_in(text: &[u8]) -> Option<Reply>
     Some(Reply::Reg { n, registration })
 }
 
-pub(crate) fn signal_reply(lines: &[AnswerLine]) -> Result<Reply, ReplyFault>
+pub(crate) fn signal_reply(lines: &AnswerLines) -> Result<Reply, ReplyFault>
     ensures { Answers result
         (read_line (λ text. signal_of (parameters text)) (first_named (codes "+CSQ:") lines.now)) }
 {
@@ -136,7 +136,7 @@ fn signal_in(text: &[u8]) -> Option<Reply>
     })
 }
 
-pub(crate) fn attach_reply(lines: &[AnswerLine]) -> Result<Reply, ReplyFault>
+pub(crate) fn attach_reply(lines: &AnswerLines) -> Result<Reply, ReplyFault>
     ensures { Answers result (read_line attached_of (first_named (codes "+CGATT:") lines.now)) }
 {
     let Some((index, text)) = first_named(lines, b"+CGATT:") else {
@@ -149,7 +149,7 @@ pub(crate) fn attach_reply(lines: &[AnswerLine]) -> Result<Reply, ReplyFault>
     }
 }
 
-pub(crate) fn oper_reply(alloc: Global, lines: &[AnswerLine]) -> Result<Reply, ReplyFault>
+pub(crate) fn oper_reply(alloc: Global, lines: &AnswerLines) -> Result<Reply, ReplyFault>
     ensures { Answers result (read_line oper_reply_of (first_named (codes "+COPS:") lines.now)) }
 {
     let Some((index, text)) = first_named(lines, b"+COPS:") else {
@@ -169,7 +169,7 @@ pub(crate) fn oper_reply(alloc: Global, lines: &[AnswerLine]) -> Result<Reply, R
 /// The contexts of all lines that begin with their name, or the fault of the first such line that
 /// isn't of their form.
 #[tactic(auto, unfolding(crate::specs::Replies::contexts_of))]
-pub(crate) fn contexts_reply(alloc: Global, lines: &[AnswerLine]) -> Result<Reply, ReplyFault>
+pub(crate) fn contexts_reply(alloc: Global, lines: &AnswerLines) -> Result<Reply, ReplyFault>
     ensures { Answers result (contexts_of lines.now) }
 {
     if let Some(index) = first_malformed(lines) {
@@ -180,12 +180,16 @@ pub(crate) fn contexts_reply(alloc: Global, lines: &[AnswerLine]) -> Result<Repl
 }
 
 /// The index of the first line that begins with the contexts' name, and isn't of their form.
-fn first_malformed(lines: &[AnswerLine]) -> Option<usize>
+#[tactic(auto, using(crate::proofs::AnswerLines::malformed_here, crate::proofs::AnswerLines::malformed_passed))]
+fn first_malformed(lines: &AnswerLines) -> Option<usize>
     ensures { result ≡ position_from is_malformed_context 0 lines.now }
 {
-    lines
-        .iter()
-        .position(|line| is_malformed_context(line.text.as_slice()))
+    for i in 0..lines.len() {
+        if is_malformed_context(lines.line(i)) {
+            return Some(i);
+        }
+    }
+    None
 }
 
 fn is_malformed_context(text: &[u8]) -> bool
@@ -196,13 +200,13 @@ fn is_malformed_context(text: &[u8]) -> bool
 
 /// The contexts of the lines that have one. It takes memory only where there is a context.
 #[tactic(auto, using(crate::proofs::AnswerLines::more_none, crate::proofs::AnswerLines::more_some, crate::proofs::AnswerLines::one_left))]
-fn contexts_in(alloc: Global, lines: &[AnswerLine]) -> Result<Vec<Context>, AllocError>
+fn contexts_in(alloc: Global, lines: &AnswerLines) -> Result<Vec<Context>, AllocError>
     ensures ok { IfOk result (λ contexts. contexts.items ≡ filter_map context_in lines.now) }
     ensures err { OnErr result (takes_memory (Reply.Contexts (filter_map context_in lines.now)) ≡ true) }
 {
     let mut contexts = Vec::new(alloc);
-    for line in lines {
-        if let Some(parts) = context_in_line(line.text.as_slice()) {
+    for i in 0..lines.len() {
+        if let Some(parts) = context_in_line(lines.line(i)) {
             contexts.push(context_of(alloc, parts)?)?;
         }
     }

@@ -6,7 +6,7 @@ use crate::command::Command;
 use crate::error::ReplyFault;
 use crate::registration::Registration;
 use crate::texts::Quoted;
-use at_text::{AnswerLine, Text};
+use at_text::{AnswerLines, Text};
 use std::alloc::Global;
 use std::marker::Model;
 
@@ -160,7 +160,7 @@ impl Reply {
     /// where nothing, not even blanks, stands between two commas. What follows the last parameter that a form knows is
     /// passed over. A line that isn't of its form is 4 Malformed with its index. Last comes 5 NoMemory, where the reply
     /// has a text or a list of its own.
-    pub fn read(alloc: Global, command: &Command, lines: &[AnswerLine]) -> Result<Reply, ReplyFault>
+    pub fn read(alloc: Global, command: &Command, lines: &AnswerLines) -> Result<Reply, ReplyFault>
         ensures { Answers result (reply_of command.now lines.now) }
     {
         if let Some(fault) = fault_in(lines) {

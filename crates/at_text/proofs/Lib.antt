@@ -1,3 +1,4 @@
+pub mod AnswerTexts
 pub mod CommandTexts
 pub mod RowFacts
 pub mod ShortNumbers

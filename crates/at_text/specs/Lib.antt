@@ -12,6 +12,7 @@ pub mod Refusals
 pub mod Deciding
 pub mod Heads
 pub mod Commands
+pub mod AnswerParts
 pub mod Windows
 pub mod Seeing
 pub mod OpenWindow

@@ -7,11 +7,12 @@
 //! - `command`, `error`: what is sent. `reader`, `text`, `octets`: lines of what comes.
 //! - `finals`, `unsolicited`: the standards' lists. `dialect`, `dialect_error`, `rules`, `heads`, `known_rules`, `clashes`: rules beside
 //!   them.
-//! - `window`, `answer`: which lines answer a command.
+//! - `window`: which lines answer a command. `answer_lines`: the lines of an answer, one text. `answer`: one such line by itself.
 //! - `laws`, `dialect_laws`.
 #![tactic(auto)]
 
 mod answer;
+mod answer_lines;
 mod clashes;
 mod command;
 mod dialect;
@@ -29,14 +30,15 @@ mod text;
 mod unsolicited;
 mod window;
 
-pub use answer::{AnswerLine, AnswerLines};
+pub use answer::AnswerLine;
+pub use answer_lines::{AnswerIter, AnswerLines};
 pub use clashes::{StandardLine, have_line_in_common};
 pub use command::CommandLine;
 pub use dialect::Dialect;
 pub use dialect_error::DialectError;
 pub use error::TextError;
 pub use finals::{Final, final_of};
-pub use reader::{Line, LineReader};
+pub use reader::{Line, LineReader, run_len};
 pub use rules::Form;
 pub use text::Text;
 pub use unsolicited::{UrcKind, unsolicited_of};

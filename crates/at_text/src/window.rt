@@ -7,11 +7,10 @@ ghost use Rattle.at_text.specs.Seeing.{by_kind};
 ghost use Rattle.at_text.specs.OpenWindow.{opened, FitsMarks, Sees, is_echo, with_line, solicited_by, after_solicited, seen_by, after_line};
 ghost use Rattle.at_text.specs.Forks.{lines_so_far, forked, led_by};
 
-use crate::answer::{AnswerLine, AnswerLines};
+use crate::answer_lines::AnswerLines;
 use crate::command::{COMMAND_LEN, CommandLine};
 use crate::dialect::Dialect;
 use crate::error::TextError;
-use crate::text::Text;
 use crate::unsolicited::UrcKind;
 use arrayvec::ArrayVec;
 use std::alloc::{AllocError, Global};
@@ -54,7 +53,7 @@ impl Open {
     fn none(alloc: Global) -> Open {
         Open {
             command: ArrayVec::new(),
-            lines: AnswerLines::from(Vec::new(alloc)),
+            lines: AnswerLines::new(alloc),
             fresh: true,
         }
     }
@@ -73,7 +72,7 @@ impl Open {
     fn take_lines(&mut self, alloc: Global) -> AnswerLines
         ensures { result ≡ self.old.lines }
     {
-        let mut lines = AnswerLines::from(Vec::new(alloc));
+        let mut lines = AnswerLines::new(alloc);
         mem::swap(&mut lines, &mut self.lines);
         lines
     }
@@ -84,14 +83,11 @@ impl Open {
         self.fresh && line == self.command.as_slice()
     }
 
-    fn keep(&mut self, alloc: Global, line: &[u8]) -> Result<(), AllocError>
+    fn keep(&mut self, line: &[u8]) -> Result<(), AllocError>
         ensures ok { OnOk result (self.new ≡ with_line self.old line.now) }
         ensures err { OnErr result (self.new ≡ self.old) }
     {
-        let octets = Vec::from_slice(alloc, line)?;
-        self.lines.push(AnswerLine {
-            text: Text::from(octets),
-        })?;
+        self.lines.push(line)?;
         self.fresh = false;
         Ok(())
     }
@@ -307,7 +303,7 @@ impl Window {
             open.fresh = false;
             return Ok(Seen::Echo);
         }
-        open.keep(self.alloc, line)?;
+        open.keep(line)?;
         if !dialect.is_final(line) {
             return Ok(Seen::Kept);
         }

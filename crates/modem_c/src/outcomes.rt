@@ -1,12 +1,13 @@
 //! Outcomes of requests.
 ghost use Rattle.std.specs.Prelude.{◌≡◌, ◌≢◌, ◌↔◌, ◌⊎◌, ◌≤◌, ◌<◌, ◌-◌, ◌+◌, ◌^◌, ◌++◌, [], min, length, take, drop, None, Some};
+ghost use Rattle.at_text.specs.AnswerParts.{line_of};
 ghost use Rattle.modem_c.specs.Calls.{Goes, Holds, endpoint_of};
-ghost use Rattle.modem_c.specs.Texts.{HandsOutcome, IsOutcomeHead, ShowsOutcome, line_text, lines_of, lines_text};
+ghost use Rattle.modem_c.specs.Texts.{HandsOutcome, IsOutcomeHead, ShowsOutcome, line_text, lines_of, lines_text, text_of};
 
 use crate::driver::Cimbaloty;
 use crate::numbers::{NO_DRIVER, NO_ROOM, NOTHING, OK};
 use crate::places::put;
-use at_text::AnswerLine;
+use at_text::AnswerLines;
 use modem_driver::{Answer, Endpoint, Outcome};
 use std::alloc::Global;
 
@@ -20,49 +21,59 @@ pub struct OutcomeHead {
     pub answer: u8,
 }
 
-/// The lines of an answer.
-fn lines_of(answer: &Answer) -> &[AnswerLine]
-    ensures { result.now ≡ lines_of answer.now }
-{
-    match answer {
-        Answer::Done(lines) => lines.as_slice(),
-        _ => &[],
-    }
-}
-
 /// How many octets the lines have, each with an LF behind it.
-fn octets_of(lines: &[AnswerLine]) -> usize
+fn octets_of(lines: &AnswerLines) -> usize
     ensures { result ≡ min (length (lines_text lines.now)) (2 ^ 64 - 1) }
 {
     let mut sum: usize = 0;
-    for line in lines {
-        sum = sum
-            .saturating_add(line.text.as_slice().len())
-            .saturating_add(1);
+    for i in 0..lines.len() {
+        sum = sum.saturating_add(lines.line(i).len()).saturating_add(1);
     }
     sum
 }
 
 /// Copies a line and an LF to a place of the room, and says where they end. The condition is that they
 /// have room there.
-fn put_line(line: &AnswerLine, room: &mut [u8], place: usize) -> usize
-    requires { place + length (line_text line.now) ≤ length room.old }
-    ensures place { result ≡ place + length (line_text line.now) }
-    ensures room { room.new ≡ take place room.old ++ (line_text line.now ++ drop result room.old) }
+fn put_line(line: &[u8], room: &mut [u8], place: usize) -> usize
+    requires { place + length (line_text (line_of line.now)) ≤ length room.old }
+    ensures place { result ≡ place + length (line_text (line_of line.now)) }
+    ensures room { room.new ≡ take place room.old ++ (line_text (line_of line.now) ++ drop result room.old) }
 {
-    let behind = put(line.text.as_slice(), room, place);
+    let behind = put(line, room, place);
     put(b"\n", room, behind)
 }
 
 /// Copies the lines to the front of the room, each with an LF behind it. The condition is that they
 /// have room.
-fn put_lines(lines: &[AnswerLine], room: &mut [u8])
+fn put_lines(lines: &AnswerLines, room: &mut [u8])
     requires { length (lines_text lines.now) ≤ length room.old }
     ensures { room.new ≡ lines_text lines.now ++ drop (length (lines_text lines.now)) room.old }
 {
     let mut place = 0;
-    for line in lines {
-        place = put_line(line, room, place);
+    for i in 0..lines.len() {
+        place = put_line(lines.line(i), room, place);
+    }
+}
+
+/// How many lines an answer has, and how many octets, each line with an LF behind it.
+fn size_of(answer: &Answer) -> (usize, usize)
+    ensures lines { result.0 ≡ length (lines_of answer.now) }
+    ensures octets { result.1 ≡ min (length (text_of answer.now)) (2 ^ 64 - 1) }
+{
+    match answer {
+        Answer::Done(lines) => (lines.len(), octets_of(lines)),
+        _ => (0, 0),
+    }
+}
+
+/// Copies the lines of an answer to the front of the room, each with an LF behind it. The condition is that they have
+/// room.
+fn put_answer(answer: &Answer, room: &mut [u8])
+    requires { length (text_of answer.now) ≤ length room.old }
+    ensures { room.new ≡ text_of answer.now ++ drop (length (text_of answer.now)) room.old }
+{
+    if let Answer::Done(lines) = answer {
+        put_lines(lines, room);
     }
 }
 
@@ -70,11 +81,11 @@ fn put_lines(lines: &[AnswerLine], room: &mut [u8])
 fn head_of(outcome: &Outcome) -> OutcomeHead
     ensures { IsOutcomeHead result outcome.now }
 {
-    let lines = lines_of(&outcome.answer);
+    let (lines, length) = size_of(&outcome.answer);
     OutcomeHead {
         number: outcome.number,
-        length: octets_of(lines),
-        lines: lines.len(),
+        length,
+        lines,
         answer: outcome.answer.number(),
     }
 }
@@ -116,7 +127,7 @@ fn hand(endpoint: &mut Endpoint, head: &mut OutcomeHead, text: &mut [u8]) -> u8
     let Some(outcome) = endpoint.poll_outcome() else {
         return NOTHING;
     };
-    put_lines(lines_of(&outcome.answer), text);
+    put_answer(&outcome.answer, text);
     OK
 }
 

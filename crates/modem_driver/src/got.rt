@@ -26,6 +26,7 @@ use crate::driver::Core;
 use crate::error::CoreError;
 use crate::hand::{first_asker, first_line, remove_command};
 use crate::lane::Lane;
+use crate::machine::waiting::Waiting;
 use crate::reports::{Reading, read_octets};
 use crate::telling::{Happened, tell_on};
 use at_text::CommandLine;
@@ -333,28 +334,34 @@ impl Core {
         Ok(acts)
     }
 
-    /// As `got_data`, but without the act Got, and by a lane of the caller's to read on. It makes no copy of the frame.
-    /// Refusal: 1 NoMemory, which changes nothing.
+    /// As `got_data`, but without the act Got, by a lane of the caller's to read on and a list of the caller's of what is said. It makes
+    /// no copy of the frame, and room where what is said can wait. Refusal: 1 NoMemory, which changes nothing else.
     pub(crate) fn follow(
         &mut self,
         frame: FrameView<'_>,
         fork: &mut Lane,
-    ) -> Result<Vec<Act>, CoreError>
+        said: &mut Vec<Act>,
+        waiting: &mut Waiting,
+    ) -> Result<(), CoreError>
         requires short { length frame.info.now ≤ most_info self.old.station.n1 frame.kind }
         requires is_data { brings_data self.old (frame_of frame) ≡ true }
-        ensures past { IfOk result (λ acts. Handles self.old self.new (Got (frame_of frame.entry))
-            (Got (frame_of frame.entry) ∷ map act_of acts.items)) }
-        ensures holds { IfOk result (λ acts. KeepsHeld self.old self.new (Got (frame_of frame.entry))
-            (Got (frame_of frame.entry) ∷ map act_of acts.items)) }
+        ensures past { OnOk result (Handles self.old self.new (Got (frame_of frame.entry))
+            (Got (frame_of frame.entry) ∷ map act_of said.new.items)) }
+        ensures holds { OnOk result (KeepsHeld self.old self.new (Got (frame_of frame.entry))
+            (Got (frame_of frame.entry) ∷ map act_of said.new.items)) }
+        ensures room { OnOk result (length said.new.items ≤ waiting.new.room) }
+        ensures outcomes { waiting.new.outcomes ≡ waiting.old.outcomes }
+        ensures lines { waiting.new.lines ≡ waiting.old.lines }
         ensures no_memory { OnErr result (result ≡ Err CoreError.NoMemory) }
         ensures err { OnErr result (self.new ≡ self.old) }
         ensures n1 { self.new.station.n1 ≡ self.old.station.n1 }
         ensures lost { self.new.lost ≡ self.old.lost }
     {
-        let mut acts = Vec::new(self.alloc);
-        self.read(frame, fork, &mut acts)?;
-        self.join_data(frame, fork, &mut acts)?;
-        Ok(acts)
+        said.clear();
+        self.read(frame, fork, said)?;
+        waiting.make_room(said.len())?;
+        self.join_data(frame, fork, said)?;
+        Ok(())
     }
 
     /// Whether the frame is data of an open connection, and the line isn't lost.

@@ -42,7 +42,7 @@ mod tick;
 mod took;
 mod written;
 
-pub use at_text::{AnswerLine, CommandLine};
+pub use at_text::{AnswerLines, CommandLine};
 pub use driver::Core;
 pub use endpoint::{Blocked, Endpoint, Input, Left, RequestError, RequestRefused};
 pub use entering::{EntryError, enter};

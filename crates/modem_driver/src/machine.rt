@@ -34,17 +34,19 @@ use crate::session::{SessionError, SessionFault};
 use at_text::{Dialect, UrcKind};
 use line_end::LineEnd;
 use modem_desk::{Outcome, Request, Urc};
+use modem_history::Act;
 use mux_frame::Dlci;
 use std::alloc::Global;
 use std::marker::Model;
 
 /// The core, the end of the line, what waits for a place at the desk, how far it has come on the way to its end, and how
-/// long commands have waited. Beside them a lane on which data is read: contracts don't see it, since what is left there
-/// is of no use.
+/// long commands have waited. Beside them a lane on which data is read, and what was said of it: contracts don't see them, since
+/// what is left there is of no use.
 #[derive(Drop)]
 pub(crate) struct Machine {
     pub(crate) core: Core,
     pub(crate) fork: Lane,
+    pub(crate) said: Vec<Act>,
     pub(crate) line_end: LineEnd,
     pub(crate) waiting: Waiting,
     pub(crate) course: Course,
@@ -109,6 +111,7 @@ impl Machine {
         Ok(Machine {
             core,
             fork: Lane::new(alloc),
+            said: Vec::new(alloc),
             line_end,
             waiting,
             course: Course::GoesOn,

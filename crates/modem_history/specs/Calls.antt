@@ -82,27 +82,18 @@ pub record HistoryView : Type 0 where
   -- what is kept of its unfinished line
   pub run : ℕ → List ℕ
 
--- the requests without those to which an outcome is owed
-abbrev pub unanswered : List Act → List Request → List Request
-unanswered [] hand = hand
-unanswered (Told o ∷ owing) hand = without o (unanswered owing hand)
-unanswered (_ ∷ owing) hand = unanswered owing hand
-
-abbrev pub seen_behind : Setting → List Act → (owing : List Act) → HistoryView
-seen_behind s past owing = record {
+-- what a call sees of a past in which nothing is owed
+abbrev pub seen : Setting → List Act → HistoryView
+seen s past = record {
   state = λ d. state_of s.role d (wire past);
   hand = in_hand past;
-  waiting = unanswered owing (in_hand past);
+  waiting = in_hand past;
   lost = is_lost past;
   queued = octets_of (queue (wire past));
   ticks = λ r. ticks_since r past;
   marks = λ d. marks s.role d past;
   run = λ d. run_on s.role d past;
 }
-
--- what a call sees of a past in which nothing is owed
-abbrev pub seen : Setting → List Act → HistoryView
-seen s past = seen_behind s past []
 
 -- ## Answers at once
 
@@ -276,6 +267,18 @@ calls_seeing s v a =
 
 abbrev pub calls : Setting → List Act → Act → List Act
 calls s past a = calls_seeing s (seen s past) a
+
+-- ## While something is owed
+
+-- the requests without those to which an outcome is owed
+abbrev pub unanswered : List Act → List Request → List Request
+unanswered [] hand = hand
+unanswered (Told o ∷ owing) hand = without o (unanswered owing hand)
+unanswered (_ ∷ owing) hand = unanswered owing hand
+
+-- what a call sees of a past while this is owed
+abbrev pub seen_behind : Setting → List Act → (owing : List Act) → HistoryView
+seen_behind s past owing = record (seen s past) { waiting = unanswered owing (in_hand past) }
 
 -- what an act calls for while this is owed: a request to which an outcome is owed is told no other
 abbrev pub calls_behind : Setting → List Act → (owing : List Act) → Act → List Act

@@ -24,9 +24,9 @@ fresh b = record {
   unannounced = [];
 }
 
--- a new session fits the empty history
+-- a new session fits the empty history, where a frame takes an octet at least
 unfoldable pub BeginsFitting : Beginning → Type 0
-BeginsFitting b = SessionFits b (fresh b) []
+BeginsFitting b = 1 ≤ b.n1 → SessionFits b (fresh b) []
 
 -- ## Octets
 

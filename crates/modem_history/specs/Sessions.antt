@@ -20,9 +20,8 @@ use Rattle.modem_history.specs.Requests.{are_distinct}
 use Rattle.at_text.specs.Kinds.{is_same_kind}
 use Rattle.modem_history.specs.Kinds.{is_listened, of_kind, on_channel}
 use Rattle.modem_history.specs.Calls.{Setting, is_loss, is_lost}
-use Rattle.modem_history.specs.Lawful.{Lawful, Complete}
-use Rattle.modem_history.specs.GoingOut.{SendsInTurn}
-use Rattle.modem_history.specs.Wholes.{taken_requests, outcomes, CompleteCalls}
+use Rattle.modem_history.specs.Wholes.{taken_requests, outcomes}
+use Rattle.modem_history.specs.Rules.{Made}
 
 -- ## What is seen of a session
 
@@ -137,15 +136,6 @@ TakesWithRoom (_ ∷ past) = TakesWithRoom past
 
 -- ## What it fits
 
--- the history of a session: lawful, each of its calls complete, no request taken where 128 are in hand, and
--- each data frame sent in turn
-pub record IsHistory (b : Beginning) (past : List Act) : Type 0 where
-  pub lawful : Lawful (driving b) past
-  pub complete : Complete (driving b) past
-  pub calls : CompleteCalls (driving b) past
-  pub room : TakesWithRoom past
-  pub in_turn : SendsInTurn (driving b) past
-
 -- a loss of the line: the history has one at most, and only where a call on the line has failed since the
 -- session began
 pub record FitsLoss (b : Beginning) (v : SessionView) (past : List Act) : Type 0 where
@@ -218,9 +208,9 @@ pub record FitsHeard (b : Beginning) (v : SessionView) (past : List Act) : Type 
   pub in_order : map heard_as v.unannounced ≡ heard_behind (announced_of v past) past
   pub nowhere_else : (i : ℕ) → length b.kinds ≤ i → at_place i v.desk.announced ≡ at_place i b.desk.announced
 
--- the session fits the history
+-- the session fits the history, which the three rules make
 pub record SessionFits (b : Beginning) (v : SessionView) (past : List Act) : Type 0 where
-  pub history : IsHistory b past
+  pub history : Made (driving b) past
   pub loss : FitsLoss b v past
   pub requests : FitsRequests b v past
   pub received : FitsReceived b v past

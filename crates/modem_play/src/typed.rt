@@ -4,7 +4,7 @@ use at_cmds::{
     Apn, CmdError, Command, OperChoice, OperNumber, Pdp, Pin, Registration, Reply, ReplyFault,
     cme_text,
 };
-use at_text::{AnswerLine, Text};
+use at_text::AnswerLines;
 use modem_runs::Stop;
 use std::alloc::{AllocError, Global};
 use std::str;
@@ -26,14 +26,13 @@ struct Played<R: Host> {
 }
 
 /// The lines of an answer.
-fn answer_lines(alloc: Global, words: &str) -> Result<Vec<AnswerLine>, AllocError> {
-    let mut lines = Vec::new(alloc);
+fn answer_lines(alloc: Global, words: &str) -> Result<AnswerLines, AllocError> {
+    let mut lines = AnswerLines::new(alloc);
     if words.is_empty() {
         return Ok(lines);
     }
     for line in words.split('|') {
-        let text = Text::from(Vec::from_slice(alloc, line.as_bytes())?);
-        lines.push(AnswerLine { text })?;
+        lines.push(line.as_bytes())?;
     }
     Ok(lines)
 }
@@ -130,7 +129,7 @@ impl<R: Host> Played<R> {
             return Err(BAD);
         };
         let lines = answer_lines(self.alloc, words)?;
-        print_reply(&self.rt, Reply::read(self.alloc, command, lines.as_slice()))
+        print_reply(&self.rt, Reply::read(self.alloc, command, &lines))
     }
 
     fn make(&self, word: &str, rest: &str) -> Result<(), Stop> {

@@ -133,7 +133,7 @@ fn push_outcome(alloc: Global, outcome: &Outcome, text: &mut String) -> Result<(
     let answer = answer_word(&outcome.answer);
     writeln!(text, "told {number} {answer}")?;
     match &outcome.answer {
-        Answer::Done(lines) => push_lines(alloc, lines.as_slice(), text),
+        Answer::Done(lines) => push_lines(alloc, lines, text),
         _ => Ok(()),
     }
 }

@@ -4,7 +4,7 @@ ghost use Rattle.std.specs.List.{flat_map};
 ghost use Rattle.std.specs.String.{string_bytes};
 ghost use Rattle.modem_texts.specs.Texts.{answer_line_text, answer_text, heard_text, heard_text_by, line_text, told_text, urc_text};
 
-use at_text::{AnswerLine, Dialect, UrcKind};
+use at_text::{AnswerLines, Dialect, UrcKind};
 use modem_desk::{Answer, Urc};
 use std::alloc::{AllocError, Global};
 use std::fmt::Write;
@@ -26,13 +26,13 @@ pub fn push_line(alloc: Global, line: &[u8], text: &mut String) -> Result<(), Al
 }
 
 /// Appends the lines of an answer, each behind `| `.
-pub fn push_lines(alloc: Global, lines: &[AnswerLine], text: &mut String) -> Result<(), AllocError>
+pub fn push_lines(alloc: Global, lines: &AnswerLines, text: &mut String) -> Result<(), AllocError>
     ensures { OnOk result
         (string_bytes text.new ≡ string_bytes text.old ++ flat_map answer_line_text lines.now) }
 {
-    for line in lines {
+    for i in 0..lines.len() {
         text.push_str("| ")?;
-        push_line(alloc, line.text.as_slice(), text)?;
+        push_line(alloc, lines.line(i), text)?;
         text.push_str("\n")?;
     }
     Ok(())
@@ -88,7 +88,7 @@ pub fn push_told(
     let word = answer_word(answer);
     writeln!(text, "{whose} {place} {word}")?;
     match answer {
-        Answer::Done(lines) => push_lines(alloc, lines.as_slice(), text),
+        Answer::Done(lines) => push_lines(alloc, lines, text),
         _ => Ok(()),
     }
 }

@@ -21,8 +21,8 @@ pub fn dialect(alloc: Global) -> Result<Dialect, DialectError> {
 /// Prints the lines of an answer, and a line that came beside it, with the name of its kind.
 fn print_both<R: Print>(rt: &R, dialect: &Dialect, answer: &Answer, line: &Urc) {
     if let Answer::Done(lines) = answer {
-        for line in lines.as_slice() {
-            let _ = rt.println(format_args!("{:?}", str::from_utf8(line.text.as_slice())));
+        for line in lines {
+            let _ = rt.println(format_args!("{:?}", str::from_utf8(line)));
         }
     }
     if let Some(name) = dialect.name_of(line.kind) {

@@ -27,7 +27,7 @@ pub fn print_signal<R: Print>(rt: &R, alloc: Global, answer: &Answer) -> Result<
     let Answer::Done(lines) = answer else {
         return Err(Stop::Unexpected);
     };
-    let _ = match Reply::read(alloc, &Command::Signal, lines.as_slice()) {
+    let _ = match Reply::read(alloc, &Command::Signal, lines) {
         Ok(Reply::Signal { rssi, ber }) => rt.println(format_args!(
             "strength {rssi}, errors {ber}"
         )),

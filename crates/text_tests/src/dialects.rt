@@ -70,10 +70,7 @@ fn is_done_with(seen: &Seen, first: &[u8], last: &[u8]) -> bool {
     let Seen::Done(lines) = seen else {
         return false;
     };
-    match lines.as_slice() {
-        [one, two] => one.text.as_slice() == first && two.text.as_slice() == last,
-        _ => false,
-    }
+    lines.len() == 2 && lines.line(0) == first && lines.line(1) == last
 }
 
 /// The command ends with these two lines, of which one came before, and leaves none.

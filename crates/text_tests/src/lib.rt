@@ -2,10 +2,12 @@
 //!
 //! # Layout
 //!
-//! - `dialects`, `sizes`: tests, a subject each. `no_memory/`: which calls take none.
+//! - `answers`, `dialects`, `sizes`: tests, a subject each. `no_memory/`: which calls take none.
 //! - `made`: what they begin with.
 #![tactic(auto)]
 
+#[cfg(test)]
+mod answers;
 #[cfg(test)]
 mod dialects;
 #[cfg(test)]

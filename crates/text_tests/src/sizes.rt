@@ -27,7 +27,7 @@ fn a_window_of_300_lines(rt: HostRuntime) {
         keeps(&rt, &mut window, b"+CMGL: 1");
     }
     let answer = answered(&rt, &mut window);
-    assert!(rt; answer.as_slice().len() == 301);
+    assert!(rt; answer.len() == 301);
 }
 
 // A text of 200 octets for what is wanted of a SIM.
@@ -40,7 +40,7 @@ fn long_line(rt: &impl Abort, alloc: Global) -> Vec<u8> {
 
 // How long it is as it is read.
 fn length_read(rt: &impl Abort, alloc: Global, answer: &AnswerLines) -> usize {
-    match Reply::read(alloc, &Command::PinQuery, answer.as_slice()) {
+    match Reply::read(alloc, &Command::PinQuery, answer) {
         Ok(Reply::Pin(PinState::Other(text))) => text.as_slice().len(),
         _ => panic!(rt; "no text of its own"),
     }

@@ -3,7 +3,7 @@ use Rattle.std.proofs.Common.{ap, sym, ◌∙◌, subst, arith}
 use Rattle.std.proofs.Math.Seq.{drop-length}
 use Rattle.std.proofs.lemmas.Bool.{and_from, and_parts}
 use Rattle.std.proofs.lemmas.List.Folds.{list_all-append}
-use Rattle.std.specs.Prelude.{◌≡◌, ℕ, ◌+◌, ◌<◌, ◌≤◌, true, List, [], ◌∷◌, ◌++◌, length, refl, Contains, Result, Ok, Err, OnErr}
+use Rattle.std.specs.Prelude.{◌≡◌, ℕ, ◌+◌, ◌<◌, ◌≤◌, true, List, [], ◌∷◌, ◌++◌, length, refl, Contains, Result, Ok, Err, OnErr, IsErrOf, ◌⊎◌, ◌↔◌}
 use Rattle.std.specs.List.{list_all}
 use Rattle.at_text.specs.Dialects.{Dialect, standard}
 use Rattle.at_text.specs.Rules.{Rules, no_rules, dialect_of}
@@ -24,25 +24,25 @@ use Rattle.modem_driver.specs.SessionStates.{Machine, machine_by, new_machine, s
 use Rattle.modem_driver.specs.TurnTakes.{MachineTakes, TakesNext}
 use Rattle.modem_driver.proofs.endpoints.WholeCalls.{handled_all, handled_alone}
 use Rattle.modem_driver.proofs.sessions.steps.OutcomeCounts.{is_caller}
-use Rattle.modem_driver.proofs.sessions.steps.StartAndTick.{begins_over, machine_begins}
+use Rattle.modem_driver.proofs.sessions.steps.StartAndTick.{begins_over, least_n1, machine_begins}
 
 -- ## The beginning
 
-begins_so : (rules : Rules) (dialect : Dialect) → dialect ≡ dialect_of rules → (n1 : ℕ) (ks : List UrcKind) (k : Machine) (next : ℕ) → k ≡ machine_by rules n1 ks → Fits k.core [] → HoldsFit k.core []
+begins_so : (rules : Rules) (dialect : Dialect) → dialect ≡ dialect_of rules → (n1 : ℕ) (ks : List UrcKind) (k : Machine) (next : ℕ) → 1 ≤ n1 → k ≡ machine_by rules n1 ks → Fits k.core [] → HoldsFit k.core []
     → BeginsBy dialect n1 ks (record { machine = k; next = next })
 unfolding BeginsBy
-begins_so rules dialect is n1 ks k next e fits holds l d same =
+begins_so rules dialect is n1 ks k next low e fits holds l d same =
     let inside = machine_begins rules dialect is n1 ks k d e (λ m. ((λ c. subst (λ (xs : List UrcKind). Contains xs m) (sym same) c), (λ c. subst (λ (xs : List UrcKind). Contains xs m) same c))) fits holds l in
     record {
-      stands = begins_over rules dialect n1 ks k l d e inside;
+      stands = begins_over rules dialect n1 ks k l d low e inside;
       numbers = ap (list_all (is_numbered next)) (drop-length d.taken);
     }
 
-pub begins : (rules : Rules) (n1 : ℕ) (ks : List UrcKind) (k : Machine) (next : ℕ) → k ≡ machine_by rules n1 ks → Fits k.core [] → HoldsFit k.core [] → BeginsBy (dialect_of rules) n1 ks (record { machine = k; next = next })
-begins rules n1 ks k next e fits holds = begins_so rules (dialect_of rules) refl n1 ks k next e fits holds
+pub begins : {T E : Type 0} (rules : Rules) (n1 : ℕ) (ks : List UrcKind) (k : Machine) (next : ℕ) (x : T) (e : E) → IsErrOf (Ok x) e ↔ ((n1 < 31) ⊎ (32767 < n1)) → k ≡ machine_by rules n1 ks → Fits k.core [] → HoldsFit k.core [] → BeginsBy (dialect_of rules) n1 ks (record { machine = k; next = next })
+begins rules n1 ks k next x y range e fits holds = begins_so rules (dialect_of rules) refl n1 ks k next (least_n1 n1 x y range) e fits holds
 
-pub begins_standard : (n1 : ℕ) (ks : List UrcKind) (k : Machine) (next : ℕ) → k ≡ new_machine n1 ks → Fits k.core [] → HoldsFit k.core [] → Begins n1 ks (record { machine = k; next = next })
-begins_standard n1 ks k next e fits holds = begins_so no_rules standard (sym no_rules_standard) n1 ks k next e fits holds
+pub begins_standard : {T E : Type 0} (n1 : ℕ) (ks : List UrcKind) (k : Machine) (next : ℕ) (x : T) (e : E) → IsErrOf (Ok x) e ↔ ((n1 < 31) ⊎ (32767 < n1)) → k ≡ new_machine n1 ks → Fits k.core [] → HoldsFit k.core [] → Begins n1 ks (record { machine = k; next = next })
+begins_standard n1 ks k next x y range e fits holds = begins_so no_rules standard (sym no_rules_standard) n1 ks k next (least_n1 n1 x y range) e fits holds
 
 -- ## Numbers
 

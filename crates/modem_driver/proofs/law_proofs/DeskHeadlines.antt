@@ -34,6 +34,7 @@ use Rattle.modem_driver.proofs.law_proofs.Headlines.{any_more, answers_own, hear
 use Rattle.modem_driver.proofs.law_proofs.RequestNumbers.{numbered_once}
 use Rattle.modem_driver.proofs.law_proofs.RequestPlaces.{counted_own, is_counted, is_told, many_untold, no_answer, some_answer, told_taken}
 use Rattle.modem_driver.proofs.sessions.polls.OfflinePasses.{gives_on, gives_then}
+use Rattle.modem_history.proofs.rules.MadeLaws.{laws_of}
 
 -- ## What rests of a session
 
@@ -160,9 +161,9 @@ counts_once b v past f r few = by_told (is_told (outcomes past) r) refl
     by_told : (t : Bool) → is_told (outcomes past) r ≡ t → answers r (outcomes past) + many r (untold past) ≡ many r (taken_requests past)
     by_told true t =
         let some_one = some_answer r (outcomes past) t in
-        let most = (answers_once (driving b) past f.history.lawful).once (uses_once (taken_requests past) (distinct_taken b v past f)) r in
+        let most = (answers_once (driving b) past (laws_of f.history).lawful).once (uses_once (taken_requests past) (distinct_taken b v past f)) r in
         let waits : many r (untold past) ≡ 0 = many_untold r (outcomes past) (taken_requests past) ∙ ap (λ (c : Bool). if c then 0 else many r (taken_requests past)) t in
-        let was = told_taken r (outcomes past) (taken_requests past) (all_answer (driving b) past f.history.lawful) t in
+        let was = told_taken r (outcomes past) (taken_requests past) (all_answer (driving b) past (laws_of f.history).lawful) t in
         omega (arith, some_one, most, waits, was, few)
     by_told false t =
         let none = no_answer r (outcomes past) t in
@@ -182,7 +183,7 @@ spell_counts kinds callers d s p r few =
     ∙ (ap (λ (n : ℕ). n + answers r (caller_outcomes c (map line_lost f.lost))) (answers_own_caller r (outcomes s.past)) ∙ ap (λ (n : ℕ). answers r (outcomes s.past) + n) (answers_own_caller r (map line_lost f.lost)))) in
     let lost : answers r (map line_lost f.lost) ≡ many r f.lost = answers_lost r f.lost ∙ many_filtered r f.lost in
     let hand : s.leftovers.in_hand ≡ untold s.past
-    = p.finishes.hand_is ∙ hand_is (driving s.start) s.past (fits_in p.grown).history.lawful (distinct_taken s.start s.session s.past (fits_in p.grown)) in
+    = p.finishes.hand_is ∙ hand_is (driving s.start) s.past (laws_of (fits_in p.grown).history).lawful (distinct_taken s.start s.session s.past (fits_in p.grown)) in
     let places : many r s.rest.in_hand + many r f.lost ≡ many r s.leftovers.in_hand + many r f.more
     = sym (many_append r s.rest.in_hand f.lost) ∙ (ap (many r) f.places ∙ many_append r s.leftovers.in_hand f.more) in
     let in_hand_are : many r s.leftovers.in_hand ≡ many r (untold s.past) = ap (many r) hand in
@@ -249,14 +250,14 @@ spell_own kinds callers d s p c =
     let within : (r : Request) → many r f.lost ≤ many r all = λ r.
     let whole : many r all ≡ many r (taken_requests s.past) + many r f.more = many_append r (taken_requests s.past) f.more in
     let hand : s.leftovers.in_hand ≡ untold s.past
-    = p.finishes.hand_is ∙ hand_is (driving s.start) s.past (fits_in p.grown).history.lawful (distinct_taken s.start s.session s.past (fits_in p.grown)) in
+    = p.finishes.hand_is ∙ hand_is (driving s.start) s.past (laws_of (fits_in p.grown).history).lawful (distinct_taken s.start s.session s.past (fits_in p.grown)) in
     let places : many r s.rest.in_hand + many r f.lost ≡ many r s.leftovers.in_hand + many r f.more
     = sym (many_append r s.rest.in_hand f.lost) ∙ (ap (many r) f.places ∙ many_append r s.leftovers.in_hand f.more) in
     let in_hand_are : many r s.leftovers.in_hand ≡ many r (untold s.past) = ap (many r) hand in
     let fewer = few_untold (is_told (outcomes s.past) r) (many r (untold s.past)) (many r (taken_requests s.past)) (many_untold r (outcomes s.past) (taken_requests s.past)) in
     omega (arith, whole, places, in_hand_are, fewer) in
     let told : list_all (answered_in all) (outcomes s.past) ≡ true
-    = all_wider (answered_in (taken_requests s.past)) (answered_in all) (λ o. any_more o (taken_requests s.past) f.more) (outcomes s.past) (all_answer (driving s.start) s.past (fits_in p.grown).history.lawful) in
+    = all_wider (answered_in (taken_requests s.past)) (answered_in all) (λ o. any_more o (taken_requests s.past) f.more) (outcomes s.past) (all_answer (driving s.start) s.past (laws_of (fits_in p.grown).history).lawful) in
     let one = own_answers c all [] (outcomes s.past) told in
     let other = own_answers c all [] lost (lost_answered all f.lost within) in
     ap (list_all (answered_in (of_caller c all))) (spell_told kinds callers d s p c).rest_are
@@ -378,15 +379,15 @@ spell_headline : (kinds : List UrcKind) (callers : ℕ) (d : EndView) (s : Spell
     → AreSubmitted ((d.taken ++ taken_of kinds callers d s p) ++ more) left cs → SpellHeadline cs s
 spell_headline kinds callers d s p more left cs submitted = record {
   leaves = λ newer older joins n. record {
-    is_prefix = leaves_once (driving s.start) older (lawful_part (driving s.start) newer older (subst (Lawful (driving s.start)) joins (fits_in p.grown).history.lawful)) n;
+    is_prefix = leaves_once (driving s.start) older (lawful_part (driving s.start) newer older (subst (Lawful (driving s.start)) joins (laws_of (fits_in p.grown).history).lawful)) n;
     order = λ i c at.
         let own = λ (q : Request). q.caller == c.place.number in
         let later = (facts kinds callers d s p).more in
         order_of c.place.number c.submitted (of_caller c.place.number d.taken) ((of_caller c.place.number later ++ of_caller c.place.number more) ++ of_caller c.place.number left) s.start s.session s.past (fits_in p.grown)
         (submitted i c at ∙ parted own d.taken (taken_requests s.past) later more left) newer older joins n;
   };
-  none_after_close = while_open s.start s.past (fits_in p.grown).history.lawful;
-  full = turns_are_full (driving s.start) s.past (fits_in p.grown).history.in_turn;
+  none_after_close = while_open s.start s.past (laws_of (fits_in p.grown).history).lawful;
+  full = turns_are_full (driving s.start) s.past (laws_of (fits_in p.grown).history).in_turn;
   answers = answers_own s.start s.session s.past (fits_in p.grown);
   hears = hears_each s.start s.session s.past (fits_in p.grown);
 }

@@ -22,7 +22,7 @@ use Rattle.modem_history.specs.Information.{command_on}
 use Rattle.modem_history.specs.Kinds.{of_kind}
 use Rattle.modem_history.specs.Lawful.{Gated, Lawful, When, owed}
 use Rattle.modem_history.specs.Sessions as session
-use Rattle.modem_history.specs.Sessions.{AreOnce, Beginning, IsHistory, SessionFits, SessionView, TakesWithRoom, driving, heard_as, heards, taken_since}
+use Rattle.modem_history.specs.Sessions.{AreOnce, Beginning, SessionFits, SessionView, TakesWithRoom, driving, heard_as, heards, taken_since}
 use Rattle.modem_history.specs.SessionLaws.{untold}
 use Rattle.modem_history.proofs.law_proofs.SessionLaws.{distinct_taken}
 use Rattle.modem_history.specs.Hearing.{HearsAll}
@@ -40,6 +40,7 @@ use Rattle.modem_driver.proofs.law_proofs.GrownHistories.{fits_in}
 use Rattle.modem_driver.proofs.law_proofs.RequestNumbers.{numbered_once}
 use Rattle.modem_driver.proofs.law_proofs.RequestPlaces.{counted_own, is_counted, one_place}
 use Rattle.modem_driver.proofs.law_proofs.SubmittedOrder.{Stretch, stretch_of}
+use Rattle.modem_history.proofs.rules.MadeLaws.{laws_of}
 
 -- ## What leaves
 
@@ -87,7 +88,7 @@ pub order_of : (n : ℕ) (submitted earlier last : List Request) (b : Beginning)
     → submitted ≡ earlier ++ (of_caller n (taken_requests past) ++ last) → (newer older : List Act) → past ≡ newer ++ older → (d : ℕ) → InSubmittedOrder d older n submitted
 order_of n submitted earlier last b v past f whole newer older joins d =
     let own = λ (q : Request). q.caller == n in
-    let st : Stretch d older = stretch_of d older (room_before newer older (subst TakesWithRoom joins f.history.room)) in
+    let st : Stretch d older = stretch_of d older (room_before newer older (subst TakesWithRoom joins (laws_of f.history).room)) in
     let after = of_caller n (taken_requests newer) ++ last in
     let first : submitted ≡ earlier ++ (of_caller n (taken_requests older) ++ after) =
     whole
@@ -124,11 +125,11 @@ while_open b past l newer older f joins is_data =
 
 pub answers_own : (b : Beginning) (v : SessionView) (past : List Act) → SessionFits b v past → AnswersOwn b past
 unfolding TellsOwn
-answers_own b v past f = tells_own (driving b) past f.history.lawful refl f.history.calls (uses_once (taken_requests past) (distinct_taken b v past f))
+answers_own b v past f = tells_own (driving b) past (laws_of f.history).lawful refl (laws_of f.history).calls (uses_once (taken_requests past) (distinct_taken b v past f))
 
 pub hears_each : (b : Beginning) (v : SessionView) (past : List Act) → SessionFits b v past → HearsEach b past
 unfolding HearsAll
-hears_each b v past f = hears_all (driving b) past f.history.lawful f.history.complete
+hears_each b v past f = hears_all (driving b) past (laws_of f.history).lawful (laws_of f.history).complete
 
 pub subscription_at : (ls : List ListenerView) (i : ℕ) (l : ListenerView) → get_elem? ls i ≡ some l → get_elem? (map subscription_of ls) i ≡ some l.subscription
 subscription_at [] i l e = absurd (some-ne-none l (sym e))
@@ -194,9 +195,9 @@ has_one_place run s e i c at r in_it =
     let answers : length (filter (λ o. is_for r o) (outcomes_of run i c)) ≡ length (filter (λ o. is_for r o) (outcomes run.past)) =
     ap (λ (os : List Outcome). length (filter (λ o. is_for r o) os)) (outcomes_are run s e i c at ∙ ap (λ (m : ℕ). session.caller_outcomes m (outcomes run.past)) (sym own))
     ∙ ap (λ (os : List Outcome). length os) (of_its_caller r (outcomes run.past)) in
-    let hand : run.leftovers.in_hand ≡ untold run.past = e.finishes.hand_is ∙ hand_is (driving run.start) run.past f.history.lawful once in
-    let few = (answers_once (driving run.start) run.past f.history.lawful).once (uses_once (taken_requests run.past) once) r in
-    let place = one_place r (outcomes run.past) (taken_requests run.past) run.settlement.left few (all_answer (driving run.start) run.past f.history.lawful) (stands_once run s run.past f i c at r own in_it) in
+    let hand : run.leftovers.in_hand ≡ untold run.past = e.finishes.hand_is ∙ hand_is (driving run.start) run.past (laws_of f.history).lawful once in
+    let few = (answers_once (driving run.start) run.past (laws_of f.history).lawful).once (uses_once (taken_requests run.past) once) r in
+    let place = one_place r (outcomes run.past) (taken_requests run.past) run.settlement.left few (all_answer (driving run.start) run.past (laws_of f.history).lawful) (stands_once run s run.past f i c at r own in_it) in
     let in_hand_are : length (filter (is_same r) run.leftovers.in_hand) ≡ many r (untold run.past) = many_filtered r run.leftovers.in_hand ∙ ap (many r) hand in
     let left_are = many_filtered r run.settlement.left in
     omega (arith, answers, place, in_hand_are, left_are)
@@ -241,7 +242,7 @@ holds_each run s e i c at =
       own =
           ap (λ (qs : List Request). list_all (λ o. list_any (λ r. is_for r o) qs) (outcomes_of run i c)) (submitted_are run s run.past (fits_in e.grown) i c at)
           ∙ (ap (list_all (λ o. list_any (λ r. is_for r o) (of_caller n (taken_requests run.past) ++ of_caller n run.settlement.left))) (outcomes_are run s e i c at)
-          ∙ own_answers n (taken_requests run.past) (of_caller n run.settlement.left) (outcomes run.past) (all_answer (driving run.start) run.past (fits_in e.grown).history.lawful));
+          ∙ own_answers n (taken_requests run.past) (of_caller n run.settlement.left) (outcomes run.past) (all_answer (driving run.start) run.past (laws_of (fits_in e.grown).history).lawful));
     }
 
 -- ## The headline
@@ -253,11 +254,11 @@ headline run s =
     record {
       fits = (fits_in e.grown);
       leaves = λ newer older joins d. record {
-        is_prefix = leaves_once (driving run.start) older (lawful_part (driving run.start) newer older (subst (Lawful (driving run.start)) joins (fits_in e.grown).history.lawful)) d;
+        is_prefix = leaves_once (driving run.start) older (lawful_part (driving run.start) newer older (subst (Lawful (driving run.start)) joins (laws_of (fits_in e.grown).history).lawful)) d;
         order = λ i c at. order_of c.place.number c.submitted [] (of_caller c.place.number run.settlement.left) run.start run.session run.past (fits_in e.grown) (submitted_are run s run.past (fits_in e.grown) i c at) newer older joins d;
       };
-      none_after_close = while_open run.start run.past (fits_in e.grown).history.lawful;
-      full = turns_are_full (driving run.start) run.past (fits_in e.grown).history.in_turn;
+      none_after_close = while_open run.start run.past (laws_of (fits_in e.grown).history).lawful;
+      full = turns_are_full (driving run.start) run.past (laws_of (fits_in e.grown).history).in_turn;
       answers = answers_own run.start run.session run.past (fits_in e.grown);
       hears = hears_each run.start run.session run.past (fits_in e.grown);
       announces = announces_each run s e;

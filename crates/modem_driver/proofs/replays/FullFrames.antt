@@ -29,6 +29,7 @@ use Rattle.modem_driver.specs.Replays.{Piece, acts_in, first_of, after_call, wit
 use Rattle.modem_driver.specs.ReplayRows.{half_frames, NoReplayOfAny}
 use Rattle.modem_driver.proofs.replays.FirstActs.{brought_first}
 use Rattle.modem_driver.proofs.replays.Pieces.{turn_found, next_live, frame_out, data_next}
+use Rattle.modem_history.proofs.rules.MadeLaws.{laws_of}
 
 -- ## What waits ends with a CR
 
@@ -199,7 +200,7 @@ turns_are_full s (Given ∷ past) h = turns_are_full s past h.1
 -- so it is of every session
 pub sends_full : (b : Beginning) (v : SessionView) (past : List Act) → SendsFull b v past
 unfolding SendsFull
-sends_full b v past f = turns_are_full (driving b) past f.history.in_turn
+sends_full b v past f = turns_are_full (driving b) past (laws_of f.history).in_turn
 
 -- ## Rows
 

@@ -26,6 +26,7 @@ use Rattle.modem_driver.specs.GrownRows.{CountsBehind, CountsNotBefore, at_first
 use Rattle.modem_driver.proofs.law_proofs.Headlines.{answers_own, room_before, taken_both}
 use Rattle.modem_driver.proofs.law_proofs.SubmittedOrder.{Stretch, stretch_of}
 use Rattle.modem_driver.proofs.sessions.steps.OneFrame.{got_both}
+use Rattle.modem_history.proofs.rules.MadeLaws.{laws_of}
 
 -- ## Behind it is one
 
@@ -183,7 +184,7 @@ taken_first past f before acts joins none =
     let d = done_is s.outcome parts.1 in
     let h = answers_own beginning ok_counted past f s.newer s.older s.outcome d.lines s.joins d.answer in
     let whole : past ≡ (s.newer ++ Told s.outcome ∷ h.newer) ++ Got h.frame ∷ h.older = s.joins ∙ (ap (λ (p : List Act). s.newer ++ Told s.outcome ∷ p) h.joins ∙ sym (append_assoc s.newer (Told s.outcome ∷ h.newer) (Got h.frame ∷ h.older))) in
-    let st : Stretch h.frame.dlci h.older = stretch_of h.frame.dlci h.older (room_before ((s.newer ++ Told s.outcome ∷ h.newer) ++ Got h.frame ∷ []) h.older (subst TakesWithRoom (whole ∙ sym (append_assoc (s.newer ++ Told s.outcome ∷ h.newer) (Got h.frame ∷ []) h.older)) f.history.room)) in
+    let st : Stretch h.frame.dlci h.older = stretch_of h.frame.dlci h.older (room_before ((s.newer ++ Told s.outcome ∷ h.newer) ++ Got h.frame ∷ []) h.older (subst TakesWithRoom (whole ∙ sym (append_assoc (s.newer ++ Told s.outcome ∷ h.newer) (Got h.frame ∷ []) h.older)) (laws_of f.history).room)) in
     let accepted_third = ap (list_any is_third) h.owns.accepted_are ∙ any_before is_third h.owns.before (h.request ∷ h.owns.later) (ap (λ (b : Bool). b || list_any is_third h.owns.later) (third_is h.request s.outcome h.answers parts.0)) in
     let in_stretch = any_filtered is_third (λ (q : Request). command_on h.frame.dlci q.ask) st.stretch (sym (ap (list_any is_third) st.commands) ∙ accepted_third) in
     let taken : list_any is_third (taken_requests h.older) ≡ true = ap (list_any is_third) st.taken_are ∙ any_before is_third st.before (st.stretch ++ st.later) (any_behind is_third st.stretch st.later in_stretch) in

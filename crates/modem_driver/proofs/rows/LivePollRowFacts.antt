@@ -33,6 +33,7 @@ use Rattle.at_text.specs.Dialects.{standard}
 use Rattle.at_text.specs.Rules.{no_rules}
 use Rattle.at_text.proofs.NoRules.{no_rules_standard}
 use Rattle.modem_driver.proofs.sessions.steps.StartAndTick.{machine_begins}
+use Rattle.modem_history.proofs.rules.MadeLaws.{laws_of}
 
 never : {P : Type 0} → false ≡ true → P
 never e = cc
@@ -327,7 +328,7 @@ none_got b before acts (waits f h room e) = e
 pub is_new_session : IsNewSession
 unfolding IsNewSession BeginsFitting
 is_new_session at = record {
-  session = begins_fitting (beginning_of 31 first_line (bare_desk at));
+  session = begins_fitting (beginning_of 31 first_line (bare_desk at)) (lit≤ tt);
   inside = machine_begins no_rules standard (sym no_rules_standard) 31 [] (new_machine 31 []) (bare_desk at) refl (λ m. ((λ c. c), (λ c. c)))
       (new_fits (new_machine 31 []).core no_rules 31 [] refl (stations.new_fits Initiator 31 (new_machine 31 []).core.station.channels [] refl refl))
       (record { held_are = λ d small own opened. never opened }) first_line;
@@ -355,7 +356,7 @@ first_moves at new turn still =
     let steps = turn.turn.steps b [] (is_new_session at) in
     let later = turn.turn.goes b [] (is_new_session at) in
     let taken : taken_requests (after [] acts) ≡ [] = sym later.session.requests.taken_are ∙ still.taken in
-    let none = no_acts b t.still_heard acts is.acts_may (none_got b _ acts steps.handles) later.session.history.lawful taken in
+    let none = no_acts b t.still_heard acts is.acts_may (none_got b _ acts steps.handles) (laws_of later.session.history).lawful taken in
     or_cases _ _ is.moved (λ h. never (sym (ap (list_any (λ a. not (is_mark a))) none) ∙ h))
     (λ h1. or_cases _ _ h1 (no_more 0 (length new.line.received) (ap length still.received))
     (λ h2. or_cases _ _ h2 (no_more 0 (length new.line.sent) (ap length still.sent))

@@ -17,6 +17,7 @@ use Rattle.modem_driver.specs.PollRows.{AreNoPolls, IsLostSession, bare_desk, fi
 use Rattle.at_text.proofs.NoRules.{no_rules_standard}
 use Rattle.modem_driver.proofs.sessions.steps.Kinds.{in_listened, listened_in}
 use Rattle.modem_driver.proofs.sessions.polls.PollLaws.{lost_fails, lost_gives_failed}
+use Rattle.modem_history.specs.Rules.{call, nothing}
 
 never : {P : Type 0} → false ≡ true → P
 never e = cc
@@ -25,7 +26,7 @@ pub is_lost_session : IsLostSession
 unfolding IsLostSession Lawful Complete
 is_lost_session at = record {
   session = record {
-    history = record { lawful = (record { gated = tt; once = tt; in_turn = tt; controlled = tt; answered = tt; heard = tt; prompt = tt; held = tt; marked = tt }, tt); complete = refl; calls = ((λ e. refl), tt); room = tt; in_turn = (tt, tt) };
+    history = call [] Lost (nothing (lit≤ tt)) refl;
     loss = record { one = lit≤ tt; by_fault = λ gone. lit< tt };
     requests = record { taken_are = refl; once = refl; callers = refl; few = lit≤ tt };
     received = record { fed = []; received_are = refl; bound = refl; deframes = past_none 31 };

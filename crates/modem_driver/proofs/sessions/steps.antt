@@ -21,7 +21,6 @@ pub mod NextRequest
 pub mod TakenRequests
 pub mod QueuedInformation
 pub mod NextFrame
-pub mod FrameLines
 pub mod FrameAtHand
 pub mod FirstWaiting
 pub mod Amounts

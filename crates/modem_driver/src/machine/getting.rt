@@ -33,15 +33,15 @@ impl Machine {
             self.line_end.advance();
             return Ok(true);
         }
-        let Ok(()) = self.waiting.make_room(frame.info.len()) else {
-            return Err(SessionFault::NoMemory);
-        };
         let stop = self.core.stop();
-        let Ok(acts) = self.core.follow(frame, &mut self.fork) else {
+        let Ok(()) = self
+            .core
+            .follow(frame, &mut self.fork, &mut self.said, &mut self.waiting)
+        else {
             return Err(SessionFault::NoMemory);
         };
-        self.course.note(stop, acts.as_slice());
-        self.waiting.keep(acts);
+        self.course.note(stop, self.said.as_slice());
+        self.waiting.keep(&mut self.said);
         self.line_end.advance();
         Ok(true)
     }

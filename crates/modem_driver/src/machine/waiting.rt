@@ -92,12 +92,12 @@ impl Waiting {
     }
 
     /// What the acts tell and announce waits behind the others. There is room where the outcomes that
-    /// wait are then 128 at most, and where room was made for the lines.
+    /// wait are then 128 at most, and where room was made for the lines. The list of acts keeps its memory.
     #[tactic(auto, using(crate::proofs::sessions::steps::CollectedActs::keeps_first, crate::proofs::sessions::steps::CollectedActs::keeps_put, crate::proofs::sessions::steps::CollectedActs::kept_outcomes, crate::proofs::sessions::steps::CollectedActs::kept_lines))]
-    pub(crate) fn keep(&mut self, acts: Vec<Act>)
-        ensures { Keeps self.old self.new (map act_of acts.items) }
+    pub(crate) fn keep(&mut self, acts: &mut Vec<Act>)
+        ensures { Keeps self.old self.new (map act_of acts.old.items) }
     {
-        for act in acts {
+        for act in acts.drain(..) {
             self.put(act);
         }
     }

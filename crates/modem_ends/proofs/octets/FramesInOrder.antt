@@ -21,6 +21,7 @@ use Rattle.modem_ends.proofs.octets.WithinFrames.{Within}
 use Rattle.modem_ends.proofs.octets.ReadFrames.{first_within, handed_first, handed_within}
 use Rattle.modem_ends.proofs.octets.DriverWithin.{TakesShort, sents_within}
 use Rattle.modem_ends.proofs.octets.ModemWithin.{sent_within}
+use Rattle.modem_history.proofs.rules.MadeLaws.{laws_of}
 
 -- ## In both orders
 
@@ -106,9 +107,9 @@ pub modem_gets : (b : Beginning) (v : SessionView) (past : List driver.Act) (e :
     → 31 ≤ b.n1 → b.n1 ≤ 32767 → e.n1 ≡ b.n1 → TakesShort past → b.line.sent ≡ [] → came ++ behind ≡ v.line.sent → AreOctets v.line.sent → AreOctets v.unwritten
     → ComesInOrder (driver.wire past) (modem.wire far)
 modem_gets b v past e came went behind k far f g low high same short fresh joins octets waiting =
-    let order = gives_in_order (driving b) past f.history.lawful in
+    let order = gives_in_order (driving b) past (laws_of f.history).lawful in
     let gots_in : Within b.n1 (gots past) = subst (λ (n : ℕ). Within n (gots past)) f.received.bound (handed_within f.received.fed (gots past) v.deframer f.received.deframes) in
-    let sents_in : Within b.n1 (sents past) = sents_within (driving b) past low f.history.lawful gots_in short in
+    let sents_in : Within b.n1 (sents past) = sents_within (driving b) past low (laws_of f.history).lawful gots_in short in
     let given_in = first_within b.n1 (given_on past) order.later (subst (Within b.n1) order.sent_are sents_in) in
     let whole : (came ++ behind) ++ v.unwritten ≡ flat_map spelled (given_on past) =
     ap (λ (xs : List ℕ). xs ++ v.unwritten) (joins ∙ (f.sent.sent_are ∙ ap (λ (xs : List ℕ). xs ++ f.sent.since) fresh)) ∙ f.sent.frames_are in

@@ -21,7 +21,8 @@ use Rattle.modem_history.proofs.requests.UntoldRequests.{hand_is}
 use Rattle.modem_history.proofs.requests.RequestsAfterCalls.{distinct_front}
 use Rattle.modem_history.specs.Requests.{are_distinct}
 use Rattle.std.specs.List.{list_all}
-use Rattle.modem_history.specs.Lawful.{Lawful, Complete}
+use Rattle.modem_history.specs.Rules.{nothing}
+use Rattle.modem_history.proofs.rules.MadeLaws.{laws_of}
 use Rattle.modem_history.specs.Sessions.{Beginning, SessionView, SessionFits, FitsSent, FitsWith, AreOnce, driving, taken_since, gots, given_on, octets_of_frames, at_place, caller_outcomes}
 use Rattle.modem_history.specs.SessionLaws.{BeginsFitting, GotAreRead, SendsSpellings, HasMarks, TellsOnce, FitsSays, RunsOn, KeepsHistory, CallsRunOn, CallsKeepHistory, by_test, untold}
 use Rattle.modem_history.specs.SessionRows.{HasNone, beginning, first_request, opened_zero}
@@ -41,7 +42,7 @@ sent_whole b v past f =
 
 pub sends_spellings : (b : Beginning) (v : SessionView) (past : List Act) → SessionFits b v past → SendsSpellings b v past
 sends_spellings b v past f =
-    let order = gives_in_order (driving b) past f.history.lawful in
+    let order = gives_in_order (driving b) past (laws_of f.history).lawful in
     let later = octets_of_frames order.later in
     let given = octets_of_frames (given_on past) in
     record {
@@ -77,7 +78,7 @@ spelled_first (w ∷ whole) (g ∷ given) later other x e h =
 
 pub has_marks : (b : Beginning) (v : SessionView) (past : List Act) → SessionFits b v past → HasMarks b v past
 has_marks b v past f whole later rest e h =
-    let order = gives_in_order (driving b) past f.history.lawful in
+    let order = gives_in_order (driving b) past (laws_of f.history).lawful in
     let wholes = octets_of_frames whole in
     let both : b.line.sent ++ octets_of_frames (given_on past) ≡ b.line.sent ++ (wholes ++ (rest ++ v.unwritten)) =
     sym (sent_whole b v past f.sent)
@@ -110,9 +111,9 @@ drop_own [] = refl
 drop_own (q ∷ qs) = drop_own qs
 
 pub begins_fitting : (b : Beginning) → BeginsFitting b
-unfolding BeginsFitting Lawful Complete
-begins_fitting b = record {
-  history = record { lawful = tt; complete = refl; calls = tt; room = tt; in_turn = tt };
+unfolding BeginsFitting
+begins_fitting b n = record {
+  history = nothing n;
   loss = record { one = lit≤ tt; by_fault = λ gone. absurd (never gone) };
   requests = record {
     taken_are = sym (append-nil b.desk.taken);
@@ -137,7 +138,7 @@ pub distinct_taken : (b : Beginning) (v : SessionView) (past : List Act) → Ses
 distinct_taken b v past f = sym (ap are_distinct (since_are b v past f)) ∙ f.requests.once
 
 pub hand_is_untold : (b : Beginning) (v : SessionView) (past : List Act) → SessionFits b v past → in_hand past ≡ untold past
-hand_is_untold b v past f = hand_is (driving b) past f.history.lawful (distinct_taken b v past f)
+hand_is_untold b v past f = hand_is (driving b) past (laws_of f.history).lawful (distinct_taken b v past f)
 
 pub tells_once : (b : Beginning) (v : SessionView) (past : List Act) → SessionFits b v past → TellsOnce b v
 tells_once b v past f r since e =
@@ -145,14 +146,14 @@ tells_once b v past f r since e =
     let same : since ≡ to.since = append_cancel_left (at_place r.caller b.desk.told) since to.since (sym e ∙ to.told_are) in
     let whole : since ++ caller_outcomes r.caller v.unplaced ≡ caller_outcomes r.caller (outcomes past) = ap (λ (os : List Outcome). os ++ caller_outcomes r.caller v.unplaced) same ∙ to.outcomes_are in
     let theirs : filter (λ o. is_for r o) (since ++ caller_outcomes r.caller v.unplaced) ≡ filter (λ o. is_for r o) (outcomes past) = ap (filter (λ o. is_for r o)) whole ∙ of_its_caller r (outcomes past) in
-    let few = (answers_once (driving b) past f.history.lawful).once (uses_once (taken_requests past) (distinct_taken b v past f)) r in
+    let few = (answers_once (driving b) past (laws_of f.history).lawful).once (uses_once (taken_requests past) (distinct_taken b v past f)) r in
     subst (λ (os : List Outcome). length os ≤ 1) (sym theirs) few
 
 pub fits_says : (b : Beginning) (v : SessionView) (past : List Act) → FitsSays b v past
 unfolding FitsSays
 fits_says b v past f = record {
   read = got_are_read b v past f;
-  order = gives_in_order (driving b) past f.history.lawful;
+  order = gives_in_order (driving b) past (laws_of f.history).lawful;
   spelled = sends_spellings b v past f;
   marked = has_marks b v past f;
   in_hand = hand_is_untold b v past f;

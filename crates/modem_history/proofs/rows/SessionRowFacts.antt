@@ -24,6 +24,7 @@ use Rattle.modem_history.specs.Rows.{framed, opening_one}
 use Rattle.modem_history.specs.SessionRows.{SessionRow, IsRight, IsWrong, Each, beginning, entry_answer, lf_octet, zero_came, one_came, ua_zero, broken_ua_zero, ring_one, last_flag, ring}
 use Rattle.modem_history.specs.GoodSessions.{right_sessions, nothing_yet, sabm_queued, sabm_half_sent, ua_unfed, ua_at_hand, zero_opened, outcome_waits, csq_sent, ring_announced, ring_comes, ring_waits, line_lost}
 use Rattle.modem_history.specs.BadSessions.{wrong_sessions, written_twice, octet_left_out, octet_waits_again, marked_too_early, marked_too_late, two_marked, data_overtakes_octets, data_overtakes_frame, half_a_frame, octets_of_none, broken_frame_got, got_too_soon, got_unfed, frame_dropped, flag_dropped, other_n1, request_dropped, request_invented, number_twice, caller_unknown, sound_line_lost, lost_twice, told_and_kept, outcome_dropped, told_to_another, told_by_number, told_in_other_order, not_told_at_all, announced_out_of_order, announced_elsewhere, announced_twice, line_dropped, unheard_line_waits, lines_change_places, announced_beyond}
+use Rattle.modem_history.proofs.rules.MadeLaws.{laws_of}
 use Rattle.modem_history.proofs.rows.HistoryTests.{refused, incomplete}
 use Rattle.modem_history.proofs.rows.SessionTests.{all_small, small_octets, frames_in, rest_of, read_in, is_read, fed_is, fits_by, fits_none, octets_differ, acts_differ, outcomes_differ, requests_differ}
 
@@ -157,13 +158,13 @@ unfolding check_octet_of body_of
 data_overtakes_octets_wrong f = octets_differ _ _ refl (sent_whole _ _ _ f.sent)
 
 half_a_frame_wrong : IsWrong half_a_frame
-half_a_frame_wrong f = octets_differ _ _ refl (ap info_out f.history.in_turn.1.0)
+half_a_frame_wrong f = octets_differ _ _ refl (ap info_out (laws_of f.history).in_turn.1.0)
 
 octets_of_none_wrong : IsWrong octets_of_none
 octets_of_none_wrong f = octets_differ _ _ refl (sent_whole _ _ _ f.sent)
 
 data_overtakes_frame_wrong : IsWrong data_overtakes_frame
-data_overtakes_frame_wrong f = refused (driving beginning) (after [] data_overtakes_frame.acts) refl f.history.lawful
+data_overtakes_frame_wrong f = refused (driving beginning) (after [] data_overtakes_frame.acts) refl (laws_of f.history).lawful
 
 -- what is left of a list is no longer than it
 no_longer : (n : ℕ) (xs ys : List ℕ) → nat_lt (length ys) (length xs) ≡ true → xs ≡ drop n ys → ⊥
@@ -250,7 +251,7 @@ told_in_other_order_wrong : IsWrong told_in_other_order
 told_in_other_order_wrong f = outcomes_differ _ _ refl (told_whole _ _ (f.told.each 0))
 
 not_told_at_all_wrong : IsWrong not_told_at_all
-not_told_at_all_wrong f = incomplete (driving beginning) (after [] not_told_at_all.acts) refl f.history.complete
+not_told_at_all_wrong f = incomplete (driving beginning) (after [] not_told_at_all.acts) refl (laws_of f.history).complete
 
 -- ## Lines
 

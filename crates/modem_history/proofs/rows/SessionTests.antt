@@ -1,5 +1,5 @@
 -- Whether a session fits a history, by tests that compute.
-use Rattle.std.proofs.Common.{ap, sym, ◌∙◌, subst, arith, lit<, eqb-true}
+use Rattle.std.proofs.Common.{ap, sym, ◌∙◌, subst, arith, lit<, lit≤, eqb-true}
 use Rattle.std.specs.Prelude.{◌≡◌, ℕ, zero, suc, ◌+◌, ◌<◌, ◌≤◌, ◌==◌, ◌&&◌, ◌||◌, not, nat_lt, nat_le, Bool, true, false, List, [], ◌∷◌, ◌++◌, length, drop, filter, flat_map, map, refl, Option, None, Some}
 use Rattle.std.specs.List.{list_all}
 use Rattle.std.specs.Str.{bytes_eq}
@@ -32,7 +32,9 @@ use Rattle.modem_history.specs.Wholes.{CompleteCalls, is_said, taken_requests, o
 use Rattle.modem_history.specs.Requests.{are_distinct}
 use Rattle.modem_history.specs.Kinds.{is_listened, of_kind}
 use Rattle.modem_history.specs.Entering.{entry_text}
-use Rattle.modem_history.specs.Sessions.{Beginning, AnnouncedTo, driving, gots, given_on, octets_of_frames, last_octets, heards, heard_as, heard_behind, announced_of, IsHistory, TakesWithRoom, caller_outcomes, at_place}
+use Rattle.modem_history.specs.Sessions.{Beginning, AnnouncedTo, driving, gots, given_on, octets_of_frames, last_octets, heards, heard_as, heard_behind, announced_of, TakesWithRoom, caller_outcomes, at_place}
+use Rattle.modem_history.specs.Rules.{Made}
+use Rattle.modem_history.proofs.rules.LawfulHistories.{made_by}
 use Rattle.modem_history.specs.SessionRows.{SessionRow, IsRight, beginning, entry_answer}
 use Rattle.modem_history.proofs.rows.HistoryTests.{good, steps_of, steps_test, run, quiet_test, is_nil, act_code}
 
@@ -153,19 +155,19 @@ sends_in_turn s (Held d ∷ past) e = (tt, sends_in_turn s past e)
 sends_in_turn s (Freed d ∷ past) e = (tt, sends_in_turn s past e)
 sends_in_turn s (Given ∷ past) e = (tt, sends_in_turn s past e)
 
-pub history_is : (b : Beginning) (acts : List Act) → steps_test (driving b) [] (steps_of acts) ≡ true
+pub history_is : (b : Beginning) (acts : List Act) → 1 ≤ b.n1 → steps_test (driving b) [] (steps_of acts) ≡ true
     → run (driving b) [] (steps_of acts) ≡ after [] acts → quiet_test (driving b) (after [] acts) ≡ true
-    → (calls_test (driving b) (after [] acts) && room_test (after [] acts)) ≡ true → data_out (after [] acts) ≡ next_outs (driving b) (after [] acts) → IsHistory b (after [] acts)
-history_is b acts h e q k n =
+    → (calls_test (driving b) (after [] acts) && room_test (after [] acts)) ≡ true → data_out (after [] acts) ≡ next_outs (driving b) (after [] acts) → Made (driving b) (after [] acts)
+history_is b acts low h e q k n =
     let keeps = good (driving b) acts h e q in
     let parts = and_parts (calls_test (driving b) (after [] acts)) (room_test (after [] acts)) k in
-    record {
+    made_by (driving b) (after [] acts) low (record {
       lawful = keeps.lawful;
       complete = keeps.complete;
       calls = complete_calls (driving b) (after [] acts) parts.0;
       room = takes_with_room (after [] acts) parts.1;
       in_turn = sends_in_turn (driving b) (after [] acts) n;
-    }
+    })
 
 -- ## Octets that come
 
@@ -375,7 +377,7 @@ fits_by row fed written h e deframes =
     let p11 = and_parts _ _ p10.1 in
     let lost = and_parts _ _ p4.0 in
     record {
-      history = history_is beginning row.acts p1.0 (sym (ap (λ (x : Sides). x.acts) e)) p2.0 p3.0 (ap (λ (x : Sides). x.next) e);
+      history = history_is beginning row.acts (lit≤ tt) p1.0 (sym (ap (λ (x : Sides). x.acts) e)) p2.0 p3.0 (ap (λ (x : Sides). x.next) e);
       loss = record { one = leb-true _ 1 lost.0; by_fault = λ gone. lost_by (is_lost (after [] row.acts)) row.view.line.failures lost.1 gone };
       requests = record { taken_are = ap (λ (x : Sides). x.requests) e; once = p5.0; callers = p6.0; few = leb-true _ 128 p7.0 };
       received = record { fed = fed; received_are = ap (λ (x : Sides). x.received) e; bound = ap (λ (x : Sides). x.bound) e; deframes = deframes };

@@ -1,5 +1,5 @@
 use at_cmds::{Command, Reply};
-use at_text::{AnswerLine, CommandLine};
+use at_text::{AnswerLines, CommandLine};
 use modem_desk::{Answer, Ask, Request};
 use modem_driver::{Act, Event, Octets, replay};
 use modem_runs::push_frame;
@@ -165,7 +165,7 @@ fn damaged_octets_tell_no_request_twice(rt: HostRuntime) -> Result<(), Fail> {
     Ok(())
 }
 
-fn is_signal(alloc: Global, lines: &[AnswerLine]) -> bool {
+fn is_signal(alloc: Global, lines: &AnswerLines) -> bool {
     let reply = Reply::read(alloc, &Command::Signal, lines);
     matches!(reply, Ok(Reply::Signal { rssi: 18, ber: 99 }))
 }
@@ -180,7 +180,7 @@ fn an_answer_is_read_as_the_typed_reply(rt: HostRuntime) -> Result<(), Fail> {
         if let Act::Told(outcome) = act
             && let Answer::Done(lines) = &outcome.answer
         {
-            assert!(rt; outcome.number == 3 && is_signal(alloc, lines.as_slice()));
+            assert!(rt; outcome.number == 3 && is_signal(alloc, lines));
             replies = replies.saturating_add(1);
         }
     }

@@ -4,5 +4,5 @@ use Rattle.std.specs.List.{flat_map}
 use Rattle.modem_c.specs.Texts.{line_text}
 use Rattle.modem_c.proofs.outcomes.octets_of.Given as goal
 
-abbrev pub invariant-loop-line : goal.invariant-loop-line
-invariant-loop-line l = l.sum ≡ min (length (flat_map line_text (take l.line-index l.lines))) (2 ^ 64 - 1)
+abbrev pub invariant-loop-i : goal.invariant-loop-i
+invariant-loop-i l = l.sum ≡ min (length (flat_map line_text (take l.i l.lines))) (2 ^ 64 - 1)

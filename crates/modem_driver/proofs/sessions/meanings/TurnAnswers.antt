@@ -20,6 +20,7 @@ use Rattle.modem_history.specs.GoingOut.{next_out, out_by}
 use Rattle.modem_driver.specs.TurnSteps.{TurnState, StandingFits, Places, Checks, SendsOn, Writes, Gets, ReadsOn, TakesOne, view_of, is_more}
 use Rattle.modem_driver.proofs.sessions.meanings.WholeTurns.{Went, placed, went_placed, went_step, went_wrote, went_read, went_took}
 use Rattle.modem_history.specs.Turns.{Exchange, AllAreGot, has_moved, amount}
+use Rattle.modem_history.proofs.rules.MadeLaws.{laws_of}
 
 -- ## Whether anything moved
 
@@ -68,7 +69,7 @@ none_queued b past live none = by_queue (queue (wire past)) (ap (λ (c : Bool). 
 -- and all frames sent were given on
 pub all_given : (b : Beginning) (s : TurnState) (past : List Act) → StandingFits b s past → is_lost past ≡ false → queue (wire past) ≡ [] → sents past ≡ given_on past
 all_given b s past f live none =
-    let order = gives_in_order (driving b) past f.session.history.lawful in
+    let order = gives_in_order (driving b) past (laws_of f.session.history).lawful in
     order.sent_are ∙ (ap (λ (fs : List Frame). given_on past ++ fs) (order.waits live ∙ none) ∙ append-nil (given_on past))
 
 pub all_sent : (b : Beginning) (s : TurnState) (past : List Act) → StandingFits b s past → s.machine.unwritten ≡ [] → sents past ≡ given_on past → s.line.sent ≡ b.line.sent ++ octets_of_frames (sents past)

@@ -52,6 +52,7 @@ use Rattle.modem_driver.proofs.sessions.steps.CoreCalls.{FitsMachine}
 use Rattle.modem_driver.proofs.sessions.steps.OutcomeCounts.{any_left, none_of}
 use Rattle.modem_driver.proofs.sessions.polls.StopProgress.{NoneEnds}
 use Rattle.modem_driver.proofs.sessions.polls.StopsInHand.{any_same, ends, ends_by, later_ends, still_stopped, stopped_both, stops_left, unless_ends}
+use Rattle.modem_history.proofs.rules.MadeLaws.{laws_of}
 
 -- ## The Stop that ended was in hand
 
@@ -156,7 +157,7 @@ none_noted b l d old past acts more a f are bare lawful said told unnoted none =
     by_end false e = refl
     by_end true e =
         let same : taken_requests (after past acts) ≡ taken_requests past = ap (λ (xs : List Act). taken_requests (after past xs)) are ∙ (taken_after more (a ∷ past) said ∙ bare) in
-        let some = ended_in_hand (driving b) past acts f.session.history.lawful lawful (distinct_taken b (seen_by l (end_of d) old) past f.session) same none e in
+        let some = ended_in_hand (driving b) past acts (laws_of f.session.history).lawful lawful (distinct_taken b (seen_by l (end_of d) old) past f.session) same none e in
         let it = found (in_hand past) (λ (q : Request). list_any (λ (o : Outcome). is_for q o && ends_stop o.answer) (outcomes_told acts)) f.inside.one_stop some in
         let first : find is_stop old.core.hand ≡ Some it.stop = ap (find is_stop) (sym f.inside.fits.hand_is) ∙ it.is_found in
         let noted : is_answered (option_map asker_of (find is_stop old.core.hand)) acts ≡ true = ap (λ (o : Option Request). is_answered (option_map asker_of o) acts) first ∙ (told_ends it.stop acts ∙ it.passes) in

@@ -32,6 +32,7 @@ use Rattle.modem_driver.proofs.sessions.steps.ListenedLines.{heard_both}
 use Rattle.modem_driver.proofs.sessions.steps.OneFrame.{none_both}
 use Rattle.modem_driver.proofs.sessions.meanings.TurnFaults.{none_loses}
 use Rattle.modem_driver.proofs.sessions.steps.OneBacklog.{checks_one}
+use Rattle.modem_history.proofs.rules.MadeLaws.{laws_of}
 
 -- ## 0 is never held
 
@@ -253,16 +254,16 @@ all_held first now moved so l d b past f live empty =
     let fits = so.goes b l d past f in
     let here : is_lost past ≡ false = subst (λ (xs : List Act). is_lost (after past xs) ≡ false) s.0 (fits.inside.fits.lost_is ∙ live) in
     subst (λ (xs : List Act). HoldsByBacklog (seen_by l (end_of d) now) (after past xs)) (sym s.0)
-    (holds_by b (seen_by l (end_of d) now) past first.unannounced (ap (λ (k : Machine). k.unannounced) so.stays) here f.session.history.lawful s.1)
+    (holds_by b (seen_by l (end_of d) now) past first.unannounced (ap (λ (k : Machine). k.unannounced) so.stays) here (laws_of f.session.history).lawful s.1)
 
 all_looked : (first now : Machine) (us : List Urc) (l : LineView) (d : DriverView) (b : Beginning) (past : List Act) → now.unannounced ≡ us → is_lost past ≡ false → FitsMachine b l d first past → NoneDue b past us 62 ⊎ LacksMscRoom b past
     → HoldsWhereRoom b (seen_by l (end_of d) now) past
-all_looked first now us l d b past same live f (inl none) = inl (holds_by b (seen_by l (end_of d) now) past us same live f.session.history.lawful none)
+all_looked first now us l d b past same live f (inl none) = inl (holds_by b (seen_by l (end_of d) now) past us same live (laws_of f.session.history).lawful none)
 all_looked first now us l d b past same live f (inr full) = inr full
 
 all_flowed : (first now : Machine) (l : LineView) (d : DriverView) (b : Beginning) (past acts : List Act) → now.unannounced ≡ first.unannounced → is_lost (after past acts) ≡ false → FitsMachine b l d now (after past acts)
     → NoneDue b (after past acts) first.unannounced 62 ⊎ LacksMscRoom b (after past acts) → HoldsWhereRoom b (seen_by l (end_of d) now) (after past acts)
-all_flowed first now l d b past acts same live f (inl none) = inl (holds_by b (seen_by l (end_of d) now) (after past acts) first.unannounced same live f.session.history.lawful none)
+all_flowed first now l d b past acts same live f (inl none) = inl (holds_by b (seen_by l (end_of d) now) (after past acts) first.unannounced same live (laws_of f.session.history).lawful none)
 all_flowed first now l d b past acts same live f (inr full) = inr full
 
 pub checks_all : (first now : Machine) (number : ℕ) (moved : Bool) → number ≡ 62 → ChecksSo first now number moved → (l : LineView) (d : DriverView) → Checks (turn_state l d first) (turn_state l d now) moved

@@ -27,6 +27,8 @@ use Rattle.modem_driver.proofs.sessions.steps.OutcomeCounts.{is_caller, hand_cou
 use Rattle.modem_driver.proofs.sessions.steps.ListenedLines.{Hear, all_listened}
 use Rattle.modem_driver.proofs.sessions.steps.WaitingDeliveries.{told_part, heard_part, sent_part}
 use Rattle.modem_driver.proofs.sessions.polls.StopsInHand.{said_stops}
+use Rattle.modem_history.proofs.rules.MadeLaws.{laws_of, takes_octet}
+use Rattle.modem_history.proofs.rules.LawfulHistories.{made_by}
 
 -- the session fits the history
 abbrev pub FitsMachine : Beginning → LineView → DriverView → Machine → List Act → Type 0
@@ -40,9 +42,9 @@ callers_taken b l d k past f = sym (ap (list_all (is_caller b.callers)) (since_a
 
 pub is_run : (b : Beginning) (l : LineView) (d : DriverView) (k : Machine) (past : List Act) → FitsMachine b l d k past → IsRun (driving b) past
 is_run b l d k past f = record {
-  lawful = f.session.history.lawful;
-  complete = f.session.history.complete;
-  whole = f.session.history.calls;
+  lawful = (laws_of f.session.history).lawful;
+  complete = (laws_of f.session.history).complete;
+  whole = (laws_of f.session.history).calls;
   numbers = uses_once (taken_requests past) (distinct_taken b (seen_by l (end_of d) k) past f.session);
 }
 
@@ -95,13 +97,13 @@ call_fits b l d old new past more a f bare goes holds delays said hear keeps unw
     let callers : list_all (is_caller b.callers) (taken_requests (a ∷ past)) ≡ true = ap (list_all (is_caller b.callers)) bare.taken_is ∙ callers_taken b l d old past f in
     record {
       session = record {
-        history = record {
+        history = made_by (driving b) (after past (a ∷ more)) (takes_octet (driving b) past s.history) (record {
           lawful = goes.run.lawful;
           complete = goes.run.complete;
           calls = goes.run.whole;
-          room = room_after more (a ∷ past) said (bare.room_is s.history.room);
-          in_turn = turn_after (driving b) more (a ∷ past) said (bare.turn_is (driving b) s.history.in_turn);
-        };
+          room = room_after more (a ∷ past) said (bare.room_is (laws_of s.history).room);
+          in_turn = turn_after (driving b) more (a ∷ past) said (bare.turn_is (driving b) (laws_of s.history).in_turn);
+        });
         loss = loss;
         requests = record {
           taken_are = s.requests.taken_are ∙ ap (λ (qs : List Request). b.desk.taken ++ qs) (sym bare.taken_is ∙ sym (taken_after more (a ∷ past) said));

@@ -29,7 +29,6 @@ use Rattle.modem_driver.proofs.sessions.steps.LongerHistories.{gots_after, losse
 use Rattle.modem_driver.proofs.sessions.steps.CoreCalls.{FitsMachine, IsBare, KeepsMore, call_fits, few_told, may_come}
 use Rattle.modem_driver.proofs.sessions.polls.StopProgress.{come_noted, ended_after, grows_none}
 use Rattle.modem_driver.proofs.sessions.steps.OneBacklog.{said_may}
-use Rattle.modem_driver.proofs.sessions.steps.FrameLines.{few_called}
 use Rattle.modem_driver.proofs.sessions.steps.ListenedLines.{calls_hear}
 use Rattle.modem_driver.proofs.sessions.steps.NextFrame.{stands_in}
 use Rattle.modem_driver.proofs.sessions.steps.OneFrame.{one_few, said_none}
@@ -50,7 +49,7 @@ record Gotten (b : Beginning) (l : LineView) (d : DriverView) (old new : Machine
   got : gots (came f acts) ≡ f ∷ []
 
 gotten : (old : Machine) (core : Core) (fed : Deframing) (room : ℕ) (w : WaitingLists) (acts : List Act) (f : Frame)
-    → Handles old.core core (Got f) acts → KeepsHeld old.core core (Got f) acts → Keeps (record { outcomes = old.unplaced; lines = old.unannounced; room = room }) w acts → length f.info ≤ room
+    → Handles old.core core (Got f) acts → KeepsHeld old.core core (Got f) acts → Keeps (record { outcomes = old.unplaced; lines = old.unannounced; room = room }) w acts → length (lines_heard acts) ≤ room
     → old.deframer.next ≡ Some f → fed.n1 ≡ old.deframer.n1 → HandsOver old.deframer fed
     → (b : Beginning) (l : LineView) (d : DriverView) (past : List Act) → FitsMachine b l d old past → Gotten b l d old (record old { core = core; deframer = fed; unplaced = w.outcomes; unannounced = w.lines; course = course_after old.course (is_answered (option_map asker_of (find is_stop old.core.hand)) acts) }) past f acts
 unfolding Handles KeepsHeld
@@ -65,10 +64,9 @@ gotten old core fed room w acts f handles held keeps enough at_hand bound over b
     let same : came f acts ≡ a ∷ more = ap (λ (xs : List Act). Got f ∷ drop 1 xs) on.called in
     let here : GoesOn s core past a (a ∷ more) = subst (GoesOn s core past a) on.called on in
     let hold : HoldsFit core (after past (a ∷ more)) = subst (λ (xs : List Act). HoldsFit core (after past xs)) on.called (held s past may fit.inside.holds) in
-    let few = few_called s past f in
     let keep : KeepsMore old new (a ∷ more) = subst (KeepsMore old new) on.called (record {
       outcomes = keeps.outcomes;
-      lines = keeps.lines (subst (λ (xs : List Act). length (lines_heard xs) ≤ room) (sym on.called) (omega (arith, few, enough)));
+      lines = keeps.lines enough;
     }) in
     let lost : FitsLoss b (seen_by l (end_of d) new) (after past (a ∷ more)) = record {
       one = subst (λ (xs : List Act). length xs ≤ 1) (sym (losses_after more (a ∷ past) said)) fit.session.loss.one;
@@ -100,7 +98,7 @@ gotten old core fed room w acts f handles held keeps enough at_hand bound over b
     }
 
 pub gets_moved : (old : Machine) (core : Core) (fed : Deframing) (room : ℕ) (w : WaitingLists) (acts : List Act) (f : Frame)
-    → Handles old.core core (Got f) acts → KeepsHeld old.core core (Got f) acts → Keeps (record { outcomes = old.unplaced; lines = old.unannounced; room = room }) w acts → length f.info ≤ room
+    → Handles old.core core (Got f) acts → KeepsHeld old.core core (Got f) acts → Keeps (record { outcomes = old.unplaced; lines = old.unannounced; room = room }) w acts → length (lines_heard acts) ≤ room
     → old.deframer.next ≡ Some f → fed.n1 ≡ old.deframer.n1 → HandsOver old.deframer fed
     → MachineGets old (record old { core = core; deframer = fed; unplaced = w.outcomes; unannounced = w.lines; course = course_after old.course (is_answered (option_map asker_of (find is_stop old.core.hand)) acts) }) true
 unfolding MachineGets Leads AddsAll

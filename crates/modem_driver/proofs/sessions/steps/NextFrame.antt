@@ -41,6 +41,7 @@ use Rattle.modem_driver.proofs.sessions.steps.QueuedInformation.{queue_plain}
 use Rattle.mux_station.proofs.law_proofs.ControlFrames.{is_plain}
 use Rattle.modem_driver.proofs.sessions.polls.StopsInHand.{ends, none_ends}
 use Rattle.modem_driver.specs.Endings.{is_stop}
+use Rattle.modem_history.specs.Rules.{goes_out}
 
 -- ## What goes out of a history
 
@@ -197,7 +198,7 @@ out_fits old c f out none short goes on holds writes b l d past fit =
     let before : sent.since ≡ octets_of_frames (given_on past) = sym (append-nil sent.since) ∙ (ap (λ (xs : List ℕ). sent.since ++ xs) (sym none) ∙ sent.frames_are) in
     record {
       session = record {
-        history = record { lawful = goes_on.run.lawful; complete = goes_on.run.complete; calls = goes_on.run.whole; room = more.room_is h.history.room; in_turn = out_in_turn s c f past next h.history.in_turn };
+        history = goes_out past (with_freshness c f) h.history (sym next);
         loss = record {
           one = subst (λ (xs : List Act). length xs ≤ 1) (sym more.losses_are) h.loss.one;
           by_fault = λ gone. h.loss.by_fault (sym more.lost_is ∙ gone);

@@ -1,6 +1,6 @@
 -- A request is taken.
 use Rattle.std.proofs.Common.{ap, sym, ◌∙◌, subst, arith}
-use Rattle.std.proofs.lemmas.Bool.{and_from}
+use Rattle.std.proofs.lemmas.Bool.{and_from, lt-ltb}
 use Rattle.std.proofs.lemmas.List.{append_assoc, length-append}
 use Rattle.std.proofs.lemmas.List.Folds.{list_all-append}
 use Rattle.std.specs.Prelude.{◌≡◌, ℕ, ◌+◌, ◌≤◌, true, List, [], ◌∷◌, ◌++◌, length, refl, drop}
@@ -24,7 +24,7 @@ use Rattle.modem_driver.specs.SessionStates.{Machine, seen_by, end_of}
 use Rattle.modem_driver.specs.TurnSteps.{Adds}
 use Rattle.modem_driver.specs.TurnTakes.{MachineTakes, TakesNext}
 use Rattle.modem_driver.specs.WaitingLists.{WaitingLists, Keeps}
-use Rattle.modem_driver.proofs.sessions.steps.LongerHistories.{gots_after, taken_after, given_after, losses_after, lost_after, room_after, turn_after}
+use Rattle.modem_driver.proofs.sessions.steps.LongerHistories.{gots_after, taken_after, given_after, losses_after, lost_after}
 use Rattle.modem_driver.proofs.sessions.steps.CoreCalls.{FitsMachine, callers_taken, is_run}
 use Rattle.modem_driver.proofs.sessions.steps.OutcomeCounts.{is_caller, hand_counts, callers_told}
 use Rattle.modem_driver.proofs.sessions.polls.StopProgress.{come_on, grows_none}
@@ -34,6 +34,8 @@ use Rattle.modem_driver.proofs.sessions.steps.WaitingDeliveries.{told_part, hear
 use Rattle.modem_driver.proofs.sessions.steps.OneFrame.{said_few}
 use Rattle.modem_driver.proofs.sessions.polls.EndedStops.{took_none, took_stops}
 use Rattle.mux_station.specs.declared.role.Role.TheVariants.{Initiator}
+use Rattle.modem_history.proofs.rules.MadeLaws.{laws_of}
+use Rattle.modem_history.specs.Rules.{call}
 
 -- what was taken since the session began is what the history has then
 all_taken : (b : Beginning) (l : LineView) (d later : DriverView) (old k : Machine) (q : Request) (past : List Act) → FitsMachine b l d old past → TakesNext b l d later old q → taken_since b (seen_by l (end_of later) k) ≡ taken_requests (Took q ∷ past)
@@ -95,13 +97,7 @@ takes_all old core room q w acts role handles held keeps b l d later past f next
     subst (Taken b l later old new past) (sym are) (record {
       fits = record {
         session = record {
-          history = record {
-            lawful = here.run.lawful;
-            complete = here.run.complete;
-            calls = here.run.whole;
-            room = room_after more (Took q ∷ past) said (omega arith, f.session.history.room);
-            in_turn = turn_after s more (Took q ∷ past) said (tt, f.session.history.in_turn);
-          };
+          history = call past (Took q) f.session.history (lt-ltb (length (in_hand past)) 128 (omega arith));
           loss = record {
             one = subst (λ (xs : List Act). length xs ≤ 1) (sym (losses_after more (Took q ∷ past) said)) f.session.loss.one;
             by_fault = λ gone. f.session.loss.by_fault (sym (lost_after more (Took q ∷ past) said) ∙ gone);
@@ -131,7 +127,7 @@ takes_all old core room q w acts role handles held keeps b l d later past f next
           by_fault = f.inside.by_fault;
           one_stop = took_stops s old.core past q role may f.inside.one_stop;
           delays_are = delays_after old.delays more (Took q ∷ past) said f.inside.delays_are;
-          come = come_on b v u past (Took q ∷ more) old.course (took_none s old.core past q role may f.session.history.lawful said distinct) (grows_none v u refl next.told_stays) f.inside.come;
+          come = come_on b v u past (Took q ∷ more) old.course (took_none s old.core past q role may (laws_of f.session.history).lawful said distinct) (grows_none v u refl next.told_stays) f.inside.come;
         };
       };
       adds = λ waiting. record { outcomes = unplaced; lines = lines; may = said_may waiting more said; few_got = said_few more 0 said };

@@ -1,6 +1,6 @@
 -- A session begins, and a tick.
-use Rattle.std.proofs.Common.{ap, sym, ◌∙◌, subst, arith}
-use Rattle.std.specs.Prelude.{◌≡◌, Option, ◌↔◌, ℕ, ◌≤◌, true, false, List, [], ◌∷◌, length, refl, find, option_map, Contains, Result, Ok, Err, IfOk}
+use Rattle.std.proofs.Common.{ap, sym, ◌∙◌, subst, arith, inl, lit<}
+use Rattle.std.specs.Prelude.{◌≡◌, Option, ◌↔◌, ℕ, ◌≤◌, true, false, List, [], ◌∷◌, length, refl, find, option_map, Contains, Result, Ok, Err, IfOk, IsErrOf, zero, suc, ◌<◌, ◌⊎◌}
 use Rattle.at_text.specs.declared.unsolicited.UrcKind.{UrcKind}
 use Rattle.at_text.specs.Dialects.{Dialect}
 use Rattle.at_text.specs.Rules.{Rules, dialect_of}
@@ -59,11 +59,16 @@ machine_begins rules dialect is n1 ks k d e same fits holds l = record {
   delays_are = subst (λ (v : Machine). AreDelays v.delays []) (sym e) delays_none;
 }
 
-pub begins_over : (rules : Rules) (dialect : Dialect) (n1 : ℕ) (ks : List UrcKind) (k : Machine) (l : LineView) (d : DriverView) → k ≡ machine_by rules n1 ks → MachineFits (beginning_by dialect n1 l d) l d k [] → FitsMachine (beginning_by dialect n1 l d) l d k []
+-- where it isn't refused for its N1, a frame takes an octet at least
+pub least_n1 : {T E : Type 0} (n : ℕ) (x : T) (e : E) → IsErrOf (Ok x) e ↔ ((n < 31) ⊎ (32767 < n)) → 1 ≤ n
+least_n1 zero x e h = absurd (let g : Ok x ≡ Err e = h.1 (inl (lit< tt)) in cc)
+least_n1 (suc n) x e h = omega arith
+
+pub begins_over : (rules : Rules) (dialect : Dialect) (n1 : ℕ) (ks : List UrcKind) (k : Machine) (l : LineView) (d : DriverView) → 1 ≤ n1 → k ≡ machine_by rules n1 ks → MachineFits (beginning_by dialect n1 l d) l d k [] → FitsMachine (beginning_by dialect n1 l d) l d k []
 unfolding BeginsFitting
-begins_over rules dialect n1 ks k l d e inside =
+begins_over rules dialect n1 ks k l d low e inside =
     let b = beginning_by dialect n1 l d in
-    let fresh : SessionFits b (seen_by l (end_of d) (machine_by rules n1 ks)) [] = begins_fitting b in
+    let fresh : SessionFits b (seen_by l (end_of d) (machine_by rules n1 ks)) [] = begins_fitting b low in
     record { session = subst (λ (v : Machine). SessionFits b (seen_by l (end_of d) v) []) (sym e) fresh; inside = inside }
 
 -- ## A tick

@@ -4,5 +4,5 @@ use Rattle.std.specs.String.{string_bytes}
 use Rattle.modem_texts.specs.Texts.{answer_line_text}
 use Rattle.modem_texts.proofs.told.push_lines.Given as goal
 
-abbrev pub invariant-loop-line : goal.invariant-loop-line
-invariant-loop-line l = string_bytes l.text ≡ string_bytes l.initial.text ++ flat_map answer_line_text (take l.line-index l.lines)
+abbrev pub invariant-loop-i : goal.invariant-loop-i
+invariant-loop-i l = string_bytes l.text ≡ string_bytes l.initial.text ++ flat_map answer_line_text (take l.i l.lines)

@@ -1,10 +1,11 @@
 -- What the frame called for waits, or the frame stays at hand.
-use Rattle.std.proofs.Common.{◌≡◌, List, ◌∷◌, length, ap, sym, ◌∙◌, subst, refl, false, true, arith}
+use Rattle.std.proofs.Common.{◌≡◌, List, ◌∷◌, ◌≤◌, length, ap, sym, ◌∙◌, subst, refl, false, true, arith}
 use Rattle.std.specs.Prelude.{map, find, option_map}
 use Rattle.mux_frame.specs.Deframing.{HandsOver}
 use Rattle.mux_frame.specs.Frames.{frame_of}
 use Rattle.line_end.specs.LineEnds.{LineEnd}
 use Rattle.modem_history.specs.Acts.{Got, act_of}
+use Rattle.modem_history.specs.Turns.{lines_heard}
 use Rattle.modem_driver.specs.declared.machine.course.Course.{Course}
 use Rattle.modem_driver.specs.Endings.{asker_of, course_after, is_answered, is_stop}
 use Rattle.modem_driver.specs.SessionStates.{Machine}
@@ -15,7 +16,7 @@ use Rattle.modem_driver.specs.GettingSteps.{HasData, MachineGets}
 use Rattle.modem_driver.proofs.sessions.polls.StopProgress.{noted}
 use Rattle.modem_driver.proofs.sessions.steps.FrameAtHand.{gets_moved, gets_none, has_data, keeps_from, none_at_hand, stays_at_hand}
 use Rattle.modem_driver.proofs.sessions.steps.MachineParts.{at_end, machine_of}
-use Rattle.modem_driver.proofs.frames.FollowingActs.{came_answers, keeps_came}
+use Rattle.modem_driver.proofs.frames.FollowingActs.{came_answers, few_heard, keeps_came}
 use Rattle.modem_driver.proofs.machine.Machine.get_one.Goals as goal
 
 pub returns-in_default-clause-gets : goal.returns-in_default-clause-gets
@@ -31,22 +32,24 @@ returns-clause-gets c =
     let k = c.self.inside in
     let old : Machine = machine_of k in
     let core = c.follow.new.self in
-    let room = c.make_room.new.self in
+    let room = c.follow.new.waiting in
     let fed = c.advance-2.new.self.deframer in
     let w = c.keep.new.self in
     let f = frame_of c.in-Some.frame in
-    let e = c.in-Ok-follow.ensures in
+    let e = c.in-Ok.ensures in
     let same = c.peek.follows.holds-at-none in
     let passed = c.advance-2.ensures.rest ∙ ap (λ (l : LineEnd). record l { deframer = fed }) same in
     let stop = option_map asker_of (find is_stop k.core.hand) in
-    let more = map act_of c.in-Ok-follow.acts.items in
+    let said = c.follow.new.said.items in
+    let more = map act_of said in
     let acts = Got f ∷ more in
-    let course : c.note.new.self ≡ course_after k.course (is_answered stop acts) = noted k.course c.note.new.self c.stop-stop.result stop c.as_slice.result.now c.in-Ok-follow.acts.items c.note.ensures c.stop-stop.ensures c.as_slice.ensures.value ∙ ap (course_after k.course) (sym (came_answers stop f more)) in
+    let course : c.note.new.self ≡ course_after k.course (is_answered stop acts) = noted k.course c.note.new.self c.stop-stop.result stop c.as_slice.result.now said c.note.ensures c.stop-stop.ensures c.as_slice.ensures.value ∙ ap (course_after k.course) (sym (came_answers stop f more)) in
     let new : Course → LineEnd → Machine = λ x l. at_end (record old { core = core; unplaced = w.outcomes; unannounced = w.lines; course = x }) l in
+    let enough : length (lines_heard acts) ≤ room.room = few_heard said room.room e.room in
     subst (λ (v : Machine). MachineGets v (new c.note.new.self c.advance-2.new.self) true) c.self.view_is
     (subst (λ (l : LineEnd). MachineGets old (new c.note.new.self l) true) (sym passed)
     (subst (λ (x : Course). MachineGets old (new x (record k.line_end { deframer = fed })) true) (sym course)
-    (gets_moved old core fed room.room w acts f e.past e.holds (keeps_from room w old.unplaced old.unannounced acts c.make_room.ensures.outcomes c.make_room.ensures.lines (keeps_came room w f more c.keep.ensures)) c.in-Ok.ensures.room
+    (gets_moved old core fed room.room w acts f e.past e.holds (keeps_from room w old.unplaced old.unannounced acts c.follow.ensures.outcomes c.follow.ensures.lines (keeps_came room w f more c.keep.ensures)) enough
     (sym c.in-Some.ensures.frame) (c.advance-2.ensures.n1 ∙ ap (λ (l : LineEnd). l.deframer.n1) same) (subst (λ (l : LineEnd). HandsOver l.deframer fed) same c.advance-2.ensures.past))))
 
 pub returns-then-not-is_data-clause-gets : goal.returns-then-not-is_data-clause-gets
@@ -57,11 +60,11 @@ returns-then-not-is_data-clause-gets c =
     let w = c.get.new.self in
     let fed = c.advance.new.self.deframer in
     let f = frame_of c.in-Some.frame in
-    let size = length f.info in
     let same = c.peek.follows.holds-at-none in
     let passed = c.advance.ensures.rest ∙ ap (λ (l : LineEnd). record l { deframer = fed }) same in
     let does = c.in-Some-get.ensures.does in
     let acts = acts_since (Got f) k.core core does.told in
+    let size = length (lines_heard acts) in
     let course : c.go_on.new.self ≡ course_after k.course (is_answered (stop_in k.core) acts) = c.go_on.ensures ∙ ap (course_after k.course) does.answered_is in
     let new : Course → List Urc → LineEnd → Machine = λ x us l. at_end (record old { core = core; unplaced = w.outcomes; unannounced = us; course = x }) l in
     let after = course_after k.course (is_answered (stop_in k.core) acts) in
@@ -84,10 +87,6 @@ returns-in_default-get-clause-gets c =
     subst (λ (v : Machine). MachineGets v (new c.peek.follows.lender-at-none) false) c.self.view_is
     (subst (λ (l : LineEnd). MachineGets old (new l) false) (sym c.peek.follows.holds-at-none)
     (gets_none old core old.deframer w.outcomes w.lines (stays_at_hand old (frame_of c.in-Some.frame) c.in-Some.ensures.frame e.never_full e.no_room) e.stays refl e.untold c.get.ensures.lines))
-
-pub returns-in_default-make_room-clause-at_hand : goal.returns-in_default-make_room-clause-at_hand
-returns-in_default-make_room-clause-at_hand c =
-    subst HasData c.self.view_is (has_data (machine_of c.self.inside) (frame_of c.in-Some.frame) c.is_data.result c.in-Some.ensures.frame c.is_data.ensures.value c.if-not-is_data.false)
 
 pub returns-in_default-follow-clause-at_hand : goal.returns-in_default-follow-clause-at_hand
 returns-in_default-follow-clause-at_hand c =

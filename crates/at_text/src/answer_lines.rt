@@ -1,0 +1,256 @@
+//! The lines that a command was answered with, as one text.
+ghost use Rattle.std.specs.Prelude.{◌≡◌, ℕ, ◌+◌, ◌-◌, ◌^◌, ◌<◌, ◌≤◌, [], ◌∷◌, ◌++◌, length, map, slice_index, slice_index_or, slice_get, option_map, vec_len, vec_capacity, IfOk, OnOk, OnErr};
+ghost use Rattle.at_text.specs.AnswerParts.{line_of};
+
+use std::alloc::{AllocError, Global};
+use std::marker::Model;
+use std::mem;
+
+/// How many octets and lines a first line makes room for: those of a short answer.
+const FIRST_OCTETS: usize = 64;
+
+const FIRST_ENDS: usize = 8;
+
+/// The lines of an answer in order, which contracts see as a list. They are one text: however many there are, they stand in
+/// two blocks of memory.
+#[derive(Drop, Debug)]
+pub struct AnswerLines {
+    /// The octets of each line, one line behind the other.
+    octets: Vec<u8>,
+    /// Where each line ends among them.
+    ends: Vec<usize>,
+}
+
+impl Model for AnswerLines {
+    ghost use Rattle.std.specs.Prelude.{List, length};
+    ghost use Rattle.at_text.specs.declared.answer.AnswerLine.{AnswerLine};
+    ghost use Rattle.at_text.specs.AnswerParts.{lines_ended, Fill};
+
+    ghost Value = { List AnswerLine };
+
+    ghost view = { λ a. lines_ended 0 a.ends.items a.octets.items };
+
+    ghost invariant = { λ a. Fill 0 a.ends.items (length a.octets.items) };
+}
+
+impl AnswerLines {
+    /// No lines, and no memory taken.
+    pub fn new(alloc: Global) -> AnswerLines
+        ensures { result ≡ [] }
+    {
+        AnswerLines {
+            octets: Vec::new(alloc),
+            ends: Vec::new(alloc),
+        }
+    }
+
+    /// How many lines there are.
+    pub fn len(&self) -> usize
+        ensures { result ≡ length self.now }
+    {
+        self.ends.len()
+    }
+
+    /// The octets of the line at this place, the first at 0. Requires a place below `len()`.
+    pub fn line(&self, place: usize) -> &[u8]
+        requires { place < length self.now }
+        ensures { line_of result.now ≡ slice_index_or self.now place (line_of result.now) }
+    {
+        let start = start_of(self.ends.as_slice(), place);
+        &self.octets.as_slice()[start..self.ends[place]]
+    }
+
+    /// The octets of its last line, if there is one: of a whole answer the final code.
+    pub fn last(&self) -> Option<&[u8]>
+        ensures { option_map (λ line. line_of line.now) result ≡ slice_get self.now (length self.now - 1) }
+    {
+        let count = self.len();
+        if count == 0 {
+            return None;
+        }
+        Some(self.line(count - 1))
+    }
+
+    /// The octets of each line in order.
+    pub fn iter(&self) -> AnswerIter<'_>
+        ensures { result ≡ self.now }
+    {
+        AnswerIter {
+            octets: self.octets.as_slice(),
+            start: 0,
+            ends: self.ends.as_slice(),
+        }
+    }
+
+    /// Adds a line of these octets. Want of memory leaves the lines as they were.
+    pub fn push(&mut self, line: &[u8]) -> Result<(), AllocError>
+        ensures ok { OnOk result (self.new ≡ self.old ++ line_of line.now ∷ []) }
+        ensures err { OnErr result (self.new ≡ self.old) }
+    {
+        make_room(&mut self.octets, line.len(), FIRST_OCTETS)?;
+        make_room(&mut self.ends, 1, FIRST_ENDS)?;
+        let _ = self.octets.extend_from_slice(line);
+        let end = self.octets.len();
+        let _ = self.ends.push(end);
+        Ok(())
+    }
+
+    /// Moves its lines to the front of `lines`, and keeps the memory that these had. Want of memory leaves both as they were.
+    pub(crate) fn lead(&mut self, lines: &mut AnswerLines) -> Result<(), AllocError>
+        ensures lines { OnOk result (lines.new ≡ self.old ++ lines.old) }
+        ensures left { OnOk result (self.new ≡ []) }
+        ensures err { OnErr result (self.new ≡ self.old) }
+        ensures same { OnErr result (lines.new ≡ lines.old) }
+    {
+        if self.len() == 0 {
+            return Ok(());
+        }
+        self.append(lines)?;
+        mem::swap(self, lines);
+        Ok(())
+    }
+
+    /// Moves these lines behind its own. Want of memory leaves both as they were.
+    fn append(&mut self, lines: &mut AnswerLines) -> Result<(), AllocError>
+        ensures ok { OnOk result (self.new ≡ self.old ++ lines.old) }
+        ensures left { OnOk result (lines.new ≡ []) }
+        ensures err { OnErr result (self.new ≡ self.old) }
+        ensures same { OnErr result (lines.new ≡ lines.old) }
+    {
+        make_room(&mut self.octets, lines.octets.len(), FIRST_OCTETS)?;
+        make_room(&mut self.ends, lines.ends.len(), FIRST_ENDS)?;
+        let before = self.octets.len();
+        let _ = self.octets.append(&mut lines.octets);
+        push_behind(&mut self.ends, before, lines.ends.as_slice());
+        lines.ends.clear();
+        Ok(())
+    }
+
+    /// Lets go of its lines, and keeps their memory.
+    pub(crate) fn clear(&mut self)
+        ensures { self.new ≡ [] }
+    {
+        self.octets.clear();
+        self.ends.clear();
+    }
+
+    /// A copy of the lines.
+    pub fn copy(&self) -> Result<AnswerLines, AllocError>
+        ensures { IfOk result (λ copy. copy ≡ self.now) }
+    {
+        let octets = self.octets.clone()?;
+        let ends = self.ends.clone()?;
+        Ok(AnswerLines { octets, ends })
+    }
+}
+
+/// Makes room for so many more. What has too little grows to four times its room at least, so that blocks are few, and at first
+/// to `least`. Want of memory leaves the room as it was.
+fn make_room<T>(items: &mut Vec<T>, more: usize, least: usize) -> Result<(), AllocError>
+    ensures items { items.new.items ≡ items.old.items }
+    ensures len { vec_len items.new ≡ vec_len items.old }
+    ensures room { OnOk result (vec_len items.new + more ≤ vec_capacity items.new) }
+{
+    if more <= items.capacity() - items.len() {
+        return Ok(());
+    }
+    let growth = items.capacity().saturating_mul(3);
+    items.try_reserve(more.max(growth).max(least))
+}
+
+/// Where the line at this place begins, by where each line ends.
+fn start_of(ends: &[usize], place: usize) -> usize
+    requires { place < length ends.now }
+    ensures { result ≡ slice_index (0 ∷ ends.now) place }
+{
+    if place == 0 { 0 } else { ends[place - 1] }
+}
+
+/// Puts these ends behind others, each so much further on. There is room for them, and none is too far on to be told.
+fn push_behind(ends: &mut Vec<usize>, before: usize, more: &[usize])
+    requires room { vec_len ends.old + length more.now ≤ vec_capacity ends.old }
+    requires within { (i : ℕ) → i < length more.now → before + slice_index more.now i < 2 ^ 64 }
+    ensures { ends.new.items ≡ ends.old.items ++ map (λ end. before + end) more.now }
+{
+    for end in more {
+        let _ = ends.push(before + *end);
+    }
+}
+
+impl PartialEq for AnswerLines {
+    ghost use Rattle.std.specs.Str.{bytes_eq};
+    ghost use Rattle.std.specs.Cmp.Lexicographic.{pointwise};
+    ghost use Rattle.std.proofs.Common.{rules};
+    ghost use Rattle.std.specs.Cmp.Rules.{comparing};
+
+    ghost eq = { pointwise (λ x y. bytes_eq x.text y.text) };
+
+    ghost laws = { Prim.search (comparing, rules) };
+
+    fn eq(&self, other: &AnswerLines) -> bool {
+        self.ends == other.ends && self.octets == other.octets
+    }
+}
+
+impl Eq for AnswerLines {
+    ghost use Rattle.std.proofs.Common.{rules};
+    ghost use Rattle.std.specs.Cmp.Rules.{comparing};
+
+    ghost laws = { Prim.search (comparing, rules) };
+}
+
+/// The octets of each line of an answer that is left, in order. Contracts see the list of these lines.
+#[derive(Drop)]
+pub struct AnswerIter<'a> {
+    octets: &'a [u8],
+    /// Where the first line that is left begins.
+    start: usize,
+    /// Where each line that is left ends.
+    ends: &'a [usize],
+}
+
+impl<'a> Model for AnswerIter<'a> {
+    ghost use Rattle.std.specs.Prelude.{List, length};
+    ghost use Rattle.at_text.specs.declared.answer.AnswerLine.{AnswerLine};
+    ghost use Rattle.at_text.specs.AnswerParts.{lines_ended, Fill};
+
+    ghost Value = { List AnswerLine };
+
+    ghost view = { λ it. lines_ended it.start it.ends.now it.octets.now };
+
+    ghost invariant = { λ it. Fill it.start it.ends.now (length it.octets.now) };
+}
+
+impl<'a> Iterator for AnswerIter<'a> {
+    ghost use Rattle.std.specs.Iterator.{YieldsFirstBy, item_count};
+    ghost use Rattle.at_text.specs.AnswerParts.{line_of};
+
+    type Item = &'a [u8];
+
+    ghost next_gives = { YieldsFirstBy (λ line. line_of line.now) (λ left. left) };
+
+    ghost remaining = { item_count (λ left. left) };
+
+    #[tactic(auto, using(crate::proofs::AnswerTexts::fill_within))]
+    fn next(&mut self) -> Option<&'a [u8]> {
+        let (end, ends) = self.ends.split_first()?;
+        let line = &self.octets[self.start..*end];
+        self.start = *end;
+        self.ends = ends;
+        Some(line)
+    }
+}
+
+impl<'a> IntoIterator for &'a AnswerLines {
+    ghost use Rattle.std.specs.Prelude.{◌≡◌};
+
+    type Item = &'a [u8];
+
+    type IntoIter = AnswerIter<'a>;
+
+    ghost into_iter_gives = { λ lines it. it ≡ lines.now };
+
+    fn into_iter(self) -> AnswerIter<'a> {
+        self.iter()
+    }
+}
