@@ -1,6 +1,7 @@
 -- Joins what was read on a fork of a window to what came before.
-use Rattle.std.specs.Prelude.{Bool, true, false, List, [], ◌∷◌, ◌++◌, Option, None, Some, if◌then◌else◌}
+use Rattle.std.specs.Prelude.{ℕ, Bool, true, false, List, [], ◌∷◌, ◌++◌, Option, None, Some, if◌then◌else◌}
 use Rattle.at_text.specs.declared.answer.AnswerLine.{AnswerLine}
+use Rattle.at_text.specs.Lines.{kept_run}
 use Rattle.at_text.specs.OpenWindow.{OpenWindow}
 use Rattle.at_text.specs.Forks.{lines_so_far, forked, led_by}
 use Rattle.modem_desk.specs.declared.request.Answer.{Answer}
@@ -42,6 +43,10 @@ joined_acts ls (Some o) acts = acts
 -- a lane whose window is a fork
 abbrev pub forked_lane : Lane → Lane
 forked_lane l = record l { window = forked l.window }
+
+-- a fork of a lane behind octets none of which ends a line
+abbrev pub kept_lane : Lane → List ℕ → Lane
+kept_lane l octets = record (forked_lane l) { kept = kept_run (l.kept ++ octets) }
 
 -- the lane that was read on a fork, with the lines from before in its window
 abbrev pub joined : Lane → Lane → Lane

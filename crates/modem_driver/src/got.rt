@@ -17,6 +17,8 @@ ghost use Rattle.modem_driver.specs.Lanes.{new_lane};
 ghost use Rattle.modem_driver.specs.Handing.{Offers, OffersLine, EndsCommand, EndedBy, ReadsApart};
 ghost use Rattle.modem_driver.specs.Forks.{joined, joined_acts};
 ghost use Rattle.at_text.specs.Forks.{lines_so_far};
+ghost use Rattle.at_text.specs.Lines.{is_line_end};
+ghost use Rattle.std.specs.List.{list_any};
 ghost use Rattle.modem_driver.specs.Receiving.{HasRoom, answer_room, cut_to, sent_in, afresh_if, brings_data};
 ghost use Rattle.modem_driver.specs.Holding.{KeepsHeld};
 ghost use Rattle.modem_driver.specs.declared.error.CoreError.TheVariants as CoreError;
@@ -29,7 +31,7 @@ use crate::lane::Lane;
 use crate::machine::waiting::Waiting;
 use crate::reports::{Reading, read_octets};
 use crate::telling::{Happened, tell_on};
-use at_text::CommandLine;
+use at_text::{CommandLine, run_len};
 use modem_desk::Outcome;
 use modem_history::Act;
 use mux_frame::{Dlci, FrameBuf, FrameView, Info, Kind};
@@ -334,6 +336,20 @@ impl Core {
         Ok(acts)
     }
 
+    /// Data of an open connection none of which ends a line. Nothing is said of it.
+    fn keep_data(&mut self, frame: FrameView<'_>)
+        requires short { length frame.info.now ≤ most_info self.old.station.n1 frame.kind }
+        requires is_data { brings_data self.old (frame_of frame) ≡ true }
+        requires runs_on { list_any is_line_end frame.info.now ≡ false }
+        ensures past { Handles self.old self.new (Got (frame_of frame.entry)) (Got (frame_of frame.entry) ∷ []) }
+        ensures holds { KeepsHeld self.old self.new (Got (frame_of frame.entry)) (Got (frame_of frame.entry) ∷ []) }
+        ensures n1 { self.new.station.n1 ≡ self.old.station.n1 }
+        ensures lost { self.new.lost ≡ self.old.lost }
+    {
+        self.lanes.keep(frame.dlci, frame.info);
+        let _noted = take(&mut self.station, frame);
+    }
+
     /// As `got_data`, but without the act Got, by a lane of the caller's to read on and a list of the caller's of what is said. It makes
     /// no copy of the frame, and room where what is said can wait. Refusal: 1 NoMemory, which changes nothing else.
     pub(crate) fn follow(
@@ -358,6 +374,10 @@ impl Core {
         ensures lost { self.new.lost ≡ self.old.lost }
     {
         said.clear();
+        if run_len(frame.info) == frame.info.len() {
+            self.keep_data(frame);
+            return Ok(());
+        }
         self.read(frame, fork, said)?;
         waiting.make_room(said.len())?;
         self.join_data(frame, fork, said)?;

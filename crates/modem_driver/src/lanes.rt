@@ -1,9 +1,11 @@
 //! What is kept of all connections.
-ghost use Rattle.std.specs.Prelude.{◌≡◌, ◌&&◌, ℕ, false, true, is_none, is_some, map, replicate, slice_set, IfOk, OnErr, OnOk};
+ghost use Rattle.std.specs.Prelude.{◌≡◌, ◌&&◌, ◌++◌, [], ℕ, false, true, is_none, is_some, map, replicate, slice_set, IfOk, OnErr, OnOk};
 ghost use Rattle.std.specs.List.{list_any};
 ghost use Rattle.at_text.specs.Forks.{lines_so_far};
+ghost use Rattle.at_text.specs.Lines.{is_line_end, lines};
+ghost use Rattle.at_text.specs.Reading.{HasRead};
 ghost use Rattle.modem_history.specs.Acts.{act_of};
-ghost use Rattle.modem_driver.specs.Forks.{forked_lane, joined, joined_acts};
+ghost use Rattle.modem_driver.specs.Forks.{forked_lane, joined, joined_acts, kept_lane};
 ghost use Rattle.modem_driver.specs.Lanes.{begun, lane_in, new_lane, turned};
 
 use crate::lane::Lane;
@@ -107,6 +109,21 @@ impl Lanes {
         ensures { fork.new ≡ forked_lane (lane_in self.now dlci.number) }
     {
         self.each[usize::from(dlci.number())].fork_into(fork);
+    }
+
+    /// One goes on behind octets none of which ends a line, as its fork would.
+    #[tactic(auto, using(crate::proofs::lines::KeptData::lane_kept))]
+    pub(crate) fn keep(&mut self, dlci: Dlci, octets: &[u8])
+        requires { list_any is_line_end octets.now ≡ false }
+        ensures lanes { self.new ≡ slice_set self.old dlci.number
+            (joined (lane_in self.old dlci.number) (kept_lane (lane_in self.old dlci.number) octets.now)) }
+        ensures none { lines ((lane_in self.old dlci.number).kept ++ octets.now) ≡ [] }
+        ensures before { HasRead (lane_in self.old dlci.number).kept (lane_in self.old dlci.number).kept }
+    {
+        let lane = &mut self.each[usize::from(dlci.number())];
+        let may_hold = self.may_hold || lane.held;
+        lane.reader.keep(octets);
+        self.may_hold = may_hold;
     }
 
     /// One goes on as its fork, behind what came before. Says whether a command that was under way there has ended.
