@@ -89,7 +89,8 @@ fn waiting_ticks(endpoint: &Endpoint, dlci: Dlci) -> Option<u64>
     endpoint.waiting_ticks(dlci)
 }
 
-/// Hands out how many ticks the oldest unanswered command of a connection has waited as the oldest.
+/// Hands out how many ticks have come since a connection's oldest unanswered command became the
+/// oldest.
 #[unsafe(no_mangle)]
 pub extern "C" fn cimbaloty_waiting_ticks(
     alloc: Global,

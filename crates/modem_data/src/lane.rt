@@ -85,7 +85,7 @@ impl DataLane {
     }
 
     /// Takes a frame's information: says how many of the first octets are lines, and keeps the data behind them. Refusal:
-    /// no memory, which changes nothing. None is asked for where the data has room.
+    /// no memory, which changes nothing. Memory is asked for only where the kept data has no room.
     pub fn take(&mut self, info: &[u8]) -> Result<usize, AllocError>
         ensures takes { IfOk result (λ count. TakesInfo self.old self.new info.now count) }
         ensures few { IfOk result (λ count. count ≤ length info.now) }

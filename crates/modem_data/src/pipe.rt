@@ -67,9 +67,9 @@ impl Pipe {
         self.watch.dlci()
     }
 
-    /// Begins a lane, in the opening that there is or else in the next. Data comes behind its next CONNECT line where `by_connect` is
-    /// set, else at once. Refused with 7 UnderWay where a lane is under way, and else with 8 Unread where data of the last one wasn't
-    /// read.
+    /// Begins a lane, in the present opening or, while the connection is shut, in the next. Data comes behind its next CONNECT
+    /// line where `by_connect` is set, else at once. Refused with 7 UnderWay where a lane is under way, and else with 8 Unread
+    /// where data of the last one wasn't read.
     #[tactic(auto, using(crate::proofs::PipeCalls::leads_began, crate::proofs::PipeCalls::a_lane_is, crate::proofs::PipeCalls::has_unread))]
     pub fn begin(&mut self, by_connect: bool) -> Result<(), DataError>
         ensures leads { OnOk result (Leads self.old self.new (Began self.old.watch.dlci by_connect)) }
@@ -106,9 +106,9 @@ impl Pipe {
         self.lane.is_behind_lines()
     }
 
-    /// A frame came from the line. Of information on a lane, says how many of the first octets are lines, for the driver, and keeps the
-    /// data behind them. `None`: all of the frame is the driver's. Refusal: no memory, which changes nothing. None is asked for where the
-    /// data has room.
+    /// A frame came from the line. Of information on a lane, says how many of the first octets are lines, for the driver, and
+    /// keeps the data behind them. `None`: all of the frame is the driver's. Refusal: no memory, which changes nothing. Memory
+    /// is asked for only where the kept data has no room.
     pub fn came(&mut self, frame: FrameView<'_>) -> Result<Option<usize>, AllocError>
         ensures leads { OnOk result (Leads self.old self.new (Came (frame_of frame.entry))) }
         ensures hands { IfOk result (λ count. HandsOn self.old (frame_of frame.entry) count) }
@@ -122,7 +122,7 @@ impl Pipe {
     }
 
     /// Information on the connection came. Of a lane says how many of the first octets are lines, for the driver; any other is
-    /// the driver's. Refusal: no memory, which changes nothing. None is asked for where the data has room.
+    /// the driver's. Refusal: no memory, which changes nothing. Memory is asked for only where the kept data has no room.
     #[tactic(auto, using(crate::proofs::Pipes::leads_info, crate::proofs::Pipes::leads_shut, crate::proofs::Pipes::leads_idle, crate::proofs::Pipes::hands_lines, crate::proofs::Pipes::hands_shut, crate::proofs::Pipes::hands_idle))]
     pub(crate) fn info(&mut self, frame: FrameView<'_>) -> Result<Option<usize>, AllocError>
         requires { is_on Uih self.old.watch.dlci (frame_of frame) ≡ true }

@@ -98,9 +98,9 @@ impl Relay {
         })
     }
 
-    /// Begins a lane of a connection, in the opening that there is or else in the next. Data comes behind its next CONNECT line where
-    /// `by_connect` is set, else at once. Refused, in this order: 6 NotData where `new` didn't name the connection; 7 UnderWay where a
-    /// lane is under way; 8 Unread where data of the last one wasn't read.
+    /// Begins a lane of a connection, in the present opening or, while the connection is shut, in the next. Data comes behind
+    /// its next CONNECT line where `by_connect` is set, else at once. Refused, in this order: 6 NotData where `new` didn't name
+    /// the connection; 7 UnderWay where a lane is under way; 8 Unread where data of the last one wasn't read.
     pub fn begin(&mut self, dlci: Dlci, by_connect: bool) -> Result<(), DataError>
         ensures began { OnOk result (Hops self.old self.new (Passed (Began dlci.number by_connect))) }
         ensures not_data { result ≡ Err error.NotData → IsNotData self.old.pipes dlci.number }
@@ -167,7 +167,7 @@ impl Relay {
         self.pipes.give(dlci, octets)
     }
 
-    /// How many octets were given on a connection and haven't left; where its lane is over, these aren't sent. Refused with 6 NotData
+    /// How many octets given on a connection haven't left. Once its lane is over they are never sent. Refused with 6 NotData
     /// where `new` didn't name the connection.
     pub fn to_go(&self, dlci: Dlci) -> Result<usize, DataError>
         ensures count { IfOk result (λ count. OfEachPast self.now.pipes (λ past. count ≡ to_go dlci.number past)) }
@@ -192,8 +192,8 @@ impl Relay {
         self.outer.feed(octets)
     }
 
-    /// Takes octets of the driver, as many as there is room for, and says how many. There is room for some where no frame of the
-    /// driver's is at hand, as when `ready` says no.
+    /// Takes octets of the driver, as many as there is room for, and says how many. There is room while no frame of the driver's
+    /// is at hand, so also once `ready` says no.
     pub fn feed_driver(&mut self, octets: &[u8]) -> usize
         ensures took { Hops self.old self.new (Took (take result octets.now)) }
         ensures few { result ≤ length octets.now }

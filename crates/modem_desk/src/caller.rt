@@ -187,8 +187,8 @@ impl Caller {
         }
     }
 
-    /// Takes the oldest outcome that waits for this caller. `None` comes only where it has seen none waiting. Rings the caller's
-    /// bell, if it has one, since there is room for one more outcome.
+    /// Takes the oldest outcome that waits for this caller. `None` means that it has seen none waiting. Rings the caller's bell,
+    /// if it has one, since there is room for one more outcome.
     pub fn take(&mut self) -> Option<Outcome>
         ensures place { (self.new.place ≡ self.old.place) × (self.new.submitted ≡ self.old.submitted)
             × (self.new.got_before ≡ self.old.got_before) }

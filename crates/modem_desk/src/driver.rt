@@ -263,8 +263,8 @@ impl DriverEnd {
         request
     }
 
-    /// Gives an outcome to its caller. Requires a caller of this desk. Hands it back where 8 wait for that caller, and never where a
-    /// place is known to be free.
+    /// Gives an outcome to its caller. Requires a caller of this desk. Hands it back if 8 wait for that caller. It never does
+    /// while it knows of a free place.
     pub fn tell(&mut self, outcome: Outcome) -> Result<(), Outcome>
         requires { outcome.caller < length self.old.desk.rings }
         ensures desk { (self.new.desk ≡ self.old.desk) × (self.new.taken ≡ self.old.taken)
@@ -292,8 +292,8 @@ impl DriverEnd {
         Err(back)
     }
 
-    /// Gives a line to the listener of its kind. Requires that there is one (`listens`). Hands it back where 256 wait for that listener,
-    /// and never where a place is known to be free.
+    /// Gives a line to the listener of its kind. Requires that there is one (`listens`). Hands it back if 256 wait for that
+    /// listener. It never does while it knows of a free place.
     pub fn announce(&mut self, line: Urc) -> Result<(), Urc>
         requires { Contains self.old.desk.kinds line.kind }
         ensures desk { (self.new.desk ≡ self.old.desk) × (self.new.taken ≡ self.old.taken)

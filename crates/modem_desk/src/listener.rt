@@ -94,7 +94,7 @@ impl Listener {
         self.kind
     }
 
-    /// Takes the oldest line that waits for this listener. `None` comes only where it has seen none waiting. Rings the listener's
+    /// Takes the oldest line that waits for this listener. `None` means that it has seen none waiting. Rings the listener's
     /// bell, if it has one, since there is room for one more line.
     pub fn take(&mut self) -> Option<Urc>
         ensures subscription { self.new.subscription ≡ self.old.subscription }

@@ -349,8 +349,8 @@ fn try_thrice<L: SerialLine, P: Patience>(
 /// N1 + 3 flags, which end that frame, and a CLD frame, reads on for a short wait and tries again: three times in all. N1 is the most
 /// octets of information in a frame of that driver.
 ///
-/// Refusals: 1 Refused, where the code isn't `OK`; 2 NoAnswer, where patience was used up in the third try or with the flags and the
-/// CLD frame, or the line's count of calls is at `u64::MAX`; 3 Line, where the line failed.
+/// Refusals: 1 Refused, where the code isn't `OK`; 2 NoAnswer, where patience ran out in the third try or while flags and CLD
+/// went, or where the line has counted `u64::MAX` calls; 3 Line, where the line failed.
 #[tactic(auto, using(crate::proofs::EntryTries::turned_down))]
 pub fn enter_by<L: SerialLine, P: Patience>(
     line: &mut L,

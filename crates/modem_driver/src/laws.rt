@@ -77,8 +77,8 @@ pub fn turning_away()
 {}
 
 /// Worked ends of a session, computed by the definitions. A Stop that is answered or given up has ended. A loss of the
-/// line ends no Stop so, nor does a probe that is given up. The session has ended where all frames sent are written and
-/// all outcomes told, and stays so; where an octet or an outcome waits it hasn't. A session whose Stop has ended
+/// line ends no Stop in this sense. Nor does giving up a probe. The session has ended where all frames sent are written
+/// and all outcomes told, and stays so; where an octet or an outcome waits it hasn't. A session whose Stop has ended
 /// doesn't go on as if none had.
 #[tactic(auto, using(crate::proofs::rows::EndingRowFacts::all_stopped, crate::proofs::rows::EndingRowFacts::none_stopped, crate::proofs::rows::EndingRowFacts::right_ending, crate::proofs::rows::EndingRowFacts::stays_ended, crate::proofs::rows::EndingRowFacts::no_endings, crate::proofs::rows::EndingRowFacts::no_going))]
 pub fn endings()
@@ -90,11 +90,11 @@ pub fn endings()
     ensures going_on { IsNoGoing }
 {}
 
-/// The turns of a poll, over a line that is its own view. Whatever history the session had, each state on the way fits that history and
-/// what came since, and each turn is one in it. So a lost line gives Failed alone: no loss is kept back or given as Stopped. Where octets
-/// wait, or all that came were fed, a poll calls the line, and a tick is no poll. No poll adds a tick to a history, and the desk is asked
-/// in vain at most 64 times. Six bodies make no poll of a session that has just begun: no turn, a tick, a loss kept back or given as
-/// Stopped, 65 turns, and a turn behind one that found nothing to do.
+/// The turns of a poll, over a line that is its own view. Whatever history the session had, each state on the way fits that
+/// history and what came since, and each turn is one in it. So a lost line gives Failed alone: no loss is kept back or given as
+/// Stopped. Where octets wait, or all that came were fed, a poll calls the line, and a tick is no poll. No poll adds a tick to a
+/// history, and the desk is asked in vain at most 64 times. Six wrong bodies are refused as a poll of a new session: no turn, a
+/// tick, a loss kept back or given as Stopped, 65 turns, and a turn behind one that found nothing to do.
 #[tactic(auto, using(crate::proofs::sessions::polls::PollLaws::runs_in_histories, crate::proofs::sessions::polls::PollLaws::lost_fails, crate::proofs::sessions::polls::PollLaws::no_loss_is_kept_back, crate::proofs::sessions::polls::PollLaws::no_loss_is_stopped, crate::proofs::sessions::polls::PollLaws::calls_the_line, crate::proofs::sessions::polls::PollLaws::lost_gives_failed, crate::proofs::rows::PollRowFacts::is_lost_session, crate::proofs::rows::PollRowFacts::no_polls, crate::proofs::rows::LivePollRowFacts::reads_the_line, crate::proofs::rows::LivePollRowFacts::no_tick_is_a_poll, crate::proofs::rows::LivePollRowFacts::no_tick_in_a_poll, crate::proofs::rows::LivePollRowFacts::asks_per_turn, crate::proofs::rows::LivePollRowFacts::is_new_session, crate::proofs::rows::LivePollRowFacts::no_live_polls))]
 pub fn polls()
     ensures histories { RunsInHistories (λ (l : LineView). l) }

@@ -82,10 +82,10 @@ fn begin(
 impl<L: SerialLine, R: Wait + Drop> Session<L, R> {
     ghost use Rattle.modem_driver.specs.contracts.session.Session.{the_row};
 
-    /// A new session with a standard modem, over a line and the driver's end of a desk, whatever they did before. N1 is
-    /// the most octets of information that a frame may have. It keeps the right to wait and the allocator, and takes
-    /// room for 128 requests and 128 outcomes. Refusals, which hand the line and the desk's end back: 2 BadN1 where N1
-    /// isn't 31 to 32767, checked first; 1 NoMemory.
+    /// A new session over this line and driver's end, which may have been used before, for a modem of the standard's
+    /// codes. N1 is the most octets of information that a frame may have. It keeps the right to wait and the allocator,
+    /// and takes room for 128 requests and 128 outcomes. Refusals, which hand the line and the desk's end back: 2 BadN1
+    /// where N1 isn't 31 to 32767, checked first; 1 NoMemory.
     pub fn new(
         rt: R,
         alloc: Global,
@@ -147,8 +147,8 @@ impl<L: SerialLine, R: Wait + Drop> Session<L, R> {
         self.machine.line_end.unwritten()
     }
 
-    /// Lends the line. Where the loan leaves its octets received and sent and all its counts as they were, the session
-    /// fits the same histories as before.
+    /// Lends the line. If the borrower changes neither the octets read and written nor the counts, the session fits
+    /// the same histories as before.
     pub fn line_mut(&mut self) -> &mut L
         ensures value { result.now ≡ self.old.line }
         ensures* lent { sem 𝓛 (Lends (the_row L.row R.row L.SerialLine) L.row self.entry result

@@ -9,10 +9,9 @@ use crate::endpoint::{Endpoint, Input};
 impl Endpoint {
     /// Takes octets from the front of `octets`, handles the frames that they make, and says how many octets it took. It
     /// tries the frame at hand first. Where it isn't blocked, it took all octets, handled every frame, and held or
-    /// freed each connection by how many of its lines wait. Where it is blocked, it keeps what it took: call it again
-    /// with the octets behind those, or with none, after `poll_output` (OutputFirst) or once there is memory
-    /// (NoMemory). After `poll_unsolicited`, a call with no octets frees the connections that were held for the lines
-    /// taken.
+    /// freed each connection by how many of its lines wait. Blocked, it keeps what it took. Write by `poll_output`
+    /// (OutputFirst) or free memory (NoMemory), then call it with the octets not taken, or with none. After
+    /// `poll_unsolicited`, a call with no octets frees the connections that were held for the lines taken.
     #[tactic(auto, using(crate::proofs::endpoints::WholeCalls::takes_octets, crate::proofs::endpoints::WholeCalls::takes_blocked))]
     pub fn handle_input(&mut self, octets: &[u8]) -> Input
         ensures takes { (l : LineView) (d : DriverView)

@@ -7,9 +7,9 @@ ghost use Rattle.modem_driver.specs.Endpoints.{GivesOctets, HoldsNothingBack};
 use crate::endpoint::Endpoint;
 
 impl Endpoint {
-    /// Writes the next octets for the line to the front of `room`, as many as wait and fit, and says how many. The rest of `room`
-    /// stays as it was. The octets count as sent from then on: a caller that can't write them calls `line_lost`. It writes fewer
-    /// than fit only where nothing else waits for the line. It takes no memory.
+    /// Writes the next octets for the line to the front of `room`, as many as wait and fit, and says how many. The rest of
+    /// `room` stays as it was. The octets count as sent from then on: a caller that can't write them calls `line_lost`. If it
+    /// writes fewer than fit, nothing more waits. It takes no memory.
     #[tactic(auto, using(crate::proofs::endpoints::WholeCalls::gives_octets, crate::proofs::endpoints::WholeCalls::holds_nothing))]
     pub fn poll_output(&mut self, room: &mut [u8]) -> usize
         ensures out { (l : LineView) (d : DriverView)

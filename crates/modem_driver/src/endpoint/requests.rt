@@ -51,9 +51,10 @@ impl Endpoint {
         self.next == u64::MAX || self.machine.is_full()
     }
 
-    /// Asks for a connection to be opened, and gives the request's number; the outcome has that number. It handles the frames at hand
-    /// first. A refusal changes nothing else and uses up no number. Refusals: 2 Full where 128 requests are in hand or told and not
-    /// polled, or all numbers are used up; else 1 NoMemory, for data of an open connection, which stays at hand.
+    /// Asks for a connection to be opened, and gives the request's number; the outcome has that number. It handles the frames at
+    /// hand first. A refusal changes nothing else and uses up no number. Refusals: 2 Full where 128 requests are in hand or told
+    /// and not polled, or all numbers are used up; else 1 NoMemory, where memory for data of an open connection is refused; that
+    /// data stays at hand.
     pub fn open(&mut self, dlci: Dlci) -> Result<u64, RequestError>
         ensures takes { IfOk result (λ n. Numbers self.old self.new (Ask.OpenChannel dlci) n) }
         ensures refused { OnErr result (Refuses self.old self.new) }

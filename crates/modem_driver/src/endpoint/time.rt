@@ -14,9 +14,9 @@ use crate::session::SessionFault;
 use mux_frame::Dlci;
 
 impl Endpoint {
-    /// One T1 has passed (27.010, 5.7.1): SABM and DISC that weren't answered are sent again, and at the fourth tick what waits is given
-    /// up (5.7.3). It handles the frames at hand first. A refusal changes nothing else. Refusals: 3 Failed where the line was lost; 1
-    /// NoMemory, for data of an open connection, which stays at hand.
+    /// One T1 has passed (27.010, 5.7.1): SABM and DISC that weren't answered are sent again, and at the fourth tick what waits
+    /// is given up (5.7.3). It handles the frames at hand first. A refusal changes nothing else. Refusals: 3 Failed where the
+    /// line was lost; 1 NoMemory, where memory for data of an open connection is refused; that data stays at hand.
     #[tactic(auto, using(crate::proofs::endpoints::Time::ticks, crate::proofs::endpoints::Requests::refuses))]
     pub fn tick(&mut self) -> Result<(), SessionFault>
         ensures ticks { OnOk result ((l : LineView) (d : DriverView) → Ticks l d self.old self.new) }
@@ -42,9 +42,9 @@ impl Endpoint {
         self.machine.wants_tick()
     }
 
-    /// The caller's line has failed or ended: every request in hand is told LineLost, and nothing is sent any more. It handles the frames
-    /// at hand first. A refusal changes nothing else. Refusals: 3 Failed where the line was lost before; 1 NoMemory, for data of an open
-    /// connection, which stays at hand.
+    /// The caller's line has failed or ended: every request in hand is told LineLost, and nothing is sent any more. It handles
+    /// the frames at hand first. A refusal changes nothing else. Refusals: 3 Failed where the line was lost before; 1 NoMemory,
+    /// where memory for data of an open connection is refused; that data stays at hand.
     #[tactic(auto, using(crate::proofs::endpoints::Time::loses, crate::proofs::endpoints::Time::fed_lost, crate::proofs::endpoints::Requests::refuses))]
     pub fn line_lost(&mut self) -> Result<(), SessionFault>
         ensures loses { OnOk result ((l : LineView) (d : DriverView) → Loses l d self.old self.new) }
@@ -64,10 +64,10 @@ impl Endpoint {
         Ok(())
     }
 
-    /// How many ticks the oldest unanswered command of this connection has waited as the oldest, by every history that the endpoint fits.
-    /// `None` where no command of the connection is in hand. Ticks before it was the oldest don't count. The count stops at `u64::MAX`.
-    /// No command is given up by itself: a caller that finds the count too high can close the connection. `wants_tick` doesn't ask for
-    /// ticks for commands, but all that are given count.
+    /// How many ticks have come since this connection's oldest unanswered command became the oldest, by every history that the
+    /// endpoint fits. `None` where no command of the connection is in hand. The count stops at `u64::MAX`. No command is given
+    /// up by itself: a caller that finds the count too high can close the connection. `wants_tick` says nothing of commands:
+    /// to go by this count, tick in each T1.
     #[tactic(auto, using(crate::proofs::sessions::steps::WaitedTicks::endpoint_shows))]
     pub fn waiting_ticks(&self, dlci: Dlci) -> Option<u64>
         ensures { (b : Beginning) (l : LineView) (d : DriverView) (past : List Act)

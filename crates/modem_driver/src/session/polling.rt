@@ -121,9 +121,8 @@ impl<L: SerialLine, R: Wait + Drop> Session<L, R> {
     }
 
     /// One poll. Where an earlier poll gave an end, it gives that again and does nothing. Else it makes turns, at most
-    /// 64, up to the first that doesn't answer Moved. It gives the end that they lead to, or, where that is no end,
-    /// whether there may be more to do at once. It is for a loop or a future of one's own: of a session that is polled
-    /// as a future only the output is known.
+    /// 64, up to the first that doesn't answer Moved. It gives the end, or, before that, whether there may be more to
+    /// do at once. It is for a loop or a future of one's own: a session polled as a future shows only its output.
     pub fn advance(&mut self) -> Progress
         ensures polls { Polls (line_by L.received L.sent L.calls L.failures L.empty_reads L.stalled_writes) self.old self.new result }
         ensures goes { SessionGoesOn (line_by L.received L.sent L.calls L.failures L.empty_reads L.stalled_writes) self.old self.new }

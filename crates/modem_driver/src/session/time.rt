@@ -23,10 +23,10 @@ impl<L: SerialLine, R: Wait + Drop> Session<L, R> {
     {
         self.machine.wants_tick()
     }
-    /// How many ticks the oldest unanswered command of this connection has waited as the oldest, by every history that the session fits.
-    /// `None` where no command of the connection is in hand. Ticks before it was the oldest don't count. The count stops at `u64::MAX`.
-    /// No command is given up by itself: a caller that finds the count too high can close the connection. `wants_tick` doesn't ask for
-    /// ticks for commands, but all that are given count.
+    /// How many ticks have come since this connection's oldest unanswered command became the oldest, by every history that the
+    /// session fits. `None` where no command of the connection is in hand. The count stops at `u64::MAX`. No command is given up
+    /// by itself: a caller that finds the count too high can close the connection. `wants_tick` says nothing of commands: to go
+    /// by this count, tick in each T1.
     #[tactic(auto, using(crate::proofs::sessions::steps::WaitedTicks::session_shows))]
     pub fn waiting_ticks(&self, dlci: Dlci) -> Option<u64>
         ensures { (b : Beginning) (past : List Act)
