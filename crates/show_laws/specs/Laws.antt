@@ -5,8 +5,6 @@ use Rattle.mux_capture.specs.declared.packet.Direction.TheVariants.{ToModem}
 use Rattle.mux_capture.specs.declared.packet.Stamp.{Stamp}
 use Rattle.mux_station.specs.declared.role.Role.TheVariants.{Initiator, Responder}
 use Rattle.mux_station.specs.Acts as station
-use Rattle.mux_frame.specs.declared.frame.Kind.TheVariants.{Sabm}
-use Rattle.mux_station.specs.Written.{is_kind}
 use Rattle.mux_station.specs.Messages.{Message, fcoff, message_in, msc, msc_stops}
 use Rattle.mux_station.specs.Sending.{StationSetting, owed_frames}
 use Rattle.modem_desk.specs.declared.request.Ask.{Ask}
@@ -63,10 +61,6 @@ unfoldable pub SendsWhileOpen : Setting → ℕ → List LineAct → Type 0
 SendsWhileOpen s n1 line =
     IsLawfulLine s n1 line → AsksOnce (wire (driver_past line)) → (stamps : ℕ → Stamp) (most : ℕ) → NoneBreaksIn ToModem Unopened most (captured stamps line)
 
--- no SABM was sent
-abbrev pub OpensNothing : List station.Act → Type 0
-OpensNothing past = list_any (λ f. is_kind f.kind Sabm) (frames_sent past) ≡ false
-
 -- all that an act calls for was sent before the next one
 abbrev pub IsPrompt : StationSetting → List station.Act → Type 0
 IsPrompt s [] = Unit {0}
@@ -74,12 +68,10 @@ IsPrompt s (station.Sent f ∷ past) = IsPrompt s past
 IsPrompt s (station.Given ∷ past) = IsPrompt s past
 IsPrompt s (a ∷ past) = (owed_frames s past ≡ []) × IsPrompt s past
 
--- Neither end sends data on a connection that isn't open, where the driver asks for each connection once at most, and the modem is
--- prompt, and opens none by itself.
+-- neither end sends data on a connection that isn't open, where the driver asks for each connection once at most, and the modem is prompt
 unfoldable pub BothSendWhileOpen : Setting → ℕ → List LineAct → Type 0
 BothSendWhileOpen s n1 line =
-    IsLawfulLine s n1 line → AsksOnce (wire (driver_past line)) → OpensNothing (modem_past line)
-    → IsPrompt (responding n1) (modem_past line)
+    IsLawfulLine s n1 line → AsksOnce (wire (driver_past line)) → IsPrompt (responding n1) (modem_past line)
     → (stamps : ℕ → Stamp) (most : ℕ) → NoneBreaks Unopened most (captured stamps line)
 
 -- ## Answers
@@ -119,7 +111,6 @@ HeedsStops s n1 line =
 pub record IsPlainLine (s : Setting) (n1 : ℕ) (line : List LineAct) : Type 0 where
   pub lawful : IsLawfulLine s n1 line
   pub once : AsksOnce (wire (driver_past line))
-  pub opens_none : OpensNothing (modem_past line)
   pub prompt : IsPrompt (responding n1) (modem_past line)
   pub commands : TakesCommandLines (driver_past line)
   pub offers : OffersText (modem_past line)

@@ -9,8 +9,9 @@ use Rattle.modem_ends.specs.OneModem as ends
 use Rattle.modem_ends.specs.OneModem.{EndAct, IsOneModem}
 use Rattle.modem_show.specs.Judging.{faults_from}
 use Rattle.modem_show.specs.Rows.{sound}
-use Rattle.show_laws.specs.Laws.{IsPrompt, OffersText, OpensNothing, TakesShortProbes}
+use Rattle.show_laws.specs.Laws.{IsPrompt, OffersText, TakesShortProbes}
 use Rattle.show_laws.specs.Lines.{AtDriver, AtModem, IsLawfulLine, LineAct, captured, driver_past, modem_past, responding}
+use Rattle.show_laws.specs.Talks.{OpensNothing}
 
 -- the line without the steps of the modem's script
 abbrev pub as_line : List EndAct → List LineAct

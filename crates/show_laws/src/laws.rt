@@ -36,7 +36,7 @@ pub fn openings()
     ensures { (s : Setting) (n1 : ℕ) (line : List LineAct) → SendsWhileOpen s n1 line }
 {}
 
-/// No data of either end is judged so where, beyond this, the modem does at once what each act calls for, and sends no SABM of its own.
+/// No data of either end is judged so where, beyond this, the modem does at once what each act calls for.
 #[tactic(auto, using(crate::proofs::openings::BothOpen::both_send_while_open))]
 pub fn openings_of_both()
     ensures { (s : Setting) (n1 : ℕ) (line : List LineAct) → BothSendWhileOpen s n1 line }
@@ -94,7 +94,7 @@ pub fn simulated_frames()
 {}
 
 /// Worked lines that are lawful, on which no frame is judged wrong and nothing is left unanswered: a command and a stop, which meets all that
-/// these laws ask, and a stop while a connection is being opened.
+/// these laws ask, a stop while a connection is being opened, and two openings that cross.
 #[tactic(auto, using(crate::proofs::rows::LineRowFacts::are_right))]
 pub fn worked_lines()
     ensures { AreRight }

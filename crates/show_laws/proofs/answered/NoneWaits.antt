@@ -6,6 +6,7 @@ use Rattle.mux_frame.specs.Frames.{Frame}
 use Rattle.mux_capture.specs.declared.packet.Direction.TheVariants.{ToModem, FromModem}
 use Rattle.mux_capture.specs.declared.packet.Stamp.{Stamp}
 use Rattle.mux_capture.specs.Passing.{Caught}
+use Rattle.mux_station.specs.Acts.{Got, Sent}
 use Rattle.mux_station.specs.declared.role.Role.{Role}
 use Rattle.mux_station.specs.declared.role.Role.TheVariants.{Initiator, Responder}
 use Rattle.mux_station.specs.Sending.{StationComplete, owed_frames}
@@ -66,19 +67,19 @@ Few r line = many_asks any (waiting r line) + many is_answer (frames_to r line) 
 
 from_step : (r : Role) (c : Caught) (line : List Caught) → is_from r c ≡ true → Few r line → Few r (c ∷ line)
 from_step r c line e k =
-    let w = ap (λ (b : Bool). many_asks any (map (excused_by c.frame) (if b then asked_with c.stamp c.frame ++ waiting r line else unanswered_by c.frame (waiting r line)))) e in
+    let w = ap (λ (b : Bool). many_asks any (if b then map (excused_by (Sent c.frame)) (asked_with c.stamp c.frame ++ waiting r line) else map (excused_by (Got c.frame)) (unanswered_by c.frame (waiting r line)))) e in
     let t = ap (λ (b : Bool). many is_answer (if b then frames_to r line else c.frame ∷ frames_to r line)) e in
     let f = ap (λ (b : Bool). many is_ask (if b then c.frame ∷ frames_of r line else frames_of r line)) e in
-    let x = excused_many any c.frame (asked_with c.stamp c.frame ++ waiting r line) in
+    let x = excused_many any (Sent c.frame) (asked_with c.stamp c.frame ++ waiting r line) in
     let y = asked_all c.stamp c.frame (waiting r line) in
     omega (arith, w, t, f, x, y, k)
 
 to_step : (r : Role) (c : Caught) (line : List Caught) → is_from r c ≡ false → (is_answer c.frame && is_none (answered_by c.frame (waiting r line))) ≡ false → Few r line → Few r (c ∷ line)
 to_step r c line e h k =
-    let w = ap (λ (b : Bool). many_asks any (map (excused_by c.frame) (if b then asked_with c.stamp c.frame ++ waiting r line else unanswered_by c.frame (waiting r line)))) e in
+    let w = ap (λ (b : Bool). many_asks any (if b then map (excused_by (Sent c.frame)) (asked_with c.stamp c.frame ++ waiting r line) else map (excused_by (Got c.frame)) (unanswered_by c.frame (waiting r line)))) e in
     let t = ap (λ (b : Bool). many is_answer (if b then frames_to r line else c.frame ∷ frames_to r line)) e in
     let f = ap (λ (b : Bool). many is_ask (if b then c.frame ∷ frames_of r line else frames_of r line)) e in
-    let x = excused_many any c.frame (unanswered_by c.frame (waiting r line)) in
+    let x = excused_many any (Got c.frame) (unanswered_by c.frame (waiting r line)) in
     let y = answer_removes c.frame (waiting r line) h in
     omega (arith, w, t, f, x, y, k)
 

@@ -34,11 +34,11 @@ use Rattle.show_laws.proofs.counts.StationCounts.{asked, called, station_sends}
 use Rattle.show_laws.proofs.lines.CapturedFrames.{both_ways, came_few, shows}
 use Rattle.show_laws.proofs.openings.ModeAnswers.{modes_few}
 use Rattle.show_laws.proofs.openings.ModemFollows.{FollowsM, IsSabm, answer_on, ask_on, call_step, come_step, control_step, data_step, open_m, still_step, zero_m}
-use Rattle.show_laws.proofs.openings.ModemOpen.{IsSteadyLine, above, asks_parts, disc_after, has_fresh, never_stops, steady_line_before, steady_zero}
+use Rattle.show_laws.proofs.openings.ModemOpen.{IsSteadyLine, above, asks_parts, disc_after, has_fresh, steady_line_before, under_zero}
 use Rattle.show_laws.proofs.openings.QuietFrames.{EndsNone, Quiet, cld_asks, ender_ends, ends_none}
 use Rattle.show_laws.proofs.openings.DriverOpen.{quiet_one}
 use Rattle.show_laws.proofs.openings.DiscBehindUa.{once_many}
-use Rattle.show_laws.proofs.openings.ResponderCalls.{answer_balanced, answer_modes, down_balanced, down_called, every, is_down, not_cld, opening_answered, tail_none}
+use Rattle.show_laws.proofs.openings.ResponderCalls.{answer_balanced, answer_modes, any_down_called, down_balanced, every, is_down, not_cld, opening_answered, tail_none}
 use Rattle.show_laws.proofs.openings.UaBehindSabm.{shut, ua_behind}
 
 -- ## Quiet frames at a responder
@@ -97,7 +97,7 @@ with_owed : (d : ℕ) (p q : List station.Act) (xs ys : List Frame) (sent : ℕ)
 with_owed d p q xs ys sent e h = subst (λ (fs : List Frame). FollowsM d p q fs sent) e h
 
 -- where d is open a SABM on it came
-asked_there : (s : Setting) (n1 d : ℕ) (line : List LineAct) → IsSteadyLine s n1 d line → open_m d (modem_past line) ≡ true → 1 ≤ many (is_on Sabm d) (frames_got (modem_past line))
+asked_there : (s : Setting) (n1 d : ℕ) (line : List LineAct) → IsSteadyLine s n1 line → open_m d (modem_past line) ≡ true → 1 ≤ many (is_on Sabm d) (frames_got (modem_past line))
 asked_there s n1 d line h o = by_count (many (is_on Sabm d) (frames_got (modem_past line))) refl
   where
     by_count : (n : ℕ) → many (is_on Sabm d) (frames_got (modem_past line)) ≡ n → 1 ≤ n
@@ -105,7 +105,7 @@ asked_there s n1 d line h o = by_count (many (is_on Sabm d) (frames_got (modem_p
     by_count zero e = absurd (let x : true ≡ false = sym o ∙ (shut n1 d (modem_past line) h.lawful.modem_lawful (omega (arith, e))).open_not in cc)
 
 -- what the modem answers with a UA or DM on d, as the first of its answers there while d is open
-sabm_answered : (s : Setting) (n1 d : ℕ) (stamps : ℕ → Stamp) (f : Frame) (line : List LineAct) → IsSteadyLine s n1 d line → answer_on d f ≡ true → open_m d (modem_past line) ≡ true
+sabm_answered : (s : Setting) (n1 d : ℕ) (stamps : ℕ → Stamp) (f : Frame) (line : List LineAct) → IsSteadyLine s n1 line → answer_on d f ≡ true → open_m d (modem_past line) ≡ true
     → many (answer_on d) (frames_sent (modem_past line)) ≤ 0 → IsSabm d (answered_by f (waiting Initiator (captured stamps line)))
 sabm_answered s n1 d stamps f line h a o none =
     let got = asked_there s n1 d line h o in
@@ -117,7 +117,7 @@ sabm_answered s n1 d stamps f line h a o none =
     let p = and_parts (is_mode_answer f) (f.dlci == d) a in
     record { ask = r.ask; is = r.found f p.0 (eqb-true f.dlci d p.1); sabm = r.sabm; new = r.new }
 
-modem_sent : (s : Setting) (n1 d : ℕ) (stamps : ℕ → Stamp) (f : Frame) (line : List LineAct) → IsSteadyLine s n1 d (AtModem (station.Sent f) ∷ line) → FollowsOn n1 stamps line d → FollowsOn n1 stamps line 0 → FollowsOn n1 stamps (AtModem (station.Sent f) ∷ line) d
+modem_sent : (s : Setting) (n1 d : ℕ) (stamps : ℕ → Stamp) (f : Frame) (line : List LineAct) → IsSteadyLine s n1 (AtModem (station.Sent f) ∷ line) → FollowsOn n1 stamps line d → FollowsOn n1 stamps line 0 → FollowsOn n1 stamps (AtModem (station.Sent f) ∷ line) d
 unfolding StationLawful Sends
 modem_sent s n1 d stamps f line h before before_zero = by_data (is_data_frame f) refl h.lawful.modem_lawful.0
   where
@@ -153,7 +153,7 @@ modem_sent s n1 d stamps f line h before before_zero = by_data (is_data_frame f)
         with_owed d _ _ g.later (drop 1 (owed_frames (responding n1) (modem_past line))) _ (sym (ap (λ (fs : List Frame). drop 1 fs) g.is_next))
         (control_step d (modem_past line) (own Responder (captured stamps line)) f g.later (answered_by f (waiting Initiator (captured stamps line))) (many (answer_on d) (frames_sent (modem_past line))) (many (answer_on 0) (frames_sent (modem_past line))) k k0
         (λ apart o. above d (modem_past line) apart o)
-        (λ a o none. sabm_answered s n1 d stamps f line (steady_line_before s n1 d (AtModem (station.Sent f)) line h) a o none)
+        (λ a o none. sabm_answered s n1 d stamps f line (steady_line_before s n1 (AtModem (station.Sent f)) line h) a o none)
         (λ a z n. quiet_handled_m d f (waiting Initiator (captured stamps line)) (own Responder (captured stamps line)) (answered_by f (waiting Initiator (captured stamps line))) refl shape a z n))
 
 -- ## A frame comes to the modem
@@ -183,13 +183,13 @@ uih_no_sabm Ua x y c h = cc
 uih_no_sabm Dm x y c h = cc
 uih_no_sabm Disc x y c h = cc
 
-first_answer : (s : Setting) (n1 d : ℕ) (f : Frame) (line : List LineAct) → IsSteadyLine s n1 d (AtModem (station.Got f) ∷ line) → is_on Sabm d f ≡ true → many (answer_on d) (frames_sent (modem_past line)) ≤ 0
+first_answer : (s : Setting) (n1 d : ℕ) (f : Frame) (line : List LineAct) → IsSteadyLine s n1 (AtModem (station.Got f) ∷ line) → is_on Sabm d f ≡ true → many (answer_on d) (frames_sent (modem_past line)) ≤ 0
 first_answer s n1 d f line h is =
     let now = came_few (is_on Sabm d) (wire (driver_past line)) (modem_past (AtModem (station.Got f) ∷ line)) (both_ways (AtModem (station.Got f) ∷ line) h.lawful.one_line).at_modem in
     let once = h.once d in
     let few = once_many (is_on Sabm d) (frames_sent (wire (driver_past line))) in
     let one : unit (is_on Sabm d f) ≡ 1 = ap unit is in
-    let older = steady_line_before s n1 d (AtModem (station.Got f)) line h in
+    let older = steady_line_before s n1 (AtModem (station.Got f)) line h in
     let ua = ua_behind n1 d (modem_past line) older.lawful.modem_lawful (omega (arith, now, once, few, one)) in
     let discs = disc_none (many (is_on Disc d) (frames_sent (wire (driver_past line)))) (disc_after s n1 d line older) ua in
     let came = came_few (is_on Disc d) (wire (driver_past line)) (modem_past line) (both_ways line older.lawful.one_line).at_modem in
@@ -201,7 +201,7 @@ first_answer s n1 d f line h is =
     disc_none zero k none = omega arith
     disc_none (suc n) k none = let x = k (omega arith) in absurd (omega (arith, x, none))
 
-modem_got : (s : Setting) (n1 d : ℕ) (stamps : ℕ → Stamp) (f : Frame) (line : List LineAct) → IsSteadyLine s n1 d (AtModem (station.Got f) ∷ line) → FollowsOn n1 stamps line d → FollowsOn n1 stamps (AtModem (station.Got f) ∷ line) d
+modem_got : (s : Setting) (n1 d : ℕ) (stamps : ℕ → Stamp) (f : Frame) (line : List LineAct) → IsSteadyLine s n1 (AtModem (station.Got f) ∷ line) → FollowsOn n1 stamps line d → FollowsOn n1 stamps (AtModem (station.Got f) ∷ line) d
 modem_got s n1 d stamps f line h before =
     let past = modem_past line in
     let st = responding n1 in
@@ -226,14 +226,31 @@ modem_got s n1 d stamps f line h before =
     shut_by (is_on Sabm d f) ((d == 0) || z) (open_m d past) (ends z d (station.Got f)) (second (is_kind f.kind Sabm) (f.dlci == d) away)
     (ender_ends z d f (and_from (is_mode_command f) ((f.dlci == d) || (f.dlci == 0)) p.0 (either (f.dlci == d) (f.dlci == 0) p.1))))
     (λ some.
-    let p = down_called (λ e. state_of Responder e past) f (never_stops past (older_none h)) some in
-    let open_zero : z ≡ true = zero_is ∙ p.0 in
-    shut_by (is_on Sabm d f) ((d == 0) || z) (open_m d past) (ends z d (station.Got f)) (uih_no_sabm f.kind (f.dlci == d) (f.dlci == 0) (octet_is (λ n. n) cld (message_of f.info)) p.1)
-    (ap (λ (b : Bool). b || (not (d == 0) && ends_itself z 0 (station.Got f))) (down_ends (is_on Disc d f) (is_on Dm d f) (is_on Sabm d f) z (brings_command cld f) open_zero p.1)))
+    let p = any_down_called Responder (λ e. state_of Responder e past) f some in
+    let sabm = uih_no_sabm f.kind (f.dlci == d) (f.dlci == 0) (octet_is (λ n. n) cld (message_of f.info)) p.1 in
+    down_shuts z refl sabm p.1)
     (tail_none d (λ e. state_of Responder e past) f))
   where
-    older_none : IsSteadyLine s n1 d (AtModem (station.Got f) ∷ line) → many (brings_command cld) (frames_sent (modem_past line)) ≤ 0
-    older_none k = (steady_line_before s n1 d (AtModem (station.Got f)) line k).down_none
+    down_ends : (a b c z k : Bool) → z ≡ true → k ≡ true → (a || (b || (c || (z && k)))) ≡ true
+    down_ends true b c z k e g = refl
+    down_ends false true c z k e g = refl
+    down_ends false false true z k e g = refl
+    down_ends false false false true k e g = g
+    down_ends false false false false k e g = cc
+
+    down_shuts : (z : Bool) → zero_m d (modem_past line) ≡ z → is_on Sabm d f ≡ false → brings_command cld f ≡ true → open_m d (station.Got f ∷ modem_past line) ≡ false
+    down_shuts true e sabm down =
+        let z = zero_m d (modem_past line) in
+        shut_by (is_on Sabm d f) ((d == 0) || z) (open_m d (modem_past line)) (ends z d (station.Got f)) sabm
+        (ap (λ (b : Bool). b || (not (d == 0) && ends_itself z 0 (station.Got f))) (down_ends (is_on Disc d f) (is_on Dm d f) (is_on Sabm d f) z (brings_command cld f) e down))
+    down_shuts false e sabm down =
+        let z = zero_m d (modem_past line) in
+        neither (is_on Sabm d f) ((d == 0) || z) (open_m d (modem_past line)) (ends z d (station.Got f)) sabm (under_zero d (modem_past line) e)
+      where
+        neither : (u k o e : Bool) → u ≡ false → o ≡ false → ((u && k) || (o && not e)) ≡ false
+        neither true k o e g h = cc
+        neither false k true e g h = cc
+        neither false k false e g h = refl
 
     swapped : (d == 0) ≡ false → (0 == d) ≡ false
     swapped e = by_test (0 == d) refl
@@ -249,13 +266,6 @@ modem_got s n1 d stamps f line h before =
     either : (a b : Bool) → b ≡ true → (a || b) ≡ true
     either true b e = refl
     either false b e = e
-
-    down_ends : (a b c z k : Bool) → z ≡ true → k ≡ true → (a || (b || (c || (z && k)))) ≡ true
-    down_ends true b c z k e g = refl
-    down_ends false true c z k e g = refl
-    down_ends false false true z k e g = refl
-    down_ends false false false true k e g = g
-    down_ends false false false false k e g = cc
 
     disc_ends : is_on Sabm d f ≡ false → ask_on d f ≡ true → open_m d (station.Got f ∷ modem_past line) ≡ false
     disc_ends n a =
@@ -308,15 +318,15 @@ come_open d f q o = by_come (is_ask f || is_kind f.kind Dm) refl
         kept (is_on Sabm d f && ((d == 0) || zero_m d q)) (open_m d q) (ends (zero_m d q) d (station.Got f)) o
         (ends_none (zero_m d q) d f (plain d a.0 p.1) (plain 0 a.0 p.1) (cld_asks f a.1))
 
-pub modem_line : (s : Setting) (n1 d : ℕ) (stamps : ℕ → Stamp) (line : List LineAct) → IsSteadyLine s n1 d line → FollowsOn n1 stamps line d
+pub modem_line : (s : Setting) (n1 d : ℕ) (stamps : ℕ → Stamp) (line : List LineAct) → IsSteadyLine s n1 line → FollowsOn n1 stamps line d
 modem_line s n1 d stamps [] h = record { opens = λ o. let x : false ≡ true = o in cc; fresh = λ o some. omega arith; zero = λ some apart. refl; down = λ some. refl; tail = omega arith }
-modem_line s n1 d stamps (AtModem (station.Sent f) ∷ line) h = modem_sent s n1 d stamps f line h (modem_line s n1 d stamps line (steady_line_before s n1 d (AtModem (station.Sent f)) line h)) (modem_line s n1 0 stamps line (steady_zero s n1 d line (steady_line_before s n1 d (AtModem (station.Sent f)) line h)))
-modem_line s n1 d stamps (AtModem (station.Got f) ∷ line) h = modem_got s n1 d stamps f line h (modem_line s n1 d stamps line (steady_line_before s n1 d (AtModem (station.Got f)) line h))
+modem_line s n1 d stamps (AtModem (station.Sent f) ∷ line) h = modem_sent s n1 d stamps f line h (modem_line s n1 d stamps line (steady_line_before s n1 (AtModem (station.Sent f)) line h)) (modem_line s n1 0 stamps line (steady_line_before s n1 (AtModem (station.Sent f)) line h))
+modem_line s n1 d stamps (AtModem (station.Got f) ∷ line) h = modem_got s n1 d stamps f line h (modem_line s n1 d stamps line (steady_line_before s n1 (AtModem (station.Got f)) line h))
 modem_line s n1 d stamps (AtModem (station.Called c) ∷ line) h =
     let past = modem_past line in
     let st = responding n1 in
     let a = station.Called c in
-    call_line s n1 stamps a line d h.prompt.0 (modem_line s n1 d stamps line (steady_line_before s n1 d (AtModem a) line h))
+    call_line s n1 stamps a line d h.prompt.0 (modem_line s n1 d stamps line (steady_line_before s n1 (AtModem a) line h))
     (λ o. (and_parts (open_m d past) (not (ends (zero_m d past) d a)) o).0)
     (λ e. called (answer_on e) 0 st past a (asked AnyProbe st (answer_on e) (ask_on e) (answer_balanced n1 Responder e) (station_view st past) c (is_none (refused st (station_view st past) c)) refl))
     (called is_down 0 st past a (asked AnyProbe st is_down every (down_balanced n1 Responder) (station_view st past) c (is_none (refused st (station_view st past) c)) refl))
@@ -324,7 +334,7 @@ modem_line s n1 d stamps (AtModem station.Tick ∷ line) h =
     let past = modem_past line in
     let st = responding n1 in
     let v = station_view st past in
-    call_line s n1 stamps station.Tick line d h.prompt.0 (modem_line s n1 d stamps line (steady_line_before s n1 d (AtModem station.Tick) line h))
+    call_line s n1 stamps station.Tick line d h.prompt.0 (modem_line s n1 d stamps line (steady_line_before s n1 (AtModem station.Tick) line h))
     (λ o. (and_parts (open_m d past) (not (ends (zero_m d past) d station.Tick)) o).0)
     (λ e. called (answer_on e) 0 st past station.Tick (none_of_tick AnyProbe n1 Responder (answer_on e) (ask_on e) (answer_balanced n1 Responder e) n1 v.state v.queued 0 62))
     (called is_down 0 st past station.Tick (none_of_tick AnyProbe n1 Responder is_down every (down_balanced n1 Responder) n1 v.state v.queued 0 62))
@@ -332,7 +342,7 @@ modem_line s n1 d stamps (AtModem station.Lost ∷ line) h = absurd (let x : tru
 modem_line s n1 d stamps (AtModem station.Given ∷ line) h =
     let past = modem_past line in
     let st = responding n1 in
-    let older = steady_line_before s n1 d (AtModem station.Given) line h in
+    let older = steady_line_before s n1 (AtModem station.Given) line h in
     let none : called_frames st past station.Given ≡ [] = ap (λ (b : Bool). if b then [] else frames_seeing st (station_view st past) station.Given) older.live in
     let same : owed_frames st past ++ called_frames st past station.Given ≡ owed_frames st past = ap (λ (fs : List Frame). owed_frames st past ++ fs) none ∙ append-nil (owed_frames st past) in
     with_owed d (station.Given ∷ past) (own Responder (captured stamps line)) (owed_frames st past) (owed_frames st past ++ called_frames st past station.Given) (many (answer_on d) (frames_sent past)) (sym same)
@@ -341,13 +351,13 @@ modem_line s n1 d stamps (AtModem station.Given ∷ line) h =
 modem_line s n1 d stamps (AtDriver (driver.Sent f) ∷ line) h =
     let past = modem_past line in
     still_step d past past (own Responder (captured stamps line)) (come f (own Responder (captured stamps line))) (owed_frames (responding n1) past) (many (answer_on d) (frames_sent past))
-    (modem_line s n1 d stamps line (steady_line_before s n1 d (AtDriver (driver.Sent f)) line h)) (λ o. o) (λ o. come_open d f (own Responder (captured stamps line)) o)
-modem_line s n1 d stamps (AtDriver (driver.Took q) ∷ line) h = modem_line s n1 d stamps line (steady_line_before s n1 d (AtDriver (driver.Took q)) line h)
-modem_line s n1 d stamps (AtDriver (driver.Got f) ∷ line) h = modem_line s n1 d stamps line (steady_line_before s n1 d (AtDriver (driver.Got f)) line h)
-modem_line s n1 d stamps (AtDriver (driver.Told o) ∷ line) h = modem_line s n1 d stamps line (steady_line_before s n1 d (AtDriver (driver.Told o)) line h)
-modem_line s n1 d stamps (AtDriver (driver.Heard k e l) ∷ line) h = modem_line s n1 d stamps line (steady_line_before s n1 d (AtDriver (driver.Heard k e l)) line h)
-modem_line s n1 d stamps (AtDriver driver.Tick ∷ line) h = modem_line s n1 d stamps line (steady_line_before s n1 d (AtDriver driver.Tick) line h)
-modem_line s n1 d stamps (AtDriver driver.Lost ∷ line) h = modem_line s n1 d stamps line (steady_line_before s n1 d (AtDriver driver.Lost) line h)
-modem_line s n1 d stamps (AtDriver (driver.Held e) ∷ line) h = modem_line s n1 d stamps line (steady_line_before s n1 d (AtDriver (driver.Held e)) line h)
-modem_line s n1 d stamps (AtDriver (driver.Freed e) ∷ line) h = modem_line s n1 d stamps line (steady_line_before s n1 d (AtDriver (driver.Freed e)) line h)
-modem_line s n1 d stamps (AtDriver driver.Given ∷ line) h = modem_line s n1 d stamps line (steady_line_before s n1 d (AtDriver driver.Given) line h)
+    (modem_line s n1 d stamps line (steady_line_before s n1 (AtDriver (driver.Sent f)) line h)) (λ o. o) (λ o. come_open d f (own Responder (captured stamps line)) o)
+modem_line s n1 d stamps (AtDriver (driver.Took q) ∷ line) h = modem_line s n1 d stamps line (steady_line_before s n1 (AtDriver (driver.Took q)) line h)
+modem_line s n1 d stamps (AtDriver (driver.Got f) ∷ line) h = modem_line s n1 d stamps line (steady_line_before s n1 (AtDriver (driver.Got f)) line h)
+modem_line s n1 d stamps (AtDriver (driver.Told o) ∷ line) h = modem_line s n1 d stamps line (steady_line_before s n1 (AtDriver (driver.Told o)) line h)
+modem_line s n1 d stamps (AtDriver (driver.Heard k e l) ∷ line) h = modem_line s n1 d stamps line (steady_line_before s n1 (AtDriver (driver.Heard k e l)) line h)
+modem_line s n1 d stamps (AtDriver driver.Tick ∷ line) h = modem_line s n1 d stamps line (steady_line_before s n1 (AtDriver driver.Tick) line h)
+modem_line s n1 d stamps (AtDriver driver.Lost ∷ line) h = modem_line s n1 d stamps line (steady_line_before s n1 (AtDriver driver.Lost) line h)
+modem_line s n1 d stamps (AtDriver (driver.Held e) ∷ line) h = modem_line s n1 d stamps line (steady_line_before s n1 (AtDriver (driver.Held e)) line h)
+modem_line s n1 d stamps (AtDriver (driver.Freed e) ∷ line) h = modem_line s n1 d stamps line (steady_line_before s n1 (AtDriver (driver.Freed e)) line h)
+modem_line s n1 d stamps (AtDriver driver.Given ∷ line) h = modem_line s n1 d stamps line (steady_line_before s n1 (AtDriver driver.Given) line h)

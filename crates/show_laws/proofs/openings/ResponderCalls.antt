@@ -147,13 +147,6 @@ response_down : (r : Role) (o : Option Message) → 1 ≤ many is_down (response
 response_down r None h = absurd (omega (arith, h))
 response_down r (Some m) h = responded r m (is_supported m.octet) (is_command m && not (m.octet == nsc)) refl h
 
-message_down : (r : Role) (s : State) (f : Frame) → is_stopping s ≡ false → 1 ≤ many is_down (by_message r s f) → (is_opened s ≡ true) × (octet_is (λ n. n) cld (message_in f) ≡ true)
-message_down r IsOpened f t h = (refl, response_down r (message_in f) h)
-message_down r (IsStopping n) f t h = let x : true ≡ false = t in cc
-message_down r IsShut f t h = absurd (omega (arith, h))
-message_down r (IsOpening n) f t h = absurd (omega (arith, h))
-message_down r (IsClosing n) f t h = absurd (omega (arith, h))
-
 mode_not_down : (r : Role) (e : ℕ) (b : Bool) → many is_down (ua_or_dm r e b ∷ []) ≤ 0
 mode_not_down r e true = omega arith
 mode_not_down r e false = omega arith
@@ -174,17 +167,6 @@ table_not_down Responder e channel own Disc = mode_not_down Responder e (is_open
 table_not_down Responder e channel own Sabm =
     few_if is_down 0 ((e == 0) || is_opened channel) (ua_or_dm Responder e true ∷ msc_after_opening Responder e) (ua_or_dm Responder e false ∷ [])
     (let a = mode_not_down Responder e true in let c = status_not_down Responder e in omega (arith, a, c)) (mode_not_down Responder e false)
-
--- what calls for the response to a CLD is a CLD, while 0 is Opened
-pub down_called : (state : ℕ → State) (f : Frame) → is_stopping (state 0) ≡ false → 1 ≤ many is_down (by_frame Responder state f) → (is_opened (state 0) ≡ true) × (brings_command cld f ≡ true)
-down_called state f t h = by_on (is_on Uih 0 f) refl h
-  where
-    by_on : (b : Bool) → is_on Uih 0 f ≡ b → 1 ≤ many is_down (if b then by_message Responder (state 0) f else by_table Responder f.dlci (state 0) (state f.dlci) f.kind) → (is_opened (state 0) ≡ true) × (brings_command cld f ≡ true)
-    by_on true e h =
-        let p = message_down Responder (state 0) f t h in
-        let same : octet_is (λ n. n) cld (message_of f.info) ≡ true = sym (ap (λ (b : Bool). octet_is (λ n. n) cld (if b then message_of f.info else None)) e) ∙ p.1 in
-        (p.0, and_from (is_on Uih 0 f) (octet_is (λ n. n) cld (message_of f.info)) e same)
-    by_on false e h = let none = table_not_down Responder f.dlci (state 0) (state f.dlci) f.kind in absurd (omega (arith, h, none))
 
 closing_response : (r : Role) (f : Frame) (b : Bool) → brings_command cld f ≡ b → 1 ≤ many is_down (if b then response_to r (message_in f) else []) → b ≡ true
 closing_response r f true e h = refl

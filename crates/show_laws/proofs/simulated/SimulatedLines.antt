@@ -205,4 +205,4 @@ unfolding SoundToModem Simulates AllSound
 sound_to_modem s e line h prompt offers probes stamps most low high high2 =
     let k = simulates s e line h in
     all_sound s e.n1 (as_line line)
-    (record { lawful = k.lawful; once = k.once; opens_none = k.opens_none; prompt = prompt; commands = k.commands; offers = offers; probes = probes }) stamps most low high high2
+    (record { lawful = k.lawful; once = k.once; prompt = prompt; commands = k.commands; offers = offers; probes = probes }) stamps most low high high2

@@ -54,7 +54,7 @@ pub all_sound : (s : Setting) (n1 : ℕ) (line : List LineAct) → AllSound s n1
 unfolding AllSound AnswersAsks BothSendWhileOpen CarriesText FitsN1 HeedsStops
 all_sound s n1 line h stamps most low high high2 =
     let fs = faults_from most [] (reverse (captured stamps line)) in
-    each_sound fs (answers_asks s n1 line h.lawful stamps most) (both_send_while_open s n1 line h.lawful h.once h.opens_none h.prompt stamps most)
+    each_sound fs (answers_asks s n1 line h.lawful stamps most) (both_send_while_open s n1 line h.lawful h.once h.prompt stamps most)
     (heeds_stops s n1 line h.lawful h.once stamps most) (fits_n1 s n1 line h.lawful h.probes stamps most low high high2)
     (carries_text s n1 line h.lawful h.commands h.offers stamps most)
     ∙ (one_each most [] (reverse (captured stamps line)) ∙ any_order (captured stamps line))

@@ -36,10 +36,9 @@ use Rattle.show_laws.proofs.openings.DriverOpen.{IsOnceLine, none_filtered, once
 use Rattle.show_laws.proofs.openings.ModemFollows.{answer_on, ask_on, uas_fewer}
 use Rattle.show_laws.proofs.openings.ModemOpen.{asks_parts}
 use Rattle.show_laws.proofs.openings.ResponderCalls.{answer_balanced, is_down}
-use Rattle.show_laws.proofs.openings.BothOpen.{no_sabms, opens_before}
 use Rattle.show_laws.proofs.openings.ModeAnswers.{is_ending}
 use Rattle.show_laws.proofs.openings.ModemCloses.{clds_closed, discs_closed}
-use Rattle.show_laws.proofs.talks.EndedLines.{IsEnded, driver_ended, modem_ended}
+use Rattle.show_laws.proofs.talks.EndedLines.{IsEnded, driver_ended, modem_ended, no_sabms, opens_before}
 use Rattle.show_laws.proofs.talks.SilentChannels.{Under, UnderM, before_sabm, before_sabm_m, before_ua, before_ua_m}
 use Rattle.show_laws.proofs.texts.NoneAstray.{commands_before}
 
