@@ -7,7 +7,7 @@ use Rattle.mux_capture.specs.declared.packet.Stamp.{Stamp}
 use Rattle.mux_capture.specs.Passing.{Caught}
 use Rattle.mux_station.specs.declared.role.Role.TheVariants.{Responder}
 use Rattle.mux_station.specs.Acts as station
-use Rattle.mux_station.specs.Offering.{offered}
+use Rattle.mux_station.specs.Offering.{data_out}
 use Rattle.mux_station.specs.Written.{is_kind}
 use Rattle.at_text.specs.Commands.{refusal_of}
 use Rattle.at_text.specs.Dialects.{Dialect, is_solicited}
@@ -29,10 +29,10 @@ finals_in dialect ls = length (filter dialect.is_final (filter (is_solicited dia
 abbrev pub commands_in : List (List ℕ) → ℕ
 commands_in ls = length (filter (λ l. is_none (refusal_of l)) ls)
 
--- on each connection no more final codes were offered since it opened than command lines came on it
+-- on each connection no more final codes were sent since it opened than command lines came on it
 abbrev pub AnswersNoMore : Dialect → List station.Act → Type 0
 AnswersNoMore dialect past =
-    (d : ℕ) → finals_in dialect (lines (offered Responder d past)) ≤ commands_in (lines (information_got Responder d past))
+    (d : ℕ) → finals_in dialect (lines (data_out Responder d past)) ≤ commands_in (lines (information_got Responder d past))
 
 -- so it is at each point of the past
 abbrev pub AnswersCommands : Dialect → List station.Act → Type 0

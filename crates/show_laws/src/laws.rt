@@ -67,8 +67,7 @@ pub fn answered()
     ensures { (s : Setting) (n1 : ℕ) (line : List LineAct) → AnswersAll s n1 line }
 {}
 
-/// Of what is told of a line no command overlaps another one, and no final code answers nothing, where the modem offers final codes to commands
-/// alone.
+/// Of what is told of a line no command overlaps another one, and no final code answers nothing, where the modem answers commands alone.
 #[tactic(auto, using(crate::proofs::talks::InTurn::talks_in_turn))]
 pub fn talks()
     ensures { (s : Setting) (n1 : ℕ) (line : List LineAct) → TalksInTurn s n1 line }

@@ -136,7 +136,7 @@ modem_room : (s : Setting) (n1 d : ℕ) (stamps : ℕ → Stamp) (f : Frame) (li
 modem_room s n1 d stamps f line h is same =
     let cs = captured stamps line in
     let seen = shows stamps line in
-    let b = modem_bound s n1 f line h is in
+    let b = modem_bound s n1 f line h is (data_carries f is) in
     let out : commands_in (lines (info_in d (frames_of Initiator cs))) ≡ commands_in (lines (info_in f.dlci (frames_sent (wire (driver_past line))))) =
     ap (λ z. commands_in (lines z)) (ap (λ n. info_in n (frames_of Initiator cs)) (sym same) ∙ ap (info_in f.dlci) seen.driver_frames) in
     let back : finals_in s.dialect (lines (info_in d (frames_of Responder cs) ++ f.info)) ≡ finals_in s.dialect (lines (info_in f.dlci (frames_sent (modem_past line)) ++ f.info)) =

@@ -13,7 +13,6 @@ use Rattle.mux_station.specs.Acts as station
 use Rattle.mux_station.specs.Messages.{Message, brings_command, brings_response, cld, command_of, message_in, message_of, octet_is, response_of}
 use Rattle.mux_station.specs.Tables.{is_supported}
 use Rattle.mux_station.specs.Written.{is_kind, is_on}
-use Rattle.at_text.specs.Dialects.{Dialect}
 use Rattle.modem_history.specs.Acts as driver
 use Rattle.modem_history.specs.Acts.{wire}
 use Rattle.modem_history.specs.Calls.{Setting}
@@ -22,7 +21,7 @@ use Rattle.modem_history.proofs.commands.FramesOnLine.{asked_first, info_in}
 use Rattle.modem_show.specs.Asking.{answers, both_respond, is_answer, is_mode_answer, is_mode_command, message_answers, message_asks, responds}
 use Rattle.modem_show.specs.Talking.{closes_all, is_close, is_turn_on, starts_afresh}
 use Rattle.show_laws.specs.Lines.{AtDriver, AtModem, LineAct, driver_past, modem_past, responding}
-use Rattle.show_laws.specs.Talks.{AnswersCommands, AnswersNoMore, IsTalkingLine}
+use Rattle.show_laws.specs.Talks.{IsTalkingLine}
 use Rattle.show_laws.proofs.asks.AnswerShapes.{is_alike, is_shaped, message_no_mode, one_response, or_elim, response_octet, shaped_message}
 use Rattle.show_laws.proofs.asks.AnswersCalled.{AnyProbe, answers_balanced}
 use Rattle.show_laws.proofs.asks.NoneUnasked.{any_probes, driver_shaped, modem_shaped, self_alike}
@@ -61,10 +60,6 @@ talking_before s n1 (AtModem a) line h = record {
   apart = h.apart;
   answers = h.answers.1;
 }
-
-pub answers_now : (dialect : Dialect) (past : List station.Act) → AnswersCommands dialect past → AnswersNoMore dialect past
-answers_now dialect [] h = λ d. omega arith
-answers_now dialect (a ∷ past) h = h.0
 
 -- ## Answers to what wasn't sent
 
