@@ -1,17 +1,17 @@
 -- A line between a driver and a simulated modem, as a line that these laws speak of.
 use Rattle.std.specs.Prelude.{◌≡◌, ℕ, ◌≤◌, List, [], ◌∷◌, map, reverse}
+use Rattle.mux_frame.specs.declared.dlci.Dlci.{Dlci}
 use Rattle.mux_capture.specs.declared.packet.Stamp.{Stamp}
-use Rattle.modem_history.specs.Acts.{wire}
 use Rattle.modem_history.specs.Calls.{Setting}
-use Rattle.modem_history.specs.TwoEnds.{AsksOnce, TakesCommandLines}
 use Rattle.modem_sim.specs.Acts.{Did, End, Wire}
 use Rattle.modem_ends.specs.OneModem as ends
 use Rattle.modem_ends.specs.OneModem.{EndAct, IsOneModem}
 use Rattle.modem_show.specs.Judging.{faults_from}
 use Rattle.modem_show.specs.Rows.{sound}
+use Rattle.modem_show.specs.Talking.{is_unprompted, overlaps}
 use Rattle.show_laws.specs.Laws.{IsPrompt, OffersText, TakesShortProbes}
-use Rattle.show_laws.specs.Lines.{AtDriver, AtModem, IsLawfulLine, LineAct, captured, driver_past, modem_past, responding}
-use Rattle.show_laws.specs.Talks.{OpensNothing}
+use Rattle.show_laws.specs.Lines.{AtDriver, AtModem, LineAct, captured, driver_past, modem_past, responding}
+use Rattle.show_laws.specs.Talks.{IsTalkingLine, NoneTells}
 
 -- the line without the steps of the modem's script
 abbrev pub as_line : List EndAct → List LineAct
@@ -20,20 +20,20 @@ as_line (ends.AtDriver a ∷ line) = AtDriver a ∷ as_line line
 as_line (ends.AtModem (Wire a) ∷ line) = AtModem a ∷ as_line line
 as_line (ends.AtModem (Did step) ∷ line) = as_line line
 
--- it is lawful, each connection is asked for once, the driver is given command lines, and the modem opens none
-pub record IsAsLawful (s : Setting) (e : End) (line : List EndAct) : Type 0 where
-  pub lawful : IsLawfulLine s e.n1 (as_line line)
-  pub once : AsksOnce (wire (driver_past (as_line line)))
-  pub commands : TakesCommandLines (driver_past (as_line line))
-  pub opens_none : OpensNothing (modem_past (as_line line))
-
--- so is each line of a driver and a simulated modem
+-- the modem opens no connection, and answers commands alone
 unfoldable pub Simulates : Setting → End → List EndAct → Type 0
-Simulates s e line = IsOneModem s e line → IsAsLawful s e line
+Simulates s e line = IsOneModem s e line → IsTalkingLine s e.n1 (as_line line)
 
--- nothing is wrong with any frame of it, where the modem is prompt, and neither end has a greater N1 than this, and a probe fits
+-- nothing is wrong with any frame of the line, where the modem is prompt, and neither end has a greater N1 than this, and a probe fits
 unfoldable pub SoundToModem : Setting → End → List EndAct → Type 0
 SoundToModem s e line =
     IsOneModem s e line → IsPrompt (responding e.n1) (modem_past (as_line line)) → OffersText (modem_past (as_line line)) → TakesShortProbes (driver_past (as_line line))
     → (stamps : ℕ → Stamp) (most : ℕ) → 18 ≤ most → s.n1 ≤ most → e.n1 ≤ most
     → faults_from most [] (reverse (captured stamps (as_line line))) ≡ map (λ c. sound) (captured stamps (as_line line))
+
+-- no command overlaps another one there, and no final code answers nothing
+unfoldable pub TalksToModem : Setting → End → List EndAct → Type 0
+TalksToModem s e line =
+    IsOneModem s e line → (stamps : ℕ → Stamp) (data_channels : List Dlci)
+    → NoneTells overlaps s.dialect data_channels (captured stamps (as_line line))
+    × NoneTells (is_unprompted s.dialect) s.dialect data_channels (captured stamps (as_line line))

@@ -6,7 +6,7 @@ ghost use Rattle.show_laws.specs.LineRows.{AreRight};
 ghost use Rattle.show_laws.specs.Talks.{FinishesTalk, TalksInTurn};
 ghost use Rattle.modem_sim.specs.Acts.{End};
 ghost use Rattle.modem_ends.specs.OneModem.{EndAct};
-ghost use Rattle.show_laws.specs.Simulated.{Simulates, SoundToModem};
+ghost use Rattle.show_laws.specs.Simulated.{Simulates, SoundToModem, TalksToModem};
 ghost use Rattle.show_laws.specs.Laws.{AllSound, AnswersAll, AnswersAsks, BothSendWhileOpen, CarriesText, FitsN1, HeedsStops, NeverStopped, SendsWhileOpen};
 
 /// No frame between a driver that keeps its laws and a modem that keeps the responder's tables is judged an answer that nothing waits
@@ -79,7 +79,8 @@ pub fn talks_end()
     ensures { (s : Setting) (n1 : ℕ) (line : List LineAct) → FinishesTalk s n1 line }
 {}
 
-/// A line of a driver and a simulated modem is such a lawful line, on which each connection is asked for once, and the modem opens none.
+/// A line of a driver and a simulated modem is such a line: each connection is asked for once, the modem opens none, and answers commands
+/// alone.
 #[tactic(auto, using(crate::proofs::simulated::SimulatedLines::simulates))]
 pub fn simulated()
     ensures { (s : Setting) (e : End) (line : List EndAct) → Simulates s e line }
@@ -90,6 +91,12 @@ pub fn simulated()
 #[tactic(auto, using(crate::proofs::simulated::SimulatedLines::sound_to_modem))]
 pub fn simulated_frames()
     ensures { (s : Setting) (e : End) (line : List EndAct) → SoundToModem s e line }
+{}
+
+/// Of what is told of it no command overlaps another one, and no final code answers nothing.
+#[tactic(auto, using(crate::proofs::simulated::SimulatedLines::talks_to_modem))]
+pub fn simulated_talks()
+    ensures { (s : Setting) (e : End) (line : List EndAct) → TalksToModem s e line }
 {}
 
 /// Worked lines that are lawful, on which no frame is judged wrong and nothing is left unanswered: a command and a stop, which meets all that

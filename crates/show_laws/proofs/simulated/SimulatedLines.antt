@@ -1,4 +1,4 @@
--- A line of a driver and a simulated modem is lawful at each of its points.
+-- A line of a driver and a simulated modem is one on which commands are answered.
 use Rattle.std.specs.Prelude.{◌≡◌, ℕ, ◌+◌, ◌==◌, ◌≤◌, ◌&&◌, not, Bool, true, false, List, [], ◌∷◌, ◌++◌, drop, Some, refl, is_none, if◌then◌else◌}
 use Rattle.std.specs.List.{list_any}
 use Rattle.std.proofs.Common.{ap, arith, sym, ◌∙◌, subst}
@@ -14,6 +14,7 @@ use Rattle.mux_station.specs.Sending.{Sends, StationLawful, called_frames, frame
 use Rattle.mux_station.specs.States.{State}
 use Rattle.mux_station.specs.Tables.{by_frame, held_up, message_frame, msc_frame, ready, ua_or_dm}
 use Rattle.mux_station.specs.Written.{is_data_frame, is_kind}
+use Rattle.at_text.specs.Dialects.{Dialect, standard}
 use Rattle.modem_history.specs.Acts as driver
 use Rattle.modem_history.specs.Acts.{wire}
 use Rattle.modem_history.specs.Calls.{Setting}
@@ -27,15 +28,19 @@ use Rattle.modem_sim.specs.Doing.{call_of, call_owed}
 use Rattle.modem_sim.specs.Histories.{EachAllowed}
 use Rattle.modem_ends.specs.OneModem as ends
 use Rattle.modem_ends.specs.OneModem.{EndAct}
+use Rattle.modem_ends.proofs.two_ends.LinePoints.{along}
 use Rattle.modem_show.specs.Asking.{is_mode_command}
 use Rattle.show_laws.specs.Laws.{AllSound}
 use Rattle.show_laws.specs.Lines.{IsOneLine, driver_past, modem_past, responding}
-use Rattle.show_laws.specs.Simulated.{Simulates, SoundToModem, as_line}
+use Rattle.show_laws.specs.Simulated.{Simulates, SoundToModem, TalksToModem, as_line}
+use Rattle.show_laws.specs.Talks.{AnswersCommands, TalksInTurn, TellsApart}
 use Rattle.show_laws.proofs.counts.ManyFrames.{few_if, many, many_both, unit}
 use Rattle.show_laws.proofs.counts.StationCounts.{called}
 use Rattle.show_laws.proofs.openings.ModeAnswers.{modes_few}
 use Rattle.show_laws.proofs.openings.UaBehindSabm.{none_of}
+use Rattle.show_laws.proofs.simulated.AnsweredCommands.{answers_commands, tells_apart}
 use Rattle.show_laws.proofs.sound.AllFrames.{all_sound}
+use Rattle.show_laws.proofs.talks.InTurn.{talks_in_turn}
 
 same_driver : (line : List EndAct) → driver_past (as_line line) ≡ ends.driver_past line
 same_driver [] = refl
@@ -198,6 +203,10 @@ simulates s e line h = record {
   opens_none =
       ap (λ (q : List station.Act). list_any (λ f. is_kind f.kind Sabm) (frames_sent q)) (same_modem line)
       ∙ none_any (frames_sent (ends.modem_wire line)) (owes_none e (ends.modem_past line) h.modem_lawful.at_station h.modem_lawful.acts).sent;
+  apart = subst (λ (x : Dialect). TellsApart x) (sym h.codes) tells_apart;
+  answers =
+      subst (λ (x : Dialect). AnswersCommands x (modem_past (as_line line))) (sym h.codes)
+      (subst (λ (q : List station.Act). AnswersCommands standard q) (sym (same_modem line)) (answers_commands s e line (along s e line h)));
 }
 
 pub sound_to_modem : (s : Setting) (e : End) (line : List EndAct) → SoundToModem s e line
@@ -206,3 +215,7 @@ sound_to_modem s e line h prompt offers probes stamps most low high high2 =
     let k = simulates s e line h in
     all_sound s e.n1 (as_line line)
     (record { lawful = k.lawful; once = k.once; prompt = prompt; commands = k.commands; offers = offers; probes = probes }) stamps most low high high2
+
+pub talks_to_modem : (s : Setting) (e : End) (line : List EndAct) → TalksToModem s e line
+unfolding TalksToModem Simulates TalksInTurn
+talks_to_modem s e line h stamps data_channels = talks_in_turn s e.n1 (as_line line) (simulates s e line h) stamps data_channels
