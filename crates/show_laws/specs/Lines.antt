@@ -1,11 +1,11 @@
 -- A line between a driver and a modem that keeps the responder's tables, and what a capture has of it (27.010, 5.4).
-use Rattle.std.specs.Prelude.{◌≡◌, ℕ, true, false, List, [], ◌∷◌, length, reverse, if◌then◌else◌}
+use Rattle.std.specs.Prelude.{◌≡◌, ℕ, true, false, List, [], ◌∷◌, length, reverse}
 use Rattle.std.specs.List.{list_any}
 use Rattle.mux_frame.specs.Frames.{Frame}
 use Rattle.mux_capture.specs.declared.packet.Direction.{Direction}
 use Rattle.mux_capture.specs.declared.packet.Direction.TheVariants.{ToModem, FromModem}
 use Rattle.mux_capture.specs.declared.packet.Stamp.{Stamp}
-use Rattle.mux_capture.specs.Passing.{Caught, is_same}
+use Rattle.mux_capture.specs.Passing.{Caught}
 use Rattle.mux_station.specs.declared.role.Role.{Role}
 use Rattle.mux_station.specs.declared.role.Role.TheVariants.{Initiator, Responder}
 use Rattle.mux_station.specs.Acts as station
@@ -17,10 +17,9 @@ use Rattle.modem_history.specs.Acts.{wire}
 use Rattle.modem_history.specs.Calls.{Setting, is_lost}
 use Rattle.modem_history.specs.Lawful.{Lawful, Complete}
 use Rattle.modem_history.specs.TwoEnds.{ComesInOrder, frames_got, frames_sent}
-use Rattle.modem_show.specs.declared.faults.Faults.{Faults}
 use Rattle.modem_show.specs.declared.rule.Rule.{Rule}
 use Rattle.modem_show.specs.Asking.{message_asks}
-use Rattle.modem_show.specs.Judging.{faults_from, faults_of}
+use Rattle.modem_show.specs.Judging.{faults_from}
 use Rattle.modem_show.specs.Rules.{breaks}
 use Rattle.modem_show.specs.Ways.{caught}
 
@@ -81,16 +80,6 @@ captured stamps (AtModem _ ∷ line) = captured stamps line
 -- none of these frames, the newest of which is the first, breaks the rule
 abbrev pub NoneBreaks : Rule → ℕ → List Caught → Type 0
 NoneBreaks rule n1 line = list_any (λ f. breaks f rule) (faults_from n1 [] (reverse line)) ≡ false
-
--- what is wrong with each frame that goes this way, of which the first comes first, behind those that passed before
-abbrev pub faults_in : Direction → ℕ → List Caught → List Caught → List Faults
-faults_in d n1 line [] = []
-faults_in d n1 line (c ∷ more) =
-    if is_same c.direction d then faults_of n1 line c ∷ faults_in d n1 (c ∷ line) more else faults_in d n1 (c ∷ line) more
-
--- none of these frames that goes this way breaks the rule
-abbrev pub NoneBreaksIn : Direction → Rule → ℕ → List Caught → Type 0
-NoneBreaksIn d rule n1 line = list_any (λ f. breaks f rule) (faults_in d n1 [] (reverse line)) ≡ false
 
 -- ## Its end
 

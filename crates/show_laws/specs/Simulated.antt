@@ -9,8 +9,8 @@ use Rattle.modem_ends.specs.OneModem.{EndAct, IsOneModem}
 use Rattle.modem_show.specs.Judging.{faults_from}
 use Rattle.modem_show.specs.Rows.{sound}
 use Rattle.modem_show.specs.Talking.{is_unprompted, overlaps}
-use Rattle.show_laws.specs.Laws.{IsPrompt, OffersText, TakesShortProbes}
-use Rattle.show_laws.specs.Lines.{AtDriver, AtModem, LineAct, captured, driver_past, modem_past, responding}
+use Rattle.show_laws.specs.Laws.{OffersText, TakesShortProbes}
+use Rattle.show_laws.specs.Lines.{AtDriver, AtModem, LineAct, captured, driver_past, modem_past}
 use Rattle.show_laws.specs.Talks.{IsTalkingLine, NoneTells}
 
 -- the line without the steps of the modem's script
@@ -24,10 +24,10 @@ as_line (ends.AtModem (Did step) ∷ line) = as_line line
 unfoldable pub Simulates : Setting → End → List EndAct → Type 0
 Simulates s e line = IsOneModem s e line → IsTalkingLine s e.n1 (as_line line)
 
--- nothing is wrong with any frame of the line, where the modem is prompt, and neither end has a greater N1 than this, and a probe fits
+-- nothing is wrong with any frame of the line, where lines are offered, neither end has a greater N1 than this, and a probe fits
 unfoldable pub SoundToModem : Setting → End → List EndAct → Type 0
 SoundToModem s e line =
-    IsOneModem s e line → IsPrompt (responding e.n1) (modem_past (as_line line)) → OffersText (modem_past (as_line line)) → TakesShortProbes (driver_past (as_line line))
+    IsOneModem s e line → OffersText (modem_past (as_line line)) → TakesShortProbes (driver_past (as_line line))
     → (stamps : ℕ → Stamp) (most : ℕ) → 18 ≤ most → s.n1 ≤ most → e.n1 ≤ most
     → faults_from most [] (reverse (captured stamps (as_line line))) ≡ map (λ c. sound) (captured stamps (as_line line))
 

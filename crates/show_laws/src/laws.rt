@@ -7,7 +7,7 @@ ghost use Rattle.show_laws.specs.Talks.{FinishesTalk, TalksInTurn};
 ghost use Rattle.modem_sim.specs.Acts.{End};
 ghost use Rattle.modem_ends.specs.OneModem.{EndAct};
 ghost use Rattle.show_laws.specs.Simulated.{Simulates, SoundToModem, TalksToModem};
-ghost use Rattle.show_laws.specs.Laws.{AllSound, AnswersAll, AnswersAsks, BothSendWhileOpen, CarriesText, FitsN1, HeedsStops, NeverStopped, SendsWhileOpen};
+ghost use Rattle.show_laws.specs.Laws.{AllSound, AnswersAll, AnswersAsks, CarriesText, FitsN1, HeedsStops, NeverStopped, SendWhileOpen};
 
 /// No frame between a driver that keeps its laws and a modem that keeps the responder's tables is judged an answer that nothing waits
 /// for.
@@ -30,16 +30,10 @@ pub fn texts()
     ensures { (s : Setting) (n1 : ℕ) (line : List LineAct) → CarriesText s n1 line }
 {}
 
-/// No data of the driver is judged to be on a connection that isn't open, where the driver asks for each connection once at most.
-#[tactic(auto, using(crate::proofs::openings::NoneUnopened::sends_while_open))]
+/// No data is judged to be on a connection that isn't open, where the driver asks for each connection once at most.
+#[tactic(auto, using(crate::proofs::openings::BothOpen::send_while_open))]
 pub fn openings()
-    ensures { (s : Setting) (n1 : ℕ) (line : List LineAct) → SendsWhileOpen s n1 line }
-{}
-
-/// No data of either end is judged so where, beyond this, the modem does at once what each act calls for.
-#[tactic(auto, using(crate::proofs::openings::BothOpen::both_send_while_open))]
-pub fn openings_of_both()
-    ensures { (s : Setting) (n1 : ℕ) (line : List LineAct) → BothSendWhileOpen s n1 line }
+    ensures { (s : Setting) (n1 : ℕ) (line : List LineAct) → SendWhileOpen s n1 line }
 {}
 
 /// No data is judged to be on a stopped connection, where neither end stops any.
@@ -86,8 +80,7 @@ pub fn simulated()
     ensures { (s : Setting) (e : End) (line : List EndAct) → Simulates s e line }
 {}
 
-/// Nothing is judged wrong with any frame of it, where the modem does at once what each act calls for, what is offered is text, and probes
-/// are short.
+/// Nothing is judged wrong with any frame of it, where what is offered is text, and probes are short.
 #[tactic(auto, using(crate::proofs::simulated::SimulatedLines::sound_to_modem))]
 pub fn simulated_frames()
     ensures { (s : Setting) (e : End) (line : List EndAct) → SoundToModem s e line }

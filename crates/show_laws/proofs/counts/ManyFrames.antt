@@ -1,5 +1,5 @@
 -- How many frames pass a test.
-use Rattle.std.specs.Prelude.{◌≡◌, ℕ, ◌+◌, ◌≤◌, Bool, true, false, List, [], ◌∷◌, ◌++◌, drop, if◌then◌else◌}
+use Rattle.std.specs.Prelude.{◌≡◌, ℕ, ◌+◌, ◌≤◌, Bool, true, false, List, [], ◌∷◌, ◌++◌, if◌then◌else◌}
 use Rattle.std.proofs.Common.{ap, arith}
 use Rattle.mux_frame.specs.Frames.{Frame}
 
@@ -24,7 +24,3 @@ few_if t n false fs gs h k = k
 
 pub few_both : (t : Frame → Bool) (m n : ℕ) (fs gs : List Frame) → many t fs ≤ m → many t gs ≤ n → many t (fs ++ gs) ≤ m + n
 few_both t m n fs gs h k = let e = many_both t fs gs in omega (arith, e, h, k)
-
-pub few_dropped : (t : Frame → Bool) (fs : List Frame) → many t (drop 1 fs) ≤ many t fs
-few_dropped t [] = omega arith
-few_dropped t (f ∷ fs) = omega arith

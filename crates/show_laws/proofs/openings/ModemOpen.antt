@@ -1,8 +1,7 @@
--- The modem sends data where what passed says that the connection is open.
+-- The driver's SABM waits for the first UA or DM on its connection. While a connection of the modem is open 0 is too.
 use Rattle.std.specs.Prelude.{◌≡◌, ℕ, ◌+◌, ◌==◌, ◌≤◌, ◌&&◌, ◌||◌, not, Bool, true, false, List, [], ◌∷◌, ◌++◌, length, map, refl}
-use Rattle.std.specs.List.{list_any}
 use Rattle.std.proofs.Common.{ap, arith, sym, ◌∙◌, eqb-true}
-use Rattle.std.proofs.lemmas.Bool.{and_parts, or_parts}
+use Rattle.std.proofs.lemmas.Bool.{and_parts}
 use Rattle.mux_frame.specs.Frames.{Frame}
 use Rattle.mux_frame.specs.declared.frame.Kind.{Kind}
 use Rattle.mux_frame.specs.declared.frame.Kind.TheVariants.{Sabm, Ua, Dm, Disc, Uih}
@@ -12,57 +11,25 @@ use Rattle.mux_station.specs.declared.role.Role.TheVariants.{Initiator, Responde
 use Rattle.mux_station.specs.Acts as station
 use Rattle.mux_station.specs.Messages.{cld, message_of, octet_is}
 use Rattle.mux_station.specs.Opening.{ends}
-use Rattle.mux_station.specs.Sending.{is_loss}
 use Rattle.mux_station.specs.Written.{is_kind, is_on}
 use Rattle.mux_station.proofs.states.OpenByPlaces.{zero_same}
 use Rattle.modem_history.specs.Acts as driver
 use Rattle.modem_history.specs.Acts.{wire}
 use Rattle.modem_history.specs.Calls.{Setting}
-use Rattle.modem_history.specs.TwoEnds.{AsksOnce, frames_sent}
+use Rattle.modem_history.specs.TwoEnds.{frames_sent}
 use Rattle.modem_show.specs.Asking.{asked_with, excused_by, unanswered_by, waiting}
-use Rattle.show_laws.specs.Lines.{AtDriver, AtModem, IsLawfulLine, LineAct, captured, driver_past, modem_past, responding}
-use Rattle.show_laws.specs.Laws.{IsPrompt}
+use Rattle.show_laws.specs.Lines.{AtDriver, LineAct, captured, driver_past, modem_past}
 use Rattle.show_laws.proofs.asks.AnswerShapes.{or_elim}
 use Rattle.show_laws.proofs.asks.WaitingAsks.{frames_of, frames_to}
 use Rattle.show_laws.proofs.counts.ManyFrames.{many, unit}
 use Rattle.show_laws.proofs.lines.CapturedFrames.{both_ways, came_few, shows}
-use Rattle.show_laws.proofs.lines.EveryFrame.{lawful_before, over}
+use Rattle.show_laws.proofs.lines.EveryFrame.{over}
 use Rattle.show_laws.proofs.openings.DiscBehindUa.{disc_behind}
-use Rattle.show_laws.proofs.openings.DriverOpen.{once_before}
+use Rattle.show_laws.proofs.openings.DriverOpen.{IsOnceLine, once_line_before}
 use Rattle.show_laws.proofs.openings.FreshAsks.{Fresh, other_answers, other_asks, sabm_asks}
-use Rattle.show_laws.proofs.openings.ModemFollows.{answer_on, ask_on, open_m, uas_fewer, zero_m}
+use Rattle.show_laws.proofs.openings.ModemAnswers.{answer_on, ask_on, open_m, uas_fewer, zero_m}
 use Rattle.show_laws.proofs.openings.QuietFrames.{itself_zero, kept_zero, unended}
 use Rattle.show_laws.proofs.openings.UaBehindSabm.{none_of}
-
--- ## The line
-
--- a lawful line on which each connection is asked for once, of a modem that is prompt, and didn't lose it
-pub record IsSteadyLine (s : Setting) (n1 : ℕ) (line : List LineAct) : Type 0 where
-  pub lawful : IsLawfulLine s n1 line
-  pub once : AsksOnce (wire (driver_past line))
-  pub prompt : IsPrompt (responding n1) (modem_past line)
-  pub live : list_any is_loss (modem_past line) ≡ false
-
-pub prompt_before : (n1 : ℕ) (a : station.Act) (past : List station.Act) → IsPrompt (responding n1) (a ∷ past) → IsPrompt (responding n1) past
-prompt_before n1 (station.Sent f) past h = h
-prompt_before n1 (station.Given) past h = h
-prompt_before n1 (station.Called c) past h = h.1
-prompt_before n1 (station.Got f) past h = h.1
-prompt_before n1 station.Tick past h = h.1
-prompt_before n1 station.Lost past h = h.1
-
-live_before : (a : station.Act) (past : List station.Act) → list_any is_loss (a ∷ past) ≡ false → list_any is_loss past ≡ false
-live_before a past h = (or_parts (is_loss a) (list_any is_loss past) h).1
-
-pub steady_line_before : (s : Setting) (n1 : ℕ) (x : LineAct) (line : List LineAct) → IsSteadyLine s n1 (x ∷ line) → IsSteadyLine s n1 line
-steady_line_before s n1 (AtDriver a) line h =
-    record { lawful = lawful_before s n1 (AtDriver a) line h.lawful; once = once_before a (driver_past line) h.once; prompt = h.prompt; live = h.live }
-steady_line_before s n1 (AtModem a) line h = record {
-  lawful = lawful_before s n1 (AtModem a) line h.lawful;
-  once = h.once;
-  prompt = prompt_before n1 a (modem_past line) h.prompt;
-  live = live_before a (modem_past line) h.live;
-}
 
 -- ## Counts
 
@@ -75,7 +42,7 @@ asks_parts d (f ∷ fs) = let x = parts (is_kind f.kind Sabm) (is_kind f.kind Di
     parts false b c = omega arith
 
 -- a DISC was sent behind the modem's UA
-pub disc_after : (s : Setting) (n1 d : ℕ) (line : List LineAct) → IsSteadyLine s n1 line → 1 ≤ many (is_on Disc d) (frames_sent (wire (driver_past line))) → 1 ≤ many (is_on Ua d) (frames_sent (modem_past line))
+disc_after : (s : Setting) (n1 d : ℕ) (line : List LineAct) → IsOnceLine s n1 line → 1 ≤ many (is_on Disc d) (frames_sent (wire (driver_past line))) → 1 ≤ many (is_on Ua d) (frames_sent (modem_past line))
 disc_after s n1 d line h some =
     let got = disc_behind s d (driver_past line) h.lawful.is_initiator h.lawful.driver_lawful h.once some in
     let came = came_few (is_on Ua d) (modem_past line) (wire (driver_past line)) (both_ways line h.lawful.one_line).at_driver in
@@ -86,7 +53,7 @@ disc_after s n1 d line h some =
 abbrev HasFresh : ℕ → List Caught → Type 0
 HasFresh d line = 1 ≤ many (is_on Sabm d) (frames_of Initiator line) → many (answer_on d) (frames_to Initiator line) ≤ 0 → Fresh d (waiting Initiator line)
 
-driver_fresh : (s : Setting) (n1 d : ℕ) (stamps : ℕ → Stamp) (stamp : Stamp) (f : Frame) (line : List LineAct) → IsSteadyLine s n1 (AtDriver (driver.Sent f) ∷ line) → HasFresh d (captured stamps line)
+driver_fresh : (s : Setting) (n1 d : ℕ) (stamps : ℕ → Stamp) (stamp : Stamp) (f : Frame) (line : List LineAct) → IsOnceLine s n1 (AtDriver (driver.Sent f) ∷ line) → HasFresh d (captured stamps line)
     → 1 ≤ unit (is_on Sabm d f) + many (is_on Sabm d) (frames_of Initiator (captured stamps line)) → many (answer_on d) (frames_to Initiator (captured stamps line)) ≤ 0
     → Fresh d (map (excused_by (station.Sent f)) (asked_with stamp f ++ waiting Initiator (captured stamps line)))
 driver_fresh s n1 d stamps stamp f line h q some none = by_sabm (is_on Sabm d f) refl
@@ -122,9 +89,9 @@ modem_fresh : (d : ℕ) (stamps : ℕ → Stamp) (f : Frame) (line : List LineAc
 modem_fresh d stamps f line q some none =
     other_answers d f (waiting Initiator (captured stamps line)) (none_of (answer_on d) f (many (answer_on d) (frames_to Initiator (captured stamps line))) none) (q some (omega (arith, none)))
 
-pub has_fresh : (s : Setting) (n1 d : ℕ) (stamps : ℕ → Stamp) (line : List LineAct) → IsSteadyLine s n1 line → HasFresh d (captured stamps line)
+pub has_fresh : (s : Setting) (n1 d : ℕ) (stamps : ℕ → Stamp) (line : List LineAct) → IsOnceLine s n1 line → HasFresh d (captured stamps line)
 has_fresh s n1 d stamps line h =
-    over (IsSteadyLine s n1) (λ x line k. steady_line_before s n1 x line k) (HasFresh d) stamps (λ some none. absurd (omega (arith, some)))
+    over (IsOnceLine s n1) (λ x line k. once_line_before s n1 x line k) (HasFresh d) stamps (λ some none. absurd (omega (arith, some)))
     (λ f line k q some none. driver_fresh s n1 d stamps (stamps (length (captured stamps line))) f line k q some none)
     (λ f line k q some none. modem_fresh d stamps f line q some none) line h
 
@@ -166,15 +133,3 @@ zero_open d (station.Given ∷ past) apart o = let z = zero_m d past in let p = 
 
 pub above : (d : ℕ) (past : List station.Act) → (d == 0) ≡ false → open_m d past ≡ true → open_m 0 past ≡ true
 above d past apart o = sym (zero_same Responder d past) ∙ zero_open d past apart o
-
--- while 0 isn't open no connection is
-pub under_zero : (d : ℕ) (past : List station.Act) → zero_m d past ≡ false → open_m d past ≡ false
-under_zero d past shut = by_open (open_m d past) refl
-  where
-    by_place : (b : Bool) → (d == 0) ≡ b → open_m d past ≡ true → zero_m d past ≡ true
-    by_place false apart o = zero_open d past apart o
-    by_place true is o = zero_same Responder d past ∙ (ap (λ n. open_m n past) (sym (eqb-true d 0 is)) ∙ o)
-
-    by_open : (b : Bool) → open_m d past ≡ b → b ≡ false
-    by_open false o = refl
-    by_open true o = let x : true ≡ false = sym (by_place (d == 0) refl o) ∙ shut in cc

@@ -1,5 +1,5 @@
 -- The answers that a responder's frames and calls bring about.
-use Rattle.std.specs.Prelude.{◌≡◌, ℕ, ◌+◌, ◌*◌, ◌==◌, ◌≤◌, ◌&&◌, ◌||◌, not, Bool, true, false, List, [], ◌∷◌, drop, Option, Some, None, refl, if◌then◌else◌}
+use Rattle.std.specs.Prelude.{◌≡◌, ℕ, ◌+◌, ◌*◌, ◌==◌, ◌≤◌, ◌&&◌, ◌||◌, not, Bool, true, false, List, [], ◌∷◌, Option, Some, None, refl, if◌then◌else◌}
 use Rattle.std.proofs.Common.{ap, arith, sym, ◌∙◌, subst, eqb-true}
 use Rattle.std.proofs.lemmas.Bool.{and_from, and_parts, eq-eqb}
 use Rattle.mux_frame.specs.Frames.{Frame}
@@ -14,14 +14,15 @@ use Rattle.mux_station.specs.Tables.{by_frame, by_message, by_table, is_opening,
 use Rattle.modem_show.specs.Asking.{answers, both_respond, is_mode_answer, is_mode_command, message_asks, responds}
 use Rattle.show_laws.proofs.asks.AnswerShapes.{is_shaped, message_no_mode, one_response, or_elim, response_octet, shaped_message, supported_by}
 use Rattle.show_laws.proofs.asks.AnswersCalled.{AnyProbe, IsRead, as_it_is, is_read, unread}
-use Rattle.show_laws.proofs.counts.ManyFrames.{few_dropped, few_if, many, none_one, unit}
+use Rattle.show_laws.proofs.counts.ManyFrames.{few_if, many, none_one, unit}
 use Rattle.show_laws.proofs.counts.BalancedTables.{Balanced, is_command_octet}
-use Rattle.show_laws.proofs.openings.ModeAnswers.{OfModes, messaged, modes_balanced}
-use Rattle.show_laws.proofs.openings.ModemFollows.{answer_on, ask_on}
+use Rattle.show_laws.proofs.openings.ModeAnswers.{OfModes, modes_balanced}
+use Rattle.show_laws.proofs.openings.OpenBelowZero.{none_when}
+use Rattle.show_laws.proofs.openings.ModemAnswers.{answer_on, ask_on}
 
 -- ## UA and DM
 
-pub answer_modes : (d : ℕ) → OfModes (answer_on d) (λ n. n == d)
+answer_modes : (d : ℕ) → OfModes (answer_on d) (λ n. n == d)
 answer_modes d = record { uih = λ r e info. refl; answer = λ r e b. either r e b }
   where
     either : (r : Role) (e : ℕ) (b : Bool) → unit (answer_on d (ua_or_dm r e b)) ≤ unit (e == d)
@@ -39,32 +40,6 @@ pub answer_balanced : (most : ℕ) (r : Role) (d : ℕ) → Balanced AnyProbe mo
 answer_balanced most r d =
     modes_balanced most r (answer_on d) (λ n. n == d) (answer_modes d)
     (λ f is. no_answer f.kind (f.dlci == d) (and_parts (is_kind f.kind Uih) (not (f.dlci == 0)) is).0) (λ e. refl) (λ e. refl)
-
-after_first : (d e : ℕ) (channel own : State) (k : Kind) → many (answer_on d) (drop 1 (by_table Responder e channel own k)) ≤ 0
-after_first d e channel own Ua = omega arith
-after_first d e channel own Dm = omega arith
-after_first d e channel own Uih = omega arith
-after_first d e channel own Disc = omega arith
-after_first d e channel own Sabm = either ((e == 0) || is_opened channel)
-  where
-    status : (b : Bool) → many (answer_on d) (if b then [] else msc_frame Responder e ready ∷ []) ≤ 0
-    status true = omega arith
-    status false = omega arith
-
-    either : (b : Bool) → many (answer_on d) (drop 1 (if b then ua_or_dm Responder e true ∷ msc_after_opening Responder e else ua_or_dm Responder e false ∷ [])) ≤ 0
-    either true = status (e == 0)
-    either false = omega arith
-
--- behind the first frame that is called for no UA or DM is
-pub tail_none : (d : ℕ) (state : ℕ → State) (f : Frame) → many (answer_on d) (drop 1 (by_frame Responder state f)) ≤ 0
-tail_none d state f = by_on (is_on Uih 0 f)
-  where
-    by_on : (b : Bool) → many (answer_on d) (drop 1 (if b then by_message Responder (state 0) f else by_table Responder f.dlci (state 0) (state f.dlci) f.kind)) ≤ 0
-    by_on true =
-        let x = messaged (answer_on d) (λ n. n == d) (answer_modes d) Responder (state 0) f in
-        let y = few_dropped (answer_on d) (by_message Responder (state 0) f) in
-        omega (arith, x, y)
-    by_on false = after_first d f.dlci (state 0) (state f.dlci) f.kind
 
 -- a SABM that opens is answered by UA
 opening_table : (d e : ℕ) (channel own : State) (k : Kind) → (is_kind k Sabm && (e == d)) ≡ true → ((e == 0) || is_opened channel) ≡ true → 1 ≤ many (is_on Ua d) (by_table Responder e channel own k)
@@ -119,10 +94,6 @@ message_not_down r octet value h = by_test (is_down (message_frame r octet value
     by_test : (b : Bool) → is_down (message_frame r octet value) ≡ b → b ≡ false
     by_test false e = refl
     by_test true e = let x : true ≡ false = sym (down_octet r octet value e) ∙ h in cc
-
-some_if : {P : Type 0} → (b : Bool) (fs gs : List Frame) → (1 ≤ many is_down fs → P) → (b ≡ false → 1 ≤ many is_down gs → P) → 1 ≤ many is_down (if b then fs else gs) → P
-some_if true fs gs f g h = f h
-some_if false fs gs f g h = g refl h
 
 one_some : (f : Frame) → 1 ≤ many is_down (f ∷ []) → is_down f ≡ true
 one_some f h = by_test (is_down f) refl h
@@ -296,3 +267,13 @@ down_balanced most r = record {
             let y : octet ≡ 0xc1 = omega (arith, x) in
             let z : is_command_octet 0xc1 ≡ true = subst (λ n. is_command_octet n ≡ true) y h in
             cc
+
+-- no more of them than CLDs
+pub down_by_cld : (most : ℕ) (r : Role) → Balanced AnyProbe most r is_down (brings_command cld)
+down_by_cld most r =
+    let b = down_balanced most r in
+    record { frame = λ state f. by_cld state f (brings_command cld f) refl; plain = b.plain; sabm = b.sabm; disc = b.disc; command = b.command; probe = b.probe; short = b.short }
+  where
+    by_cld : (state : ℕ → State) (f : Frame) (b : Bool) → brings_command cld f ≡ b → many is_down (by_frame r state f) ≤ unit b
+    by_cld state f true e = (down_balanced most r).frame state f
+    by_cld state f false e = none_when (many is_down (by_frame r state f)) (λ some. let t : true ≡ false = sym (any_down_called r state f some).1 ∙ e in cc)

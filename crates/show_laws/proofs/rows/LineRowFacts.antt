@@ -141,7 +141,6 @@ unfolding open_acts
 opens_plainly = record {
   lawful = record { is_initiator = refl; driver_lawful = (good (replaying 31) open_acts refl refl refl).lawful; modem_lawful = open_station; one_line = open_line };
   once = open_once;
-  prompt = (refl, (refl, (refl, (refl, (refl, (refl, tt))))));
   commands = (λ d e. cc, (λ d e. cc, tt));
   offers = (refl, tt);
   probes = refl;
@@ -154,7 +153,6 @@ meets_all = record {
       record {
         lawful = record { is_initiator = refl; driver_lawful = (good (replaying 31) command_acts refl refl refl).lawful; modem_lawful = command_station; one_line = command_line };
         once = command_once;
-        prompt = (refl, (refl, (refl, (refl, (refl, (refl, (refl, tt)))))));
         commands = (λ d e. cc, (λ d e. refl, (λ d e. cc, (λ d e. cc, tt))));
         offers = (refl, tt);
         probes = refl;

@@ -153,9 +153,6 @@ sent_none e past f false is g h =
     let y = h.owed in
     record { sent = omega (arith, first, x, y); owed = omega (arith, same, first, y) }
 
-taken_call : (c : station.Call) (past : List modem.Act) → call_owed past ≡ Some c → (d : ℕ) → c ≡ Open d → ⊥
-taken_call c past e d k = never_opens past d (e ∙ ap (λ (x : station.Call). Some x) k)
-
 owes_none : (e : End) (past : List modem.Act) → StationLawful (responding e.n1) (modem.wire past) → EachAllowed e past → OwesNone e past
 unfolding StationLawful
 owes_none e [] l h = record { sent = omega arith; owed = omega arith }
@@ -211,10 +208,10 @@ simulates s e line h = record {
 
 pub sound_to_modem : (s : Setting) (e : End) (line : List EndAct) → SoundToModem s e line
 unfolding SoundToModem Simulates AllSound
-sound_to_modem s e line h prompt offers probes stamps most low high high2 =
+sound_to_modem s e line h offers probes stamps most low high high2 =
     let k = simulates s e line h in
     all_sound s e.n1 (as_line line)
-    (record { lawful = k.lawful; once = k.once; prompt = prompt; commands = k.commands; offers = offers; probes = probes }) stamps most low high high2
+    (record { lawful = k.lawful; once = k.once; commands = k.commands; offers = offers; probes = probes }) stamps most low high high2
 
 pub talks_to_modem : (s : Setting) (e : End) (line : List EndAct) → TalksToModem s e line
 unfolding TalksToModem Simulates TalksInTurn

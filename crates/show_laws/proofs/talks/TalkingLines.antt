@@ -32,7 +32,7 @@ use Rattle.show_laws.proofs.lines.CapturedFrames.{both_ways, came_few}
 use Rattle.show_laws.proofs.lines.EveryFrame.{lawful_before}
 use Rattle.show_laws.proofs.openings.DiscBehindUa.{once_many}
 use Rattle.show_laws.proofs.openings.DriverOpen.{IsOnceLine, none_filtered, once_before}
-use Rattle.show_laws.proofs.openings.ModemFollows.{answer_on, ask_on, uas_fewer}
+use Rattle.show_laws.proofs.openings.ModemAnswers.{answer_on, ask_on, uas_fewer}
 use Rattle.show_laws.proofs.openings.ModemOpen.{asks_parts}
 use Rattle.show_laws.proofs.openings.ResponderCalls.{answer_balanced, is_down}
 use Rattle.show_laws.proofs.openings.ModeAnswers.{is_ending}

@@ -64,10 +64,6 @@ turns : (s : Setting) (past : List driver.Act) (f : Frame) → Lawful s (driver.
 unfolding Lawful
 turns s past f l is = leb-true (reached_in (length (information_out s.role f.dlci past ++ f.info)) (texts (accepted s.role f.dlci past))) (answered s.dialect (marks s.role f.dlci past) + 1) (when_true (is_data_frame f) is l.0.in_turn)
 
-before_it : (s : Setting) (a : driver.Act) (past : List driver.Act) → Lawful s (a ∷ past) → Lawful s past
-unfolding Lawful
-before_it s a past l = l.1
-
 few_taken : {X : Type 0} → (n : ℕ) (xs : List X) → length (take n xs) ≤ n
 few_taken n xs = let e = length-take n xs in least n (length xs) (length (take n xs)) e
   where
