@@ -38,7 +38,7 @@ pub use dialect::Dialect;
 pub use dialect_error::DialectError;
 pub use error::TextError;
 pub use finals::{Final, final_of};
-pub use reader::{Line, LineReader};
+pub use reader::{Line, LineReader, run_len};
 pub use rules::Form;
 pub use text::Text;
 pub use unsolicited::{UrcKind, unsolicited_of};

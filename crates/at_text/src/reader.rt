@@ -1,11 +1,13 @@
 //! Lines of a connection, as their octets come.
-ghost use Rattle.std.specs.Prelude.{◌≡◌, ℕ, List, [], ◌∷◌, ◌++◌, if◌then◌else◌};
+ghost use Rattle.std.specs.Prelude.{◌≡◌, ◌≤◌, ◌<◌, ℕ, true, false, List, [], ◌∷◌, ◌++◌, length, take, slice_index, if◌then◌else◌};
 ghost use Rattle.std.specs.Borrow.{sem};
+ghost use Rattle.std.specs.List.{list_any};
 ghost use Rattle.std.specs.Io.BufRead.{Rests};
 ghost use Rattle.at_text.specs.Lines.{is_line_end, lines, cut};
 ghost use Rattle.at_text.specs.Reading.{HasRead, line_in, lines_in};
 
 use arrayvec::ArrayVec;
+use memchr::memchr2;
 use std::marker::Model;
 
 /// How many octets of a line are kept.
@@ -18,7 +20,16 @@ pub struct Line<'a> {
     pub text: &'a [u8],
 }
 
-/// Reads lines, octet by octet. Contracts see what it keeps of the line that hasn't ended yet.
+/// How many octets stand before the first line end; all of them, where there is none.
+pub fn run_len(octets: &[u8]) -> usize
+    ensures within { result ≤ length octets.now }
+    ensures before { list_any is_line_end (take result octets.now) ≡ false }
+    ensures end { result < length octets.now → is_line_end (slice_index octets.now result) ≡ true }
+{
+    memchr2(b'\r', b'\n', octets).unwrap_or(octets.len())
+}
+
+/// Reads lines. Contracts see what it keeps of the line that hasn't ended yet.
 #[derive(Drop)]
 pub struct LineReader {
     run: ArrayVec<u8, LINE_LEN>,
@@ -61,6 +72,19 @@ impl LineReader {
         drop_ended(&mut self.run, self.has_ended);
         self.has_ended = read_octet(&mut self.run, octet);
         ended_line(&self.run, self.has_ended)
+    }
+
+    /// Reads octets none of which ends a line: those in front of the place that `run_len` tells.
+    pub fn keep(&mut self, octets: &[u8])
+        requires { list_any is_line_end octets.now ≡ false }
+        ensures kept { HasRead self.new (self.old ++ octets.now) }
+        ensures none { lines (self.old ++ octets.now) ≡ [] }
+        ensures past { (past : List ℕ) → HasRead self.old past → lines (past ++ octets.now) ≡ lines past }
+        ensures before { HasRead self.old self.old }
+    {
+        drop_ended(&mut self.run, self.has_ended);
+        self.has_ended = false;
+        append_cut(&mut self.run, octets);
     }
 
     /// Forgets the line that hasn't ended yet.
@@ -113,6 +137,16 @@ fn read_octet(run: &mut ArrayVec<u8, LINE_LEN>, octet: u8) -> bool
         run.push(octet);
     }
     false
+}
+
+/// Adds octets to a line. What doesn't fit is cut off.
+#[tactic(auto, using(crate::proofs::lines::KeptOctets::cut_more))]
+fn append_cut(run: &mut ArrayVec<u8, LINE_LEN>, octets: &[u8])
+    ensures run { run.new.items ≡ cut (run.old.items ++ octets.now) }
+    ensures fits { length run.old.items ≤ 512 }
+{
+    let count = run.remaining_capacity().min(octets.len());
+    let _ = run.try_extend_from_slice(&octets[..count]);
 }
 
 #[tactic(auto, using(crate::proofs::lines::KeptOctets::cut_fits))]

@@ -132,7 +132,7 @@ impl Relay {
 
     /// Whether the relay can take octets of the driver: no octets wait for the line, and no frame of the driver's is at hand.
     pub fn wants_driver(&mut self) -> bool
-        ensures wants { result ≡ true → self.old.inner.next ≡ None }
+        ensures wants { result ≡ true → (self.old.to_line ≡ []) × (self.old.inner.next ≡ None) }
         ensures first { result ≡ false → (0 < length self.old.to_line) ⊎ (self.old.inner.next ≢ None) }
         ensures same { self.new ≡ self.old }
     {

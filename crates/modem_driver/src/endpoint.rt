@@ -90,7 +90,6 @@ impl Endpoint {
     /// A new endpoint at a standard modem. It listens to these kinds of unsolicited lines, and its first request has
     /// this number. N1 is the most octets of information that a frame may have. It takes room for 128 requests and 128
     /// outcomes. Refusals: 2 BadN1 where N1 isn't 31 to 32767, checked first; 1 NoMemory.
-    #[tactic(auto, using(crate::proofs::endpoints::Requests::begins_standard))]
     pub fn new(
         alloc: Global,
         n1: u16,
@@ -109,7 +108,6 @@ impl Endpoint {
     }
 
     /// As `new`, at a modem whose codes are those of this dialect. It takes a copy of the dialect.
-    #[tactic(auto, using(crate::proofs::endpoints::Requests::begins))]
     pub fn with_dialect(
         alloc: Global,
         n1: u16,

@@ -1,12 +1,12 @@
 //! Reads the lines of a connection, and says what each is.
-ghost use Rattle.std.specs.Prelude.{◌≡◌, ◌↔◌, ℕ, List, [], ◌∷◌, ◌++◌, true, map, Some, None, OnOk, IfOk};
+ghost use Rattle.std.specs.Prelude.{◌≡◌, ◌↔◌, ◌≤◌, ◌<◌, ℕ, List, [], ◌∷◌, ◌++◌, true, length, map, take, Some, None, OnOk, IfOk};
 ghost use Rattle.std.specs.List.{Contains};
 ghost use Rattle.modem_history.specs.Acts.{act_of};
 ghost use Rattle.at_text.specs.Rules.{dialect_of};
 ghost use Rattle.modem_driver.specs.Reports.{done_by, heard_by, said_as, ReportSays, ReadsOctet, ReadsAll};
 
 use crate::machine::course::Asker;
-use at_text::{AnswerLines, Dialect, LineReader, Seen, Text, UrcKind, Window};
+use at_text::{AnswerLines, Dialect, LineReader, Seen, Text, UrcKind, Window, run_len};
 use modem_desk::{Answer, Outcome, Urc};
 use modem_history::Act;
 use mux_frame::Dlci;
@@ -116,6 +116,37 @@ fn read_octet(
     say(reading, kinds, line.text, seen, acts)
 }
 
+/// Reads octets through the first that ends a line, or all where none does. Says how many.
+fn read_run(
+    reading: Reading,
+    dialect: &Dialect,
+    kinds: &[UrcKind],
+    octets: &[u8],
+    reader: &mut LineReader,
+    window: &mut Window,
+    acts: &mut Vec<Act>,
+) -> Result<usize, AllocError>
+    ensures within { IfOk result (λ count. count ≤ length octets.now) }
+    ensures some { IfOk result (λ count. 0 < length octets.now → 0 < count) }
+    ensures read { IfOk result (λ count. ReadsAll (dialect_of dialect.now) kinds.now reading (take count octets.now) (record {
+      kept = reader.old;
+      window = window.old;
+      acts = map act_of acts.old.items;
+    }) (record {
+      kept = reader.new;
+      window = window.new;
+      acts = map act_of acts.new.items;
+    })) }
+{
+    let end = run_len(octets);
+    reader.keep(&octets[..end]);
+    let Some(octet) = octets.get(end) else {
+        return Ok(end);
+    };
+    read_octet(reading, dialect, kinds, *octet, reader, window, acts)?;
+    Ok(end + 1)
+}
+
 /// Reads the octets that came.
 #[tactic(auto, using(crate::proofs::lines::ReportedLines::reads_first))]
 pub(crate) fn read_octets(
@@ -137,8 +168,17 @@ pub(crate) fn read_octets(
       acts = map act_of acts.new.items;
     })) }
 {
-    for octet in octets {
-        read_octet(reading, dialect, kinds, *octet, reader, window, acts)?;
+    let mut place = 0;
+    while place < octets.len() {
+        place += read_run(
+            reading,
+            dialect,
+            kinds,
+            &octets[place..],
+            reader,
+            window,
+            acts,
+        )?;
     }
     Ok(())
 }

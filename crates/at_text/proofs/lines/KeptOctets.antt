@@ -1,11 +1,13 @@
 -- What an octet does to the run that is kept.
-use Rattle.std.specs.Prelude.{◌≡◌, ℕ, ◌<◌, ◌≤◌, Bool, true, false, List, [], ◌∷◌, ◌++◌, length, refl, if◌then◌else◌}
-use Rattle.std.proofs.Common.{arith, sym, ◌∙◌}
-use Rattle.std.proofs.lemmas.List.{append-nil, take_all, take-append-le, length-append}
+use Rattle.std.specs.Prelude.{◌≡◌, ℕ, ◌+◌, ◌<◌, ◌≤◌, min, take, Bool, true, false, List, [], ◌∷◌, ◌++◌, ◌||◌, zero, suc, Option, None, Some, unwrap_or, Result, Ok, Err, IsOk, OnOk, length, refl, if◌then◌else◌}
+use Rattle.std.proofs.Common.{arith, sym, ap, ◌∙◌}
+use Rattle.std.proofs.Math.Seq.{take-append-add}
+use Rattle.std.proofs.lemmas.List.{append-nil, take_min, length-take, take_all, take-append-le, length-append}
 use Rattle.std.proofs.lemmas.List.Folds.{list_any-append}
+use Rattle.memchr.specs.Find.{IsFirstByte, Passes, is_byte2}
 use Rattle.at_text.specs.Lines.{is_line_end, cut, lines, kept_run}
 use Rattle.at_text.specs.Reading.{line_in, HasRead}
-use Rattle.at_text.proofs.lines.UnfinishedLines.{has_end, has_end-take, ended_runs-behind, unfinished-behind, reads_on}
+use Rattle.at_text.proofs.lines.UnfinishedLines.{has_end, has_end-take, ended_runs-behind, no_run, unfinished_all, unfinished-behind, reads_on}
 
 -- a run that isn't full takes one more octet
 pub cut_room : (run : List ℕ) (octet : ℕ) → length run < 512 → run ++ octet ∷ [] ≡ cut (run ++ octet ∷ [])
@@ -17,6 +19,21 @@ cut_full run octet full = sym (take-append-le 512 run (octet ∷ []) (omega arit
 
 pub cut_fits : (run : List ℕ) → length run ≤ 512 → cut run ≡ run
 cut_fits run fits = take_all 512 run fits
+
+-- a run takes the octets that there is room for
+pub cut_more : (run octets : List ℕ) (room count : ℕ) → room + length run ≡ 512 → count ≡ min room (length octets) → run ++ take count octets ≡ cut (run ++ octets)
+cut_more run octets room count all e =
+    rw e (ap (λ (xs : List ℕ). run ++ xs) (take_min room octets)
+    ∙ (sym (take-append-add run octets room)
+    ∙ ap (λ (n : ℕ). take n (run ++ octets)) (let whole : length run + room ≡ 512 = omega (arith, all) in whole)))
+
+pub fits_more : (run octets : List ℕ) (room count : ℕ) → room + length run ≡ 512 → count ≡ min room (length octets) → length run + length (take count octets) ≤ 512
+fits_more run octets room count all e = rw (length-take, e) (omega (arith, all))
+
+-- what is told of a call that answers Ok
+pub when_ok : {A E : Type 0} (r : Result A E) (P : Type 0) → IsOk r → OnOk r P → P
+when_ok (Ok x) P is p = p
+when_ok (Err e) P is p = absurd (let x : false ≡ true = is in cc)
 
 -- no line end comes into a run
 pub none_dropped : (ended : Bool) (run : List ℕ) → has_end run ≡ false → has_end (if ended then [] else run) ≡ false
@@ -37,6 +54,24 @@ pub line_by_end : (b : Bool) (run : List ℕ) (octet : ℕ) → has_end run ≡ 
 line_by_end true run octet none e = rw (ended_runs-behind run (octet ∷ []) none, e, append-nil) refl
 line_by_end false run octet none e = rw (ended_runs-behind run (octet ∷ []) none, e) refl
 
+-- ## Octets none of which ends a line
+
+pub none_kept : (run octets : List ℕ) → has_end run ≡ false → has_end octets ≡ false → has_end (run ++ octets) ≡ false
+none_kept run octets none free = list_any-append is_line_end run octets ∙ rw (none, free) refl
+
+pub run_kept : (run octets : List ℕ) → has_end run ≡ false → has_end octets ≡ false → cut (run ++ octets) ≡ kept_run (run ++ octets)
+run_kept run octets none free = rw (unfinished_all (run ++ octets) (none_kept run octets none free)) refl
+
+pub no_lines : (run octets : List ℕ) → has_end run ≡ false → has_end octets ≡ false → lines (run ++ octets) ≡ []
+no_lines run octets none free = rw (no_run (run ++ octets) (none_kept run octets none free)) refl
+
+pub run_itself : (run : List ℕ) → has_end run ≡ false → length run ≤ 512 → run ≡ kept_run run
+run_itself run none fits = rw (unfinished_all run none) (sym (cut_fits run fits))
+
+pub lines-keep : (reader past octets : List ℕ) → HasRead reader past → lines (reader ++ octets) ≡ [] → lines (past ++ octets) ≡ lines past
+lines-keep reader past octets read none =
+    (reads_on past octets).reads_kept ∙ (ap (λ (xs : List (List ℕ)). lines past ++ xs) (rw (sym read) none) ∙ append-nil (lines past))
+
 -- ## For callers: what a push says of all octets read so far
 
 pub has_read-push : (reader new octets : List ℕ) (octet : ℕ) → HasRead reader octets → HasRead new (reader ++ octet ∷ []) → HasRead new (octets ++ octet ∷ [])
@@ -44,3 +79,20 @@ has_read-push reader new octets octet read after = after ∙ rw read (sym (reads
 
 pub lines-push : (reader octets : List ℕ) (octet : ℕ) (given : List (List ℕ)) → HasRead reader octets → given ≡ lines (reader ++ octet ∷ []) → lines (octets ++ octet ∷ []) ≡ lines octets ++ given
 lines-push reader octets octet given read said = (reads_on octets (octet ∷ [])).reads_kept ∙ rw (said, read) refl
+
+-- ## Where a line ends
+
+none_first : (octets : List ℕ) (n : ℕ) → ((k : ℕ) → k < n → ¬ Passes (is_byte2 13 10) octets k) → n ≤ length octets → has_end (take n octets) ≡ false
+none_first octets zero none l = refl
+none_first [] (suc n) none l = refl
+none_first (c ∷ octets) (suc n) none l =
+    let later = none_first octets n (λ k m. none (suc k) (omega (arith, m))) (omega (arith, l)) in
+    or_both (is_line_end c) (has_end (take n octets)) (none 0 (omega arith)) later
+  where
+    or_both : (b h : Bool) → ¬ (b ≡ true) → h ≡ false → (b || h) ≡ false
+    or_both true h isn't e = absurd (isn't refl)
+    or_both false h isn't e = e
+
+pub free_before : (octets : List ℕ) (r : Option ℕ) (n : ℕ) → IsFirstByte (is_byte2 13 10) octets r → n ≡ unwrap_or r (length octets) → has_end (take n octets) ≡ false
+free_before octets None n none e = none_first octets n (λ k l. none k (omega arith) (let m : k < length octets = rw (sym e) l in m)) (omega (arith, e))
+free_before octets (Some k) n at e = rw e (none_first octets k (λ j l. at.0.before j (omega arith) l) (let h = at.0.high in omega (arith, h)))

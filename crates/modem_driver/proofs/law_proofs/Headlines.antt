@@ -22,7 +22,7 @@ use Rattle.modem_history.specs.Information.{command_on}
 use Rattle.modem_history.specs.Kinds.{of_kind}
 use Rattle.modem_history.specs.Lawful.{Gated, Lawful, When, owed}
 use Rattle.modem_history.specs.Sessions as session
-use Rattle.modem_history.specs.Sessions.{AreOnce, Beginning, IsHistory, SessionFits, SessionView, TakesWithRoom, driving, heard_as, heards, taken_since}
+use Rattle.modem_history.specs.Sessions.{AreOnce, Beginning, SessionFits, SessionView, TakesWithRoom, driving, heard_as, heards, taken_since}
 use Rattle.modem_history.specs.SessionLaws.{untold}
 use Rattle.modem_history.proofs.law_proofs.SessionLaws.{distinct_taken}
 use Rattle.modem_history.specs.Hearing.{HearsAll}

@@ -1,7 +1,8 @@
 -- What is said of lines, whatever is listened to.
-use Rattle.std.specs.Prelude.{zero, suc, ◌≡◌, ℕ, ◌+◌, ◌≤◌, ◌↔◌, Bool, true, false, List, [], ◌∷◌, ◌++◌, length, drop, refl, Option, option_map, Result, Ok, Err, OnOk, ◌⊎◌, if◌then◌else◌}
+use Rattle.std.specs.Prelude.{zero, suc, ◌≡◌, ℕ, ◌+◌, ◌≤◌, ◌↔◌, Bool, true, false, List, [], ◌∷◌, ◌++◌, ◌-◌, length, take, drop, refl, Option, option_map, Result, Ok, Err, OnOk, ◌⊎◌, if◌then◌else◌}
 use Rattle.std.specs.List.{Contains}
 use Rattle.std.proofs.Common.{ap, sym, ◌∙◌, subst, arith, append-nil, append_assoc, length-append, inl, inr}
+use Rattle.std.proofs.lemmas.List.{drop-drop, length-drop, take_all, take-append-drop}
 use Rattle.at_text.specs.declared.answer.AnswerLine.{AnswerLine}
 use Rattle.at_text.specs.declared.unsolicited.UrcKind.{UrcKind}
 use Rattle.at_text.specs.declared.window.Seen as line_is
@@ -57,13 +58,18 @@ pub octet_ends : (dialect : Dialect) (kinds : List UrcKind) (r : Reading) (old n
 unfolding ReportSays ReadsOctet
 octet_ends dialect kinds r old new c l e k w a listens h = one_line dialect listens r.dlci.number r.owner old c l new e k w (a listens h)
 
+-- octets none of which ends a line are kept
+none_said : (dialect : Dialect) (listens : UrcKind → Bool) (d : ℕ) (owner : Option Asker) (old new : Read) (octets : List ℕ) → [] ≡ lines (old.kept ++ octets) → new.kept ≡ kept_run (old.kept ++ octets) → new.window ≡ old.window → new.acts ≡ old.acts
+    → new ≡ read_on dialect listens d owner old octets
+none_said dialect listens d owner old new octets e k w a =
+    ap (λ (x : List ℕ). let v : Read = record { kept = x; window = new.window; acts = new.acts } in v) k
+    ∙ (ap (λ (x : Option OpenWindow). let v : Read = record { kept = kept_run (old.kept ++ octets); window = x; acts = new.acts } in v) (w ∙ ap (after_all dialect old.window) e)
+    ∙ ap (λ (x : List Act). let v : Read = record { kept = kept_run (old.kept ++ octets); window = after_all dialect old.window (lines (old.kept ++ octets)); acts = x } in v)
+    (a ∙ (sym (append-nil old.acts) ∙ ap (λ (ls : List (List ℕ)). old.acts ++ said_lines dialect listens d owner old.window ls) e)))
+
 pub octet_none : (dialect : Dialect) (kinds : List UrcKind) (r : Reading) (old new : Read) (c : ℕ) → [] ≡ lines (old.kept ++ c ∷ []) → new.kept ≡ kept_run (old.kept ++ c ∷ []) → new.window ≡ old.window → new.acts ≡ old.acts → ReadsOctet dialect kinds r c old new
 unfolding ReadsOctet
-octet_none dialect kinds r old new c e k w a listens h =
-    ap (λ (x : List ℕ). let v : Read = record { kept = x; window = new.window; acts = new.acts } in v) k
-    ∙ (ap (λ (x : Option OpenWindow). let v : Read = record { kept = kept_run (old.kept ++ c ∷ []); window = x; acts = new.acts } in v) (w ∙ ap (after_all dialect old.window) e)
-    ∙ ap (λ (x : List Act). let v : Read = record { kept = kept_run (old.kept ++ c ∷ []); window = after_all dialect old.window (lines (old.kept ++ c ∷ [])); acts = x } in v)
-    (a ∙ (sym (append-nil old.acts) ∙ ap (λ (ls : List (List ℕ)). old.acts ++ said_lines dialect listens r.dlci.number r.owner old.window ls) e)))
+octet_none dialect kinds r old new c e k w a listens h = none_said dialect listens r.dlci.number r.owner old new (c ∷ []) e k w a
 
 -- so many of them are read
 unfoldable pub ReadSoFar : (dialect : Dialect) → List UrcKind → Reading → Read → List ℕ → Read → List ℕ → Type 0
@@ -73,11 +79,16 @@ pub reads_first : (dialect : Dialect) (kinds : List UrcKind) (r : Reading) (v : 
 unfolding ReadSoFar
 reads_first dialect kinds r v all listens h = refl
 
-pub reads_next : (dialect : Dialect) (kinds : List UrcKind) (r : Reading) (now next first : Read) (c : ℕ) (rest left all : List ℕ) → rest ≡ c ∷ left → ReadsOctet dialect kinds r c now next → ReadSoFar dialect kinds r now rest first all → ReadSoFar dialect kinds r next left first all
-unfolding ReadSoFar ReadsOctet
-reads_next dialect kinds r now next first c rest left all e o s listens h =
+each_append : (dialect : Dialect) (listens : UrcKind → Bool) (d : ℕ) (owner : Option Asker) (v : Read) (xs ys : List ℕ) → read_each dialect listens d owner v (xs ++ ys) ≡ read_each dialect listens d owner (read_each dialect listens d owner v xs) ys
+each_append dialect listens d owner v [] ys = refl
+each_append dialect listens d owner v (c ∷ xs) ys = each_append dialect listens d owner (read_on dialect listens d owner v (c ∷ [])) xs ys
+
+pub reads_next : (dialect : Dialect) (kinds : List UrcKind) (r : Reading) (now next first : Read) (run rest left all : List ℕ) → rest ≡ run ++ left → ReadsAll dialect kinds r run now next → ReadSoFar dialect kinds r now rest first all → ReadSoFar dialect kinds r next left first all
+unfolding ReadSoFar ReadsAll
+reads_next dialect kinds r now next first run rest left all e o s listens h =
     ap (λ (v : Read). read_each dialect listens r.dlci.number r.owner v left) (o listens h)
-    ∙ (ap (λ (w : List ℕ). read_each dialect listens r.dlci.number r.owner now w) (sym e) ∙ s listens h)
+    ∙ (sym (each_append dialect listens r.dlci.number r.owner now run left)
+    ∙ (ap (λ (w : List ℕ). read_each dialect listens r.dlci.number r.owner now w) (sym e) ∙ s listens h))
 
 pub reads_last : (dialect : Dialect) (kinds : List UrcKind) (r : Reading) (now first : Read) (rest all : List ℕ) → rest ≡ [] → ReadSoFar dialect kinds r now rest first all → ReadsAll dialect kinds r all first now
 unfolding ReadSoFar ReadsAll
@@ -127,6 +138,35 @@ each_is dialect listens d owner v x (c ∷ octets) on k =
     (append_assoc v.acts (said_lines dialect listens d owner v.window (lines (v.kept ++ c ∷ []))) (said_lines dialect listens d owner one.window (lines (one.kept ++ octets)))
     ∙ (ap (λ (w : List Act). v.acts ++ w) (sym (said_both dialect listens d owner v.window (lines (v.kept ++ c ∷ [])) (lines (one.kept ++ octets))))
     ∙ ap (λ (ls : List (List ℕ)). v.acts ++ said_lines dialect listens d owner v.window ls) (sym all_lines)))))
+
+-- octets none of which ends a line
+pub keeps_run : (dialect : Dialect) (kinds : List UrcKind) (r : Reading) (old new : Read) (run : List ℕ) → ((x y : List ℕ) → ReadsOn x y) → old.kept ≡ kept_run old.kept → lines (old.kept ++ run) ≡ [] → new.kept ≡ kept_run (old.kept ++ run) → new.window ≡ old.window → new.acts ≡ old.acts
+    → ReadsAll dialect kinds r run old new
+unfolding ReadsAll
+keeps_run dialect kinds r old new run on before none k w a listens h =
+    none_said dialect listens r.dlci.number r.owner old new run (sym none) k w a
+    ∙ sym (each_is dialect listens r.dlci.number r.owner old old.kept run on before)
+
+-- and one more behind them
+pub ends_run : (dialect : Dialect) (kinds : List UrcKind) (r : Reading) (old between new : Read) (run : List ℕ) (c : ℕ) (all : List ℕ) → all ≡ run ++ c ∷ [] → ReadsAll dialect kinds r run old between → ReadsOctet dialect kinds r c between new → ReadsAll dialect kinds r all old new
+unfolding ReadsAll ReadsOctet
+ends_run dialect kinds r old between new run c all e s o listens h =
+    o listens h
+    ∙ (ap (λ (v : Read). read_each dialect listens r.dlci.number r.owner v (c ∷ [])) (s listens h)
+    ∙ (sym (each_append dialect listens r.dlci.number r.owner old run (c ∷ [])) ∙ ap (λ (w : List ℕ). read_each dialect listens r.dlci.number r.owner old w) (sym e)))
+
+-- ## Runs of the octets
+
+-- what is lent from a place on is what is left there
+pub left_all : (place : ℕ) (all : List ℕ) → take (length all - place) (drop place all) ≡ drop place all
+left_all place all = take_all (length all - place) (drop place all) (rw length-drop (omega arith))
+
+-- a run is the first of what is left
+pub left_over : (n place : ℕ) (all : List ℕ) → place ≤ length all → n ≤ length (drop place all) → (place + n ≤ length all) × (drop place all ≡ take n (drop place all) ++ drop (place + n) all)
+left_over n place all inside few =
+    let counted : length (drop place all) ≡ length all - place = length-drop place all in
+    let rest : drop n (drop place all) ≡ drop (place + n) all = drop-drop n place all in
+    (omega (arith, inside, few, counted), sym (take-append-drop n (drop place all)) ∙ ap (λ (xs : List ℕ). take n (drop place all) ++ xs) rest)
 
 -- ## What the calls say
 

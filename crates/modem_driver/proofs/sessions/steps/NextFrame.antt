@@ -41,7 +41,6 @@ use Rattle.modem_driver.proofs.sessions.steps.QueuedInformation.{queue_plain}
 use Rattle.mux_station.proofs.law_proofs.ControlFrames.{is_plain}
 use Rattle.modem_driver.proofs.sessions.polls.StopsInHand.{ends, none_ends}
 use Rattle.modem_driver.specs.Endings.{is_stop}
-use Rattle.modem_history.proofs.rules.MadeLaws.{laws_of}
 use Rattle.modem_history.specs.Rules.{goes_out}
 
 -- ## What goes out of a history

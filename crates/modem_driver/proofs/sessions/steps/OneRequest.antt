@@ -24,7 +24,7 @@ use Rattle.modem_driver.specs.SessionStates.{Machine, seen_by, end_of}
 use Rattle.modem_driver.specs.TurnSteps.{Adds}
 use Rattle.modem_driver.specs.TurnTakes.{MachineTakes, TakesNext}
 use Rattle.modem_driver.specs.WaitingLists.{WaitingLists, Keeps}
-use Rattle.modem_driver.proofs.sessions.steps.LongerHistories.{gots_after, taken_after, given_after, losses_after, lost_after, room_after, turn_after}
+use Rattle.modem_driver.proofs.sessions.steps.LongerHistories.{gots_after, taken_after, given_after, losses_after, lost_after}
 use Rattle.modem_driver.proofs.sessions.steps.CoreCalls.{FitsMachine, callers_taken, is_run}
 use Rattle.modem_driver.proofs.sessions.steps.OutcomeCounts.{is_caller, hand_counts, callers_told}
 use Rattle.modem_driver.proofs.sessions.polls.StopProgress.{come_on, grows_none}
