@@ -15,7 +15,7 @@ use Rattle.modem_history.specs.Wholes.{taken_requests}
 use Rattle.modem_show.specs.declared.rule.Rule.TheVariants.{Unasked, Unopened, Unstopped, TooLong, Astray}
 use Rattle.modem_show.specs.Judging.{faults_from, is_text, unanswered}
 use Rattle.modem_show.specs.Rows.{sound}
-use Rattle.show_laws.specs.Lines.{IsDone, IsLawfulLine, ReadsWhileOpen, LineAct, NoneBreaks, captured, driver_past, modem_past}
+use Rattle.show_laws.specs.Lines.{IsDone, IsLawfulLine, LineAct, NoneBreaks, ReadsInTime, StopsAsking, captured, driver_past, modem_past}
 
 -- each answer answers something that waits for it, whatever N1 the line is judged by
 unfoldable pub AnswersAsks : Setting → ℕ → List LineAct → Type 0
@@ -61,11 +61,12 @@ SendWhileOpen s n1 line =
 
 -- ## Answers
 
--- where nothing is under way each ask was answered, where each control command came while 0 was open
+-- Where nothing is under way each ask was answered, or needn't be, where each control command came in time, and neither end sent one
+-- behind a CLD or the response to one.
 unfoldable pub AnswersAll : Setting → ℕ → List LineAct → Type 0
 AnswersAll s n1 line =
-    IsLawfulLine s n1 line → IsDone s n1 line → ReadsWhileOpen Initiator (wire (driver_past line)) → ReadsWhileOpen Responder (modem_past line)
-    → (stamps : ℕ → Stamp)
+    IsLawfulLine s n1 line → IsDone s n1 line → ReadsInTime Initiator (wire (driver_past line)) → ReadsInTime Responder (modem_past line)
+    → StopsAsking (frames_sent (wire (driver_past line))) → StopsAsking (frames_sent (modem_past line)) → (stamps : ℕ → Stamp)
     → (unanswered Initiator (captured stamps line) ≡ []) × (unanswered Responder (captured stamps line) ≡ [])
 
 -- ## Stops

@@ -55,7 +55,7 @@ pub fn frames()
 {}
 
 /// Where nothing is under way on a lawful line no ask is judged unanswered, where each control command came while 0 was open at the end to
-/// which it came.
+/// which it came, or once that end had closed down, and neither end sent one behind a CLD or the response to one.
 #[tactic(auto, using(crate::proofs::answered::NoneWaits::answers_all))]
 pub fn answered()
     ensures { (s : Setting) (n1 : ℕ) (line : List LineAct) → AnswersAll s n1 line }
@@ -92,8 +92,8 @@ pub fn simulated_talks()
     ensures { (s : Setting) (e : End) (line : List EndAct) → TalksToModem s e line }
 {}
 
-/// Worked lines that are lawful, on which no frame is judged wrong and nothing is left unanswered: a command and a stop, which meets all that
-/// these laws ask, a stop while a connection is being opened, and two openings that cross.
+/// Worked lines that are lawful, on which no frame is judged wrong and nothing is left unanswered: a command and a stop, and a stop while a
+/// connection is being opened, which meet all that these laws ask, and two openings that cross.
 #[tactic(auto, using(crate::proofs::rows::LineRowFacts::are_right))]
 pub fn worked_lines()
     ensures { AreRight }

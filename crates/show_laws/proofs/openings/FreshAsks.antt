@@ -47,7 +47,7 @@ no_response None = refl
 no_response (Some m) = refl
 
 -- what a UA or DM on d answers
-mode_answers : (f g : Frame) (d : ℕ) → is_mode_answer g ≡ true → g.dlci ≡ d → answers f g ≡ (is_mode_command f && (f.dlci == d))
+pub mode_answers : (f g : Frame) (d : ℕ) → is_mode_answer g ≡ true → g.dlci ≡ d → answers f g ≡ (is_mode_command f && (f.dlci == d))
 mode_answers f g d h e =
     ap (λ (o : Option Message). ((is_mode_command f && is_mode_answer g) && (f.dlci == g.dlci)) || both_respond (message_in f) o) (answer_without g h)
     ∙ (ap (λ (b : Bool). ((is_mode_command f && is_mode_answer g) && (f.dlci == g.dlci)) || b) (no_response (message_in f))

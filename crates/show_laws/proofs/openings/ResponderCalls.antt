@@ -202,6 +202,46 @@ cld_answer f g c shape h =
         absurd (let z : true ≡ false = sym y.0 ∙ (message_no_mode f m e).0 in cc))
         (λ x. by_answer m e k (message_in g) refl (sym (ap (λ (o : Option Message). both_respond o (message_in g)) e) ∙ x))
 
+-- the response to a CLD answers a CLD alone
+pub down_answers : (x f : Frame) → is_shaped f ≡ true → brings_response cld f ≡ true → answers x f ≡ true → brings_command cld x ≡ true
+down_answers x f shape down h =
+    or_elim ((is_mode_command x && is_mode_answer f) && (x.dlci == f.dlci)) (both_respond (message_in x) (message_in f)) h
+    (λ k.
+    let q = (and_parts (is_mode_command x) (is_mode_answer f) (and_parts (is_mode_command x && is_mode_answer f) (x.dlci == f.dlci) k).0).1 in
+    absurd (no_mode (message_in f) refl q there))
+    (λ k. by_read (message_in x) (message_in f) refl refl there shape k)
+  where
+    there : octet_is command_of cld (message_in f) ≡ true
+    there =
+        let p = and_parts (is_on Uih 0 f) (octet_is command_of cld (message_of f.info)) down in
+        ap (λ (b : Bool). octet_is command_of cld (if b then message_of f.info else None)) p.0 ∙ p.1
+
+    no_mode : (o : Option Message) → message_in f ≡ o → is_mode_answer f ≡ true → octet_is command_of cld o ≡ true → ⊥
+    no_mode None e m k = cc
+    no_mode (Some n) e m k = let t : true ≡ false = sym m ∙ (message_no_mode f n e).1 in cc
+
+    brought : (m : Message) → message_in x ≡ Some m → (m.octet == cld) ≡ true → brings_command cld x ≡ true
+    brought m e k = by_on (is_on Uih 0 x) refl e
+      where
+        by_on : (b : Bool) → is_on Uih 0 x ≡ b → (if b then message_of x.info else None) ≡ Some m → (b && octet_is (λ n. n) cld (message_of x.info)) ≡ true
+        by_on true on r = ap (octet_is (λ n. n) cld) r ∙ k
+        by_on false on r = cc
+
+    by_read : (o p : Option Message) → message_in x ≡ o → message_in f ≡ p → octet_is command_of cld p ≡ true → shaped_message p ≡ true → both_respond o p ≡ true → brings_command cld x ≡ true
+    by_read None p e g c sh k = cc
+    by_read (Some a) None e g c sh k = cc
+    by_read (Some a) (Some n) e g c sh k =
+        let q = and_parts (message_asks (Some a)) (responds a n) k in
+        let one = one_response a n q.0 sh q.1 in
+        brought a e (octet_back (is_supported a.octet) a.octet n.octet refl one.0 c)
+      where
+        octet_back : (b : Bool) (o m : ℕ) → is_supported o ≡ b → m ≡ response_octet b o → (command_of m == cld) ≡ true → (o == cld) ≡ true
+        octet_back true o m s e c = same o (eqb-true (command_of m) cld c) e
+          where
+            same : (o : ℕ) → command_of m ≡ cld → m ≡ response_of o → (o == cld) ≡ true
+            same o c e = let z : o ≡ cld = omega (arith, c, e) in ap (λ n. n == cld) z
+        octet_back false o m s e c = let z : true ≡ false = sym c ∙ ap (λ n. command_of n == cld) e in cc
+
 -- what another answer answers is no CLD
 pub not_cld : (f g : Frame) → is_shaped g ≡ true → answers f g ≡ true → is_down g ≡ false → brings_command cld f ≡ false
 not_cld f g s a d = by_cld (brings_command cld f) refl

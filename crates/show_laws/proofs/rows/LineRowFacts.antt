@@ -168,6 +168,37 @@ meets_all = record {
       };
   at_driver = (λ e. cc, (λ e. cc, (λ e. cc, (λ e. refl, (λ e. cc, (λ e. cc, tt))))));
   at_modem = (λ e. refl, (λ e. cc, (λ e. cc, (λ e. refl, (λ e. cc, (λ e. cc, tt))))));
+  by_driver = (λ e. refl, (λ e. cc, (λ e. cc, (λ e. refl, (λ e. cc, (λ e. cc, tt))))));
+  by_modem = (λ e. cc, (λ e. cc, (λ e. cc, (λ e. refl, (λ e. cc, (λ e. cc, tt))))));
+}
+
+stop_once : AsksOnce (wire (driver_past (after [] stopped_early)))
+stop_once d = at_most_one (1 == d) (0 == d) _ _ (λ first second. two_numbers 1 0 d refl (eqb-true 1 d first) (eqb-true 0 d second))
+
+stops_by_all : MeetsAll stopped_early
+unfolding stop_acts StationComplete
+stops_by_all = record {
+  plain =
+      record {
+        lawful = record { is_initiator = refl; driver_lawful = (good (replaying 31) stop_acts refl refl refl).lawful; modem_lawful = stop_station; one_line = stop_line };
+        once = stop_once;
+        commands = (λ d e. cc, (λ d e. cc, (λ d e. cc, tt)));
+        offers = tt;
+        probes = refl;
+      };
+  done =
+      record {
+        driver_live = refl;
+        modem_live = refl;
+        driver_complete = (good (replaying 31) stop_acts refl refl refl).complete;
+        modem_complete = refl;
+        at_driver = refl;
+        at_modem = refl;
+      };
+  at_driver = (λ e. cc, (λ e. refl, (λ e. cc, (λ e. cc, tt))));
+  at_modem = (λ e. refl, (λ e. cc, (λ e. cc, tt)));
+  by_driver = (λ e. refl, (λ e. cc, (λ e. cc, tt)));
+  by_modem = (λ e. cc, (λ e. refl, (λ e. cc, (λ e. cc, tt))));
 }
 
 -- ## Both
@@ -190,6 +221,7 @@ are_right = record {
         of_driver = refl;
         of_modem = refl;
       };
+  stops_by_all = stops_by_all;
   opens = record { lawful = opens_plainly.lawful; frames = refl; of_driver = refl; of_modem = refl };
   opens_plainly = opens_plainly;
 }
