@@ -3,4 +3,5 @@ pub mod EnoughCalled
 pub mod EnoughSent
 pub mod FewWait
 pub mod ExcusedAsks
+pub mod DriverStops
 pub mod NoneWaits

@@ -61,12 +61,12 @@ SendWhileOpen s n1 line =
 
 -- ## Answers
 
--- Where nothing is under way each ask was answered, or needn't be, where each control command came in time, and neither end sent one
--- behind a CLD or the response to one.
+-- Where nothing is under way each ask was answered, or needn't be, where the driver asks for each connection once at most, each control
+-- command came in time, and the modem sent none behind a CLD or the response to one.
 unfoldable pub AnswersAll : Setting → ℕ → List LineAct → Type 0
 AnswersAll s n1 line =
-    IsLawfulLine s n1 line → IsDone s n1 line → ReadsInTime Initiator (wire (driver_past line)) → ReadsInTime Responder (modem_past line)
-    → StopsAsking (frames_sent (wire (driver_past line))) → StopsAsking (frames_sent (modem_past line)) → (stamps : ℕ → Stamp)
+    IsLawfulLine s n1 line → IsDone s n1 line → AsksOnce (wire (driver_past line)) → ReadsInTime Initiator (wire (driver_past line))
+    → ReadsInTime Responder (modem_past line) → StopsAsking (frames_sent (modem_past line)) → (stamps : ℕ → Stamp)
     → (unanswered Initiator (captured stamps line) ≡ []) × (unanswered Responder (captured stamps line) ≡ [])
 
 -- ## Stops

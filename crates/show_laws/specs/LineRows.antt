@@ -114,7 +114,6 @@ pub record MeetsAll (acts : List LineAct) : Type 0 where
   pub done : IsDone (replaying 31) 31 (after [] acts)
   pub at_driver : ReadsInTime Initiator (wire (driver_past (after [] acts)))
   pub at_modem : ReadsInTime Responder (modem_past (after [] acts))
-  pub by_driver : StopsAsking (frames_sent (wire (driver_past (after [] acts))))
   pub by_modem : StopsAsking (frames_sent (modem_past (after [] acts)))
 
 pub record AreRight : Type 0 where

@@ -55,7 +55,8 @@ pub fn frames()
 {}
 
 /// Where nothing is under way on a lawful line no ask is judged unanswered, where each control command came while 0 was open at the end to
-/// which it came, or once that end had closed down, and neither end sent one behind a CLD or the response to one.
+/// which it came, or once that end had closed down, and the modem sent none behind a CLD or the response to one. The driver asks for each
+/// connection once at most.
 #[tactic(auto, using(crate::proofs::answered::NoneWaits::answers_all))]
 pub fn answered()
     ensures { (s : Setting) (n1 : ℕ) (line : List LineAct) → AnswersAll s n1 line }

@@ -66,7 +66,7 @@ one_more : (u : Frame → Bool) (f : Frame) (fs : List Frame) (b : Bool) → u f
 one_more u f fs true h = let e : unit (u f) ≡ 1 = ap unit h in omega (arith, e)
 one_more u f fs false h = omega arith
 
-not_command : (o : ℕ) → is_supported o ≡ true → is_command_octet (response_of o) ≡ false
+pub not_command : (o : ℕ) → is_supported o ≡ true → is_command_octet (response_of o) ≡ false
 not_command o s = supported_by (λ n. is_command_octet (response_of n) ≡ false) o s refl refl refl refl refl
 
 odd_back : (o : ℕ) → is_supported o ≡ true → ((response_of o) % 2 == 1) ≡ true

@@ -21,6 +21,7 @@ use Rattle.modem_show.specs.Asking.{Ask, is_answer, is_ask, is_mode_answer, is_m
 use Rattle.modem_show.specs.Judging.{unanswered}
 use Rattle.show_laws.specs.Lines.{IsDone, IsLawfulLine, LineAct, ReadsInTime, StopsAsking, captured, closes, driver_past, is_in_time, modem_past, responding}
 use Rattle.show_laws.specs.Laws.{AnswersAll}
+use Rattle.show_laws.proofs.answered.DriverStops.{driver_stops}
 use Rattle.show_laws.proofs.answered.EnoughCalled.{clds_enough, frame_enough, modes_enough}
 use Rattle.show_laws.proofs.answered.EnoughSent.{CallsEach, driver_enough, station_enough}
 use Rattle.show_laws.proofs.answered.ExcusedAsks.{excused, none_open}
@@ -184,7 +185,7 @@ modem_done s n1 line t u h done each =
 
 pub answers_all : (s : Setting) (n1 : ℕ) (line : List LineAct) → AnswersAll s n1 line
 unfolding AnswersAll
-answers_all s n1 line h done at_driver at_modem by_driver by_modem stamps =
+answers_all s n1 line h done once at_driver at_modem by_modem stamps =
     let cs = captured stamps line in
     let seen = shows stamps line in
     let d = frames_sent (wire (driver_past line)) in
@@ -198,7 +199,7 @@ answers_all s n1 line h done at_driver at_modem by_driver by_modem stamps =
     let downs_m = modem_done s n1 line (brings_command cld) (brings_response cld) h done (downs_called Responder (modem_past line) at_modem) in (
       none_unanswered Initiator cs d m
           (record {
-            stops = subst (λ (fs : List Frame). StopsAsking fs) (sym seen.driver_frames) by_driver;
+            stops = subst (λ (fs : List Frame). StopsAsking fs) (sym seen.driver_frames) (driver_stops s n1 line (record { lawful = h; once = once }));
             sent = seen.driver_frames;
             came = seen.to_driver;
             few_modes = few_modes.0;

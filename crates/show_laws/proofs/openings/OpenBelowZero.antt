@@ -113,7 +113,7 @@ none_when zero h = omega arith
 none_when (suc n) h = absurd (h (omega arith))
 
 -- an act of which the first calls: before it no frame is owed
-first_owes : (s : Setting) (past : List Act) (a : Act) (u : Frame → Bool) → owes_frame (owed s past) ≡ false → sends u (owed s past ++ calls_behind s past (owed s past) a) ≤ many u (frames_by s (seen_behind s past (owed s past)) a)
+pub first_owes : (s : Setting) (past : List Act) (a : Act) (u : Frame → Bool) → owes_frame (owed s past) ≡ false → sends u (owed s past ++ calls_behind s past (owed s past) a) ≤ many u (frames_by s (seen_behind s past (owed s past)) a)
 first_owes s past a u prompt =
     let v = seen_behind s past (owed s past) in
     let parts = sends_both u (owed s past) (calls_behind s past (owed s past) a) in

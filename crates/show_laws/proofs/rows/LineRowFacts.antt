@@ -168,7 +168,6 @@ meets_all = record {
       };
   at_driver = (λ e. cc, (λ e. cc, (λ e. cc, (λ e. refl, (λ e. cc, (λ e. cc, tt))))));
   at_modem = (λ e. refl, (λ e. cc, (λ e. cc, (λ e. refl, (λ e. cc, (λ e. cc, tt))))));
-  by_driver = (λ e. refl, (λ e. cc, (λ e. cc, (λ e. refl, (λ e. cc, (λ e. cc, tt))))));
   by_modem = (λ e. cc, (λ e. cc, (λ e. cc, (λ e. refl, (λ e. cc, (λ e. cc, tt))))));
 }
 
@@ -197,7 +196,6 @@ stops_by_all = record {
       };
   at_driver = (λ e. cc, (λ e. refl, (λ e. cc, (λ e. cc, tt))));
   at_modem = (λ e. refl, (λ e. cc, (λ e. cc, tt)));
-  by_driver = (λ e. refl, (λ e. cc, (λ e. cc, tt)));
   by_modem = (λ e. cc, (λ e. refl, (λ e. cc, (λ e. cc, tt))));
 }
 

@@ -55,7 +55,7 @@ second_off : (a b : Bool) → b ≡ false → (a && b) ≡ false
 second_off true b k = k
 second_off false b k = refl
 
-driver_stays : (e : ℕ) (a : driver.Act) (past : List driver.Act) → AsksOnce (wire (a ∷ past)) → 1 ≤ many (is_on Sabm e) (frames_sent (wire past)) → Neither e (wire past) → Neither e (wire (a ∷ past))
+pub driver_stays : (e : ℕ) (a : driver.Act) (past : List driver.Act) → AsksOnce (wire (a ∷ past)) → 1 ≤ many (is_on Sabm e) (frames_sent (wire past)) → Neither e (wire past) → Neither e (wire (a ∷ past))
 driver_stays e (driver.Sent f) past once some n = sent_closed e f (wire past) n.0 n.1 (by_sabm (is_on Sabm e f) refl)
   where
     by_sabm : (b : Bool) → is_on Sabm e f ≡ b → b ≡ false
