@@ -1,14 +1,19 @@
 -- A line between a driver and a simulated modem, as a line that these laws speak of.
-use Rattle.std.specs.Prelude.{◌≡◌, ℕ, ◌≤◌, List, [], ◌∷◌, map, reverse}
+use Rattle.std.specs.Prelude.{◌≡◌, ℕ, ◌≤◌, true, false, List, [], ◌∷◌, map, reverse}
 use Rattle.mux_frame.specs.declared.dlci.Dlci.{Dlci}
 use Rattle.mux_capture.specs.declared.packet.Stamp.{Stamp}
+use Rattle.mux_station.specs.declared.role.Role.TheVariants.{Responder}
+use Rattle.mux_station.specs.Offering.{data_out}
 use Rattle.modem_history.specs.Calls.{Setting}
-use Rattle.modem_sim.specs.Acts.{Did, End, Wire}
+use Rattle.modem_history.specs.TwoEnds.{frames_got, frames_sent}
+use Rattle.modem_sim.specs.Acts.{Did, End, Wire, is_open_at_modem}
+use Rattle.modem_sim.specs.Outboxes.{outbox}
+use Rattle.modem_sim.specs.Pieces.{pieces_octets}
 use Rattle.modem_ends.specs.OneModem as ends
 use Rattle.modem_ends.specs.OneModem.{EndAct, IsOneModem}
 use Rattle.modem_show.specs.Judging.{faults_from}
 use Rattle.modem_show.specs.Rows.{sound}
-use Rattle.modem_show.specs.Talking.{is_unprompted, overlaps}
+use Rattle.modem_show.specs.Talking.{is_unfinished, is_unprompted, overlaps}
 use Rattle.show_laws.specs.Laws.{OffersText, TakesShortProbes}
 use Rattle.show_laws.specs.Lines.{AtDriver, AtModem, LineAct, captured, driver_past, modem_past}
 use Rattle.show_laws.specs.Talks.{IsTalkingLine, NoneTells}
@@ -37,3 +42,16 @@ TalksToModem s e line =
     IsOneModem s e line → (stamps : ℕ → Stamp) (data_channels : List Dlci)
     → NoneTells overlaps s.dialect data_channels (captured stamps (as_line line))
     × NoneTells (is_unprompted s.dialect) s.dialect data_channels (captured stamps (as_line line))
+
+-- all that the driver sent has come, and all that the modem says on d, which is open there, has gone out
+pub record HasSaidAll (e : End) (d : ℕ) (line : List EndAct) : Type 0 where
+  pub came : frames_got (ends.modem_wire line) ≡ frames_sent (ends.driver_wire line)
+  pub is_open : is_open_at_modem d (ends.modem_past line) ≡ true
+  pub out : data_out Responder d (ends.modem_wire line) ≡ pieces_octets (outbox e d (ends.modem_past line)).said
+  pub none_held : (outbox e d (ends.modem_past line)).held ≡ []
+
+-- there no command is left without an answer
+unfoldable pub FinishesWithModem : Setting → End → List EndAct → Type 0
+FinishesWithModem s e line =
+    IsOneModem s e line → (d : ℕ) → HasSaidAll e d line → (stamps : ℕ → Stamp) (data_channels : List Dlci)
+    → is_unfinished s.dialect data_channels d (captured stamps (as_line line)) ≡ false

@@ -6,7 +6,7 @@ ghost use Rattle.show_laws.specs.LineRows.{AreRight};
 ghost use Rattle.show_laws.specs.Talks.{FinishesTalk, TalksInTurn};
 ghost use Rattle.modem_sim.specs.Acts.{End};
 ghost use Rattle.modem_ends.specs.OneModem.{EndAct};
-ghost use Rattle.show_laws.specs.Simulated.{Simulates, SoundToModem, TalksToModem};
+ghost use Rattle.show_laws.specs.Simulated.{FinishesWithModem, Simulates, SoundToModem, TalksToModem};
 ghost use Rattle.show_laws.specs.Laws.{AllSound, AnswersAll, AnswersAsks, CarriesText, FitsN1, HeedsStops, NeverStopped, SendWhileOpen};
 
 /// No frame between a driver that keeps its laws and a modem that keeps the responder's tables is judged an answer that nothing waits
@@ -91,6 +91,12 @@ pub fn simulated_frames()
 #[tactic(auto, using(crate::proofs::simulated::SimulatedLines::talks_to_modem))]
 pub fn simulated_talks()
     ensures { (s : Setting) (e : End) (line : List EndAct) → TalksToModem s e line }
+{}
+
+/// There no command on an open connection is left without an answer, where all that was sent has come, and all that is said has gone out.
+#[tactic(auto, using(crate::proofs::simulated::SimulatedLines::finishes_with_modem))]
+pub fn simulated_talks_end()
+    ensures { (s : Setting) (e : End) (line : List EndAct) → FinishesWithModem s e line }
 {}
 
 /// Worked lines that are lawful, on which no frame is judged wrong and nothing is left unanswered: a command and a stop, and a stop while a

@@ -334,7 +334,7 @@ talks_in_turn s n1 line h stamps data_channels =
 
 -- ## The end
 
-acts_got : (d : ℕ) (past : List station.Act) → info_got d past ≡ info_in d (frames_got past)
+pub acts_got : (d : ℕ) (past : List station.Act) → info_got d past ≡ info_in d (frames_got past)
 acts_got d [] = refl
 acts_got d (station.Got f ∷ past) = ap (λ z. z ++ info_of d f) (acts_got d past)
 acts_got d (station.Sent f ∷ past) = acts_got d past
@@ -343,7 +343,7 @@ acts_got d (station.Tick ∷ past) = acts_got d past
 acts_got d (station.Lost ∷ past) = acts_got d past
 acts_got d (station.Given ∷ past) = acts_got d past
 
-acts_sent : (d : ℕ) (past : List station.Act) → info_sent d past ≡ info_in d (frames_sent past)
+pub acts_sent : (d : ℕ) (past : List station.Act) → info_sent d past ≡ info_in d (frames_sent past)
 acts_sent d [] = refl
 acts_sent d (station.Sent f ∷ past) = ap (λ z. z ++ info_of d f) (acts_sent d past)
 acts_sent d (station.Got f ∷ past) = acts_sent d past
