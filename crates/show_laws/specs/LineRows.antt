@@ -10,15 +10,15 @@ use Rattle.mux_station.specs.Written.{written}
 use Rattle.modem_desk.specs.declared.request.Ask.TheVariants.{OpenChannel, Command, Stop}
 use Rattle.modem_desk.specs.declared.request.Answer.TheVariants.{Opened, Refused, Closed, Stopped}
 use Rattle.modem_history.specs.Acts as driver
-use Rattle.modem_history.specs.Acts.{Given, wire}
+use Rattle.modem_history.specs.Acts.{Given}
 use Rattle.modem_history.specs.Calls.{replaying}
 use Rattle.modem_history.specs.Rows as row
-use Rattle.modem_history.specs.TwoEnds.{frames_sent}
 use Rattle.modem_history.specs.Rows.{takes, tells, tells_done, zero, one}
 use Rattle.modem_show.specs.Judging.{faults_from, unanswered}
 use Rattle.modem_show.specs.Rows.{never_answered, sound}
+use Rattle.show_laws.specs.InTime.{CommandsInTime, IsCalmLine}
 use Rattle.show_laws.specs.Laws.{IsPlainLine}
-use Rattle.show_laws.specs.Lines.{AtDriver, AtModem, IsDone, IsLawfulLine, LineAct, ReadsInTime, StopsAsking, captured, driver_past, modem_past}
+use Rattle.show_laws.specs.Lines.{AtDriver, AtModem, IsDone, IsLawfulLine, LineAct, captured}
 
 -- the line after these acts, of which the first comes first
 abbrev pub after : List LineAct → List LineAct → List LineAct
@@ -112,9 +112,8 @@ pub record IsRight (acts : List LineAct) : Type 0 where
 pub record MeetsAll (acts : List LineAct) : Type 0 where
   pub plain : IsPlainLine (replaying 31) 31 (after [] acts)
   pub done : IsDone (replaying 31) 31 (after [] acts)
-  pub at_driver : ReadsInTime Initiator (wire (driver_past (after [] acts)))
-  pub at_modem : ReadsInTime Responder (modem_past (after [] acts))
-  pub by_modem : StopsAsking (frames_sent (modem_past (after [] acts)))
+  pub calm : IsCalmLine (replaying 31) 31 (after [] acts)
+  pub in_time : CommandsInTime (after [] acts)
 
 pub record AreRight : Type 0 where
   pub talks : IsRight one_command

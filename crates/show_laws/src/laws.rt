@@ -1,6 +1,7 @@
 //! Laws of what is judged of a lawful line, as contracts of functions that do nothing.
 ghost use Rattle.std.specs.Prelude.{ℕ, List};
 ghost use Rattle.modem_history.specs.Calls.{Setting};
+ghost use Rattle.show_laws.specs.InTime.{AsksInTime};
 ghost use Rattle.show_laws.specs.Lines.{LineAct};
 ghost use Rattle.show_laws.specs.LineRows.{AreRight};
 ghost use Rattle.show_laws.specs.Talks.{FinishesTalk, TalksInTurn};
@@ -60,6 +61,13 @@ pub fn frames()
 #[tactic(auto, using(crate::proofs::answered::NoneWaits::answers_all))]
 pub fn answered()
     ensures { (s : Setting) (n1 : ℕ) (line : List LineAct) → AnswersAll s n1 line }
+{}
+
+/// So it is where each connection is asked for once, the modem opens none, and does at once what each act calls for, 0 is closed by CLD alone,
+/// no stop is given up, and the line isn't lost.
+#[tactic(auto, using(crate::proofs::intime::InTime::asks_in_time))]
+pub fn in_time()
+    ensures { (s : Setting) (n1 : ℕ) (line : List LineAct) → AsksInTime s n1 line }
 {}
 
 /// Of what is told of a line no command overlaps another one, and no final code answers nothing, where the modem answers commands alone.

@@ -96,7 +96,7 @@ by_frame_quiet r state f is h =
     subst (λ (q : Role). many commands (by_frame q state f) ≤ 0) (sym is)
     (few_if commands 0 (is_on Uih 0 f) (by_message Initiator (state 0) f) (by_table Initiator f.dlci (state 0) (state f.dlci) f.kind) (message_quiet Initiator (state 0) f) (table_quiet f.dlci (state 0) (state f.dlci) f.kind h))
 
-asked_quiet : (s : Setting) (v : HistoryView) (q : Request) (b : Bool) → is_none (at_once s v q) ≡ b → (ask : Ask) → q.ask ≡ ask → is_opened (v.state 0) ≡ false → many commands (if b then asking s.role ask else []) ≤ 0
+pub asked_quiet : (s : Setting) (v : HistoryView) (q : Request) (b : Bool) → is_none (at_once s v q) ≡ b → (ask : Ask) → q.ask ≡ ask → is_opened (v.state 0) ≡ false → many commands (if b then asking s.role ask else []) ≤ 0
 asked_quiet s v q false e ask is shut = omega arith
 asked_quiet s v q true e (OpenChannel c) is shut = omega arith
 asked_quiet s v q true e (CloseChannel c) is shut = omega arith
@@ -161,7 +161,7 @@ asked_alone r Stop true = omega arith
 -- ## What the driver has sent
 
 -- a CLD or its response was sent behind the SABM
-sabm_before : (s : Setting) (n1 : ℕ) (line : List LineAct) → IsOnceLine s n1 line → 1 ≤ many closes (frames_sent (wire (driver_past line))) → 1 ≤ many (is_on Sabm 0) (frames_sent (wire (driver_past line)))
+pub sabm_before : (s : Setting) (n1 : ℕ) (line : List LineAct) → IsOnceLine s n1 line → 1 ≤ many closes (frames_sent (wire (driver_past line))) → 1 ≤ many (is_on Sabm 0) (frames_sent (wire (driver_past line)))
 sabm_before s n1 line h some = by_count (many (is_on Sabm 0) sent) refl
   where
     sent : List Frame
@@ -342,10 +342,10 @@ calls s n1 a line prompt quiet alone k =
       λ some. let few = first_owes s past a closes prompt in more_alone s past a prompt (alone (omega (arith, some, few))),
     )
 
-shut_frame : (s : Setting) (past : List driver.Act) (f : Frame) → s.role ≡ Initiator → Lawful s past → open_at 0 (wire past) ≡ false → many commands (by_frame s.role (seen_behind s past (owed s past)).state f) ≤ 0
+pub shut_frame : (s : Setting) (past : List driver.Act) (f : Frame) → s.role ≡ Initiator → Lawful s past → open_at 0 (wire past) ≡ false → many commands (by_frame s.role (seen_behind s past (owed s past)).state f) ≤ 0
 shut_frame s past f is l shut = by_frame_quiet s.role (seen_behind s past (owed s past)).state f is (λ apart. opening_state s f.dlci past is (below_unasked s f.dlci past is l shut apart))
 
-shut_flow : (s : Setting) (past : List driver.Act) (e signals : ℕ) → s.role ≡ Initiator → Lawful s past → open_at 0 (wire past) ≡ false → many commands (by_flow s.role (seen_behind s past (owed s past)).state e signals) ≤ 0
+pub shut_flow : (s : Setting) (past : List driver.Act) (e signals : ℕ) → s.role ≡ Initiator → Lawful s past → open_at 0 (wire past) ≡ false → many commands (by_flow s.role (seen_behind s past (owed s past)).state e signals) ≤ 0
 shut_flow s past e signals is l shut =
     let o = opened_state s e past is (below_shut s e past is l shut) in
     let same : many commands (by_flow s.role (seen_behind s past (owed s past)).state e signals) ≡ 0 = ap (λ (b : Bool). many commands (if b then msc_frame s.role e signals ∷ [] else [])) o in

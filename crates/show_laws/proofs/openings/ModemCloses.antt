@@ -73,7 +73,7 @@ mode_no_cld r e false = omega arith
 status_no_cld : (r : Role) (e : ℕ) → many (brings_command cld) (msc_after_opening r e) ≤ 0
 status_no_cld r e = few_if (brings_command cld) 0 (e == 0) [] (msc_frame r e ready ∷ []) (omega arith) (none_one (brings_command cld) (msc_frame r e ready) (not_cld_frame r msc ((4 * e + 3) ∷ ready ∷ []) refl))
 
-table_no_cld : (r : Role) (e : ℕ) (channel own : State) (k : Kind) → many (brings_command cld) (by_table r e channel own k) ≤ 0
+pub table_no_cld : (r : Role) (e : ℕ) (channel own : State) (k : Kind) → many (brings_command cld) (by_table r e channel own k) ≤ 0
 table_no_cld Initiator e channel own Ua = few_if (brings_command cld) 0 (is_opening own) (msc_after_opening Initiator e) [] (status_no_cld Initiator e) (omega arith)
 table_no_cld Initiator e channel own Sabm = mode_no_cld Initiator e false
 table_no_cld Initiator e channel own Disc = mode_no_cld Initiator e (is_opened own)

@@ -17,7 +17,7 @@ use Rattle.modem_history.specs.Rows as row
 use Rattle.modem_history.specs.Rows.{takes, tells, tells_done, zero, one}
 use Rattle.modem_history.specs.TwoEnds.{AsksOnce, ComesInOrder, frames_got, frames_sent}
 use Rattle.modem_history.proofs.rows.HistoryTests.{good}
-use Rattle.show_laws.specs.Lines.{IsOneLine, LineAct, driver_past, modem_past, responding}
+use Rattle.show_laws.specs.Lines.{IsLawfulLine, IsOneLine, LineAct, driver_past, modem_past, responding}
 use Rattle.show_laws.specs.Laws.{IsPlainLine}
 use Rattle.show_laws.specs.LineRows.{AreRight, MeetsAll, after, both_open, one_command, stopped_early}
 
@@ -146,12 +146,16 @@ opens_plainly = record {
   probes = refl;
 }
 
+command_lawful : IsLawfulLine (replaying 31) 31 (after [] one_command)
+unfolding command_acts
+command_lawful = record { is_initiator = refl; driver_lawful = (good (replaying 31) command_acts refl refl refl).lawful; modem_lawful = command_station; one_line = command_line }
+
 meets_all : MeetsAll one_command
 unfolding command_acts StationComplete
 meets_all = record {
   plain =
       record {
-        lawful = record { is_initiator = refl; driver_lawful = (good (replaying 31) command_acts refl refl refl).lawful; modem_lawful = command_station; one_line = command_line };
+        lawful = command_lawful;
         once = command_once;
         commands = (λ d e. cc, (λ d e. refl, (λ d e. cc, (λ d e. cc, tt))));
         offers = (refl, tt);
@@ -166,20 +170,40 @@ meets_all = record {
         at_driver = refl;
         at_modem = refl;
       };
-  at_driver = (λ e. cc, (λ e. cc, (λ e. cc, (λ e. refl, (λ e. cc, (λ e. cc, tt))))));
-  at_modem = (λ e. refl, (λ e. cc, (λ e. cc, (λ e. refl, (λ e. cc, (λ e. cc, tt))))));
-  by_modem = (λ e. cc, (λ e. cc, (λ e. cc, (λ e. refl, (λ e. cc, (λ e. cc, tt))))));
+  calm =
+      record {
+        lawful = command_lawful;
+        once = command_once;
+        opens_none = refl;
+        prompt = (refl, (refl, (refl, (refl, (refl, (refl, (refl, tt)))))));
+        driver_down = refl;
+        modem_down = refl;
+        driver_keeps = tt;
+        modem_keeps = tt;
+        driver_live = refl;
+        modem_live = refl;
+      };
+  in_time =
+      record {
+        at_driver = (λ e. cc, (λ e. cc, (λ e. cc, (λ e. refl, (λ e. cc, (λ e. cc, tt))))));
+        at_modem = (λ e. refl, (λ e. cc, (λ e. cc, (λ e. refl, (λ e. cc, (λ e. cc, tt))))));
+        by_modem = (λ e. cc, (λ e. cc, (λ e. cc, (λ e. refl, (λ e. cc, (λ e. cc, tt))))));
+      };
 }
 
 stop_once : AsksOnce (wire (driver_past (after [] stopped_early)))
 stop_once d = at_most_one (1 == d) (0 == d) _ _ (λ first second. two_numbers 1 0 d refl (eqb-true 1 d first) (eqb-true 0 d second))
+
+stop_lawful : IsLawfulLine (replaying 31) 31 (after [] stopped_early)
+unfolding stop_acts
+stop_lawful = record { is_initiator = refl; driver_lawful = (good (replaying 31) stop_acts refl refl refl).lawful; modem_lawful = stop_station; one_line = stop_line }
 
 stops_by_all : MeetsAll stopped_early
 unfolding stop_acts StationComplete
 stops_by_all = record {
   plain =
       record {
-        lawful = record { is_initiator = refl; driver_lawful = (good (replaying 31) stop_acts refl refl refl).lawful; modem_lawful = stop_station; one_line = stop_line };
+        lawful = stop_lawful;
         once = stop_once;
         commands = (λ d e. cc, (λ d e. cc, (λ d e. cc, tt)));
         offers = tt;
@@ -194,9 +218,25 @@ stops_by_all = record {
         at_driver = refl;
         at_modem = refl;
       };
-  at_driver = (λ e. cc, (λ e. refl, (λ e. cc, (λ e. cc, tt))));
-  at_modem = (λ e. refl, (λ e. cc, (λ e. cc, tt)));
-  by_modem = (λ e. cc, (λ e. refl, (λ e. cc, (λ e. cc, tt))));
+  calm =
+      record {
+        lawful = stop_lawful;
+        once = stop_once;
+        opens_none = refl;
+        prompt = (refl, (refl, (refl, tt)));
+        driver_down = refl;
+        modem_down = refl;
+        driver_keeps = tt;
+        modem_keeps = tt;
+        driver_live = refl;
+        modem_live = refl;
+      };
+  in_time =
+      record {
+        at_driver = (λ e. cc, (λ e. refl, (λ e. cc, (λ e. cc, tt))));
+        at_modem = (λ e. refl, (λ e. cc, (λ e. cc, tt)));
+        by_modem = (λ e. cc, (λ e. refl, (λ e. cc, (λ e. cc, tt))));
+      };
 }
 
 -- ## Both
@@ -206,7 +246,7 @@ unfolding command_acts stop_acts open_acts
 are_right = record {
   talks =
       record {
-        lawful = record { is_initiator = refl; driver_lawful = (good (replaying 31) command_acts refl refl refl).lawful; modem_lawful = command_station; one_line = command_line };
+        lawful = command_lawful;
         frames = refl;
         of_driver = refl;
         of_modem = refl;
@@ -214,7 +254,7 @@ are_right = record {
   talks_by_all = meets_all;
   stops =
       record {
-        lawful = record { is_initiator = refl; driver_lawful = (good (replaying 31) stop_acts refl refl refl).lawful; modem_lawful = stop_station; one_line = stop_line };
+        lawful = stop_lawful;
         frames = refl;
         of_driver = refl;
         of_modem = refl;
