@@ -22,34 +22,34 @@ use Rattle.modem_show.proofs.Keeping.{open_fits, stopped_fits}
 -- an end that sends, and the other one, at each moment of the passing
 pub record Sends (stamp : Stamp) (f : Frame) (old new : Side) (answered : Option Ask) : Type 0 where
   pub role : new.end.role ≡ old.end.role
-  pub asks : new.asks ≡ map (excused_by f) (asked_with stamp f ++ old.asks)
+  pub asks : new.asks ≡ map (excused_by (act.Sent f)) (asked_with stamp f ++ old.asks)
   pub past : (past : List Act) → EndFits old.end past → EndFits new.end (act.Sent f ∷ (handled answered ++ past))
 
 pub record Gets (f : Frame) (old new : Side) : Type 0 where
   pub role : new.end.role ≡ old.end.role
-  pub asks : new.asks ≡ map (excused_by f) (unanswered_by f old.asks)
+  pub asks : new.asks ≡ map (excused_by (act.Got f)) (unanswered_by f old.asks)
   pub past : (past : List Act) → EndFits old.end past → EndFits new.end (come f past)
 
 -- the other end's asks, where those of the sender's other end are looked at
 sides_fit : (r : Role) (c : Caught) (line : List Caught) (from to from_after to_after : Side)
     → SideFits r from line → SideFits (other r) to line
     → Sends c.stamp c.frame from from_after (answered_by c.frame to.asks) → Gets c.frame to to_after
-    → waiting r (c ∷ line) ≡ map (excused_by c.frame) (asked_with c.stamp c.frame ++ waiting r line)
-    → waiting (other r) (c ∷ line) ≡ map (excused_by c.frame) (unanswered_by c.frame (waiting (other r) line))
+    → waiting r (c ∷ line) ≡ map (excused_by (act.Sent c.frame)) (asked_with c.stamp c.frame ++ waiting r line)
+    → waiting (other r) (c ∷ line) ≡ map (excused_by (act.Got c.frame)) (unanswered_by c.frame (waiting (other r) line))
     → own r (c ∷ line) ≡ act.Sent c.frame ∷ (handled (answered_by c.frame (waiting (other r) line)) ++ own r line)
     → own (other r) (c ∷ line) ≡ come c.frame (own (other r) line)
     → SideFits r from_after (c ∷ line) × SideFits (other r) to_after (c ∷ line)
 sides_fit r c line from to from_after to_after hf ht s g w1 w2 o1 o2 = (
   record {
     role = s.role ∙ hf.role;
-    asks = s.asks ∙ (ap (λ (xs : List Ask). map (excused_by c.frame) (asked_with c.stamp c.frame ++ xs)) hf.asks ∙ sym w1);
+    asks = s.asks ∙ (ap (λ (xs : List Ask). map (excused_by (act.Sent c.frame)) (asked_with c.stamp c.frame ++ xs)) hf.asks ∙ sym w1);
     end = subst (λ (p : List Act). EndFits from_after.end p) (sym o1)
         (subst (λ (xs : List Ask). EndFits from_after.end (act.Sent c.frame ∷ (handled (answered_by c.frame xs) ++ own r line))) ht.asks
         (s.past (own r line) hf.end));
   },
   record {
     role = g.role ∙ ht.role;
-    asks = g.asks ∙ (ap (λ (xs : List Ask). map (excused_by c.frame) (unanswered_by c.frame xs)) ht.asks ∙ sym w2);
+    asks = g.asks ∙ (ap (λ (xs : List Ask). map (excused_by (act.Got c.frame)) (unanswered_by c.frame xs)) ht.asks ∙ sym w2);
     end = subst (λ (p : List Act). EndFits to_after.end p) (sym o2) (g.past (own (other r) line) ht.end);
   },
 )
@@ -67,8 +67,8 @@ passes stamp FromModem f from to from_after to_after s g = record {
 -- the steps of a passing, one after the other
 pub steps_pass : (stamp : Stamp) (direction : Direction) (f : Frame) (from from1 from2 to to1 to2 : Side) (taken : Option Ask)
     → from1.end ≡ from.end → from1.asks ≡ asked_with stamp f ++ from.asks
-    → to1.end ≡ to.end → taken ≡ answered_by f to.asks → to1.asks ≡ map (excused_by f) (unanswered_by f to.asks)
-    → from2.end.role ≡ from1.end.role → from2.asks ≡ map (excused_by f) from1.asks
+    → to1.end ≡ to.end → taken ≡ answered_by f to.asks → to1.asks ≡ map (excused_by (act.Got f)) (unanswered_by f to.asks)
+    → from2.end.role ≡ from1.end.role → from2.asks ≡ map (excused_by (act.Sent f)) from1.asks
     → ((past : List Act) → EndFits from1.end past → EndFits from2.end (act.Sent f ∷ (handled taken ++ past)))
     → to2.end.role ≡ to1.end.role → to2.asks ≡ to1.asks
     → ((past : List Act) → EndFits to1.end past → EndFits to2.end (come f past))
@@ -77,7 +77,7 @@ steps_pass stamp direction f from from1 from2 to to1 to2 taken e1 a1 t1 k t1a r2
     passes stamp direction f from to from2 to2
     (record {
       role = r2 ∙ ap (λ (e : End). e.role) e1;
-      asks = a2 ∙ ap (λ (xs : List Ask). map (excused_by f) xs) a1;
+      asks = a2 ∙ ap (λ (xs : List Ask). map (excused_by (act.Sent f)) xs) a1;
       past = λ past h.
           subst (λ (o : Option Ask). EndFits from2.end (act.Sent f ∷ (handled o ++ past))) k
           (p2 past (subst (λ (e : End). EndFits e past) (sym e1) h));

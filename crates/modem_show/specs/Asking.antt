@@ -8,6 +8,7 @@ use Rattle.mux_frame.specs.declared.frame.Kind.TheVariants.{Sabm, Ua, Dm, Disc, 
 use Rattle.mux_capture.specs.declared.packet.Stamp.{Stamp}
 use Rattle.mux_capture.specs.Passing.{Caught}
 use Rattle.mux_station.specs.declared.role.Role.{Role}
+use Rattle.mux_station.specs.Acts.{Act, Got, Sent}
 use Rattle.mux_station.specs.Written.{is_kind}
 use Rattle.mux_station.specs.Messages.{Message, message_in, is_command, response_of, nsc, cld, brings_command, brings_response}
 use Rattle.mux_station.specs.Opening.{is_mode_frame_on}
@@ -80,13 +81,15 @@ drops g f =
     is_kind f.kind Uih
     && (is_mode_frame_on 0 g || ((brings_command cld g || brings_response cld g) && not (brings_command cld f)))
 
--- after g no answer to f has to come
-abbrev pub excuses : Frame → Frame → Bool
-excuses g f = answers f g || drops g f
+-- Behind this act of an end no answer to its f has to come. What it sends answers nothing that it asked itself.
+abbrev pub excuses : Act → Frame → Bool
+excuses (Got g) f = answers f g || drops g f
+excuses (Sent g) f = drops g f
+excuses _ f = false
 
--- an ask once this frame passed
-abbrev pub excused_by : Frame → Ask → Ask
-excused_by g a = record a { is_excused = a.is_excused || excuses g a.frame }
+-- an ask of an end behind this act of it
+abbrev pub excused_by : Act → Ask → Ask
+excused_by act a = record a { is_excused = a.is_excused || excuses act a.frame }
 
 -- the ask that a frame answers: the newest that it can answer
 abbrev pub answered_by : Frame → List Ask → Option Ask
@@ -104,8 +107,8 @@ asked_with stamp f = if is_ask f then record { stamp = stamp; frame = f; is_excu
 abbrev pub waiting : Role → List Caught → List Ask
 waiting r [] = []
 waiting r (c ∷ line) =
-    map (excused_by c.frame)
-    (if is_from r c then asked_with c.stamp c.frame ++ waiting r line else unanswered_by c.frame (waiting r line))
+    if is_from r c then map (excused_by (Sent c.frame)) (asked_with c.stamp c.frame ++ waiting r line)
+    else map (excused_by (Got c.frame)) (unanswered_by c.frame (waiting r line))
 
 -- the kind of the frame that a frame answers, behind those that passed before it
 abbrev pub answered_kind : List Caught → Caught → Option Kind

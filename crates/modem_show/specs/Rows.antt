@@ -90,6 +90,13 @@ pub record AreJudged : Type 0 where
   -- PN, which the table doesn't have, and its response with another value; both ends close at once
   pub negotiated : EndsWith sound (opened_0 ++ out Uih 0 (0x83 ∷ 3 ∷ 1 ∷ []) ∷ []) (back Uih 0 (0x81 ∷ 3 ∷ 2 ∷ []))
   pub both_close : EndsWith sound (opened_1 ++ (out Disc 1 [] ∷ back Disc 1 [] ∷ out Dm 1 [] ∷ [])) (back Dm 1 [])
+  -- the modem asks to open 1 too, and the driver's DM answers that: the modem's data behind its UA, and without it
+  pub both_open :
+      EndsWith sound
+      (opened_0 ++ (out Sabm 1 [] ∷ back Sabm 1 [] ∷ out Dm 1 [] ∷ back Ua 1 [] ∷ []))
+      (back Uih 1 text)
+  pub refused_open :
+      EndsWith unopened (opened_0 ++ (out Sabm 1 [] ∷ back Sabm 1 [] ∷ out Dm 1 [] ∷ [])) (back Uih 1 text)
   -- data before the UA, and after a DM; the modem's before it answers DISC, after it, and after CLD
   pub not_open : EndsWith unopened (opened_0 ++ out Sabm 1 [] ∷ []) (out Uih 1 text)
   pub refused_opening : EndsWith unopened (opened_0 ++ (out Sabm 1 [] ∷ back Dm 1 [] ∷ [])) (out Uih 1 text)
@@ -165,6 +172,12 @@ pub record AreAnswered : Type 0 where
   -- an opening that is never answered, and one that was sent again and answered once
   pub opening : of_driver (out Sabm 0 [] ∷ []) ≡ written Initiator Sabm 0 [] ∷ []
   pub sent_again : of_driver (out Sabm 0 [] ∷ out Sabm 0 [] ∷ back Ua 0 [] ∷ []) ≡ []
+  -- an opening and a probe of both ends, which the driver alone answers
+  pub both_open :
+      of_driver (opened_0 ++ (out Sabm 1 [] ∷ back Sabm 1 [] ∷ out Dm 1 [] ∷ [])) ≡ written Initiator Sabm 1 [] ∷ []
+  pub both_probe :
+      of_driver (opened_0 ++ (out Uih 0 probe ∷ back Uih 0 probe ∷ out Uih 0 probe_back ∷ []))
+      ≡ written Initiator Uih 0 probe ∷ []
   -- an MSC on its way as 0 is closed down; the close down itself
   pub dropped : of_modem (opened_1 ++ (back Uih 0 go ∷ out Uih 0 (0xc3 ∷ 1 ∷ []) ∷ [])) ≡ []
   -- an MSC that passes behind the close down, which the driver doesn't answer any more; before the response it is still awaited

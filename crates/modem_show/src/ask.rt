@@ -1,8 +1,10 @@
 //! Frames that ask for an answer, and their answers (27.010, 5.4.1, 5.4.2 and 5.4.6).
 ghost use Rattle.std.specs.Prelude.{◌≡◌, false, IfOk};
 ghost use Rattle.mux_frame.specs.Frames.{frame_of};
+ghost use Rattle.modem_show.specs.Ways.{act_of};
 ghost use Rattle.modem_show.specs.Asking.{answers, drops, excuses, excused_by, is_again, is_ask, is_answer, is_mode_command, is_mode_answer};
 
+use crate::deed::Deed;
 use crate::message::{
     answers_close_down, both_respond, closes_down, is_kind, is_mode_frame_on, message_in,
 };
@@ -64,11 +66,14 @@ fn drops(frame: FrameView<'_>, asked: FrameView<'_>) -> bool
             || ((closes_down(frame) || answers_close_down(frame)) && !closes_down(asked)))
 }
 
-/// Whether no answer to the second frame has to come after the first.
-fn excuses(frame: FrameView<'_>, asked: FrameView<'_>) -> bool
-    ensures { result ≡ excuses (frame_of frame.entry) (frame_of asked.entry) }
+/// Whether no answer to the second frame, with which an end asked, has to come once it got or sent the first.
+fn excuses(deed: Deed, frame: FrameView<'_>, asked: FrameView<'_>) -> bool
+    ensures { result ≡ excuses (act_of deed (frame_of frame.entry)) (frame_of asked.entry) }
 {
-    answers(asked, frame) || drops(frame, asked)
+    match deed {
+        Deed::Got => answers(asked, frame) || drops(frame, asked),
+        Deed::Sent => drops(frame, asked),
+    }
 }
 
 /// A frame that asks and waits for its answer.
@@ -129,11 +134,11 @@ impl Ask {
         is_mode_command(self.frame.view()) && self.excused
     }
 
-    /// A frame passes, and it may be excused by it.
-    pub(crate) fn pass(&mut self, frame: FrameView<'_>)
-        ensures { self.new ≡ excused_by (frame_of frame.entry) self.old }
+    /// Its end got or sent a frame, and it may be excused by it.
+    pub(crate) fn pass(&mut self, deed: Deed, frame: FrameView<'_>)
+        ensures { self.new ≡ excused_by (act_of deed (frame_of frame.entry)) self.old }
     {
-        if excuses(frame, self.frame.view()) {
+        if excuses(deed, frame, self.frame.view()) {
             self.excused = true;
         }
     }

@@ -3,9 +3,11 @@ ghost use Rattle.std.specs.Prelude.{◌≡◌, map};
 ghost use Rattle.std.specs.List.{position};
 ghost use Rattle.std.specs.Option.{option_copied};
 ghost use Rattle.mux_frame.specs.Frames.{frame_of};
+ghost use Rattle.modem_show.specs.Ways.{act_of};
 ghost use Rattle.modem_show.specs.Asking.{answers, answered_by, is_in_doubt, unanswered_by, excused_by};
 
 use crate::ask::{Ask, answers};
+use crate::deed::Deed;
 use mux_frame::{Dlci, FrameView};
 
 /// The place of the newest that a frame answers.
@@ -41,11 +43,11 @@ pub(crate) fn take_answered(asks: &mut Vec<Ask>, frame: FrameView<'_>) -> Option
     }
 }
 
-/// A frame passes, and excuses those that it can.
-pub(crate) fn pass_all(asks: &mut Vec<Ask>, frame: FrameView<'_>)
-    ensures { asks.new.items ≡ map (excused_by (frame_of frame.entry)) asks.old.items }
+/// The end got or sent a frame, which excuses those that it can.
+pub(crate) fn pass_all(asks: &mut Vec<Ask>, deed: Deed, frame: FrameView<'_>)
+    ensures { asks.new.items ≡ map (excused_by (act_of deed (frame_of frame.entry))) asks.old.items }
 {
     for ask in asks.iter_mut() {
-        ask.pass(frame);
+        ask.pass(deed, frame);
     }
 }

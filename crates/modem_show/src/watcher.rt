@@ -5,7 +5,7 @@ ghost use Rattle.mux_frame.specs.Frames.{frame_of};
 ghost use Rattle.mux_capture.specs.declared.packet.Direction.{Direction};
 ghost use Rattle.mux_capture.specs.Passing.{Caught};
 ghost use Rattle.mux_station.specs.Acts.{Act};
-ghost use Rattle.modem_show.specs.declared.deed.Deed.TheVariants.{Sent};
+ghost use Rattle.modem_show.specs.declared.deed.Deed.TheVariants.{Got, Sent};
 ghost use Rattle.mux_station.specs.Opening.{is_open};
 ghost use Rattle.mux_station.specs.Stopping.{is_stopped};
 ghost use Rattle.modem_show.specs.Ways.{caught, act_of, other, sender};
@@ -84,10 +84,10 @@ impl Side {
         ensures end { self.new.end ≡ self.old.end }
         ensures taken { result ≡ answered_by (frame_of frame.entry) self.old.asks }
         ensures rest { self.new.asks
-            ≡ map (excused_by (frame_of frame.entry)) (unanswered_by (frame_of frame.entry) self.old.asks) }
+            ≡ map (excused_by (act_of Got (frame_of frame.entry))) (unanswered_by (frame_of frame.entry) self.old.asks) }
     {
         let taken = take_answered(&mut self.asks, frame);
-        pass_all(&mut self.asks, frame);
+        pass_all(&mut self.asks, Deed::Got, frame);
         taken
     }
 
@@ -105,7 +105,7 @@ impl Side {
     /// This end sends a frame, with which it answers what it was asked.
     fn send(&mut self, frame: FrameView<'_>, answered: Option<Ask>)
         ensures role { self.new.end.role ≡ self.old.end.role }
-        ensures asks { self.new.asks ≡ map (excused_by (frame_of frame.entry)) self.old.asks }
+        ensures asks { self.new.asks ≡ map (excused_by (act_of Sent (frame_of frame.entry))) self.old.asks }
         ensures past { (past : List Act) → EndFits self.old.end past
             → EndFits self.new.end (act_of Sent (frame_of frame.entry) ∷ (handled answered ++ past)) }
     {
@@ -113,7 +113,7 @@ impl Side {
             self.read(&ask);
         }
         self.end.act(frame, Deed::Sent);
-        pass_all(&mut self.asks, frame);
+        pass_all(&mut self.asks, Deed::Sent, frame);
     }
 
     /// A frame comes to this end.

@@ -10,3 +10,4 @@ pub mod stops
 pub mod sound
 pub mod talks
 pub mod simulated
+pub mod intime

@@ -9,7 +9,7 @@ pub mod NoneUnopened
 pub mod DriverStates
 pub mod DiscBehindUa
 pub mod FreshAsks
-pub mod ModemFollows
+pub mod ModemAnswers
 pub mod ResponderCalls
 pub mod ModemCloses
 pub mod ModemOpen

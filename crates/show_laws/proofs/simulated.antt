@@ -1,2 +1,3 @@
 -- A driver and a simulated modem.
+pub mod AnsweredCommands
 pub mod SimulatedLines

@@ -1,14 +1,10 @@
 -- What is never wrong with a frame of a lawful line.
 use Rattle.std.specs.Prelude.{◌≡◌, ℕ, ◌≤◌, ◌||◌, nat_le, Bool, true, false, List, [], ◌∷◌, length, ◌==◌, ◌&&◌, Option, None, Some, map, reverse}
 use Rattle.std.specs.List.{list_all, list_any}
-use Rattle.mux_capture.specs.declared.packet.Direction.TheVariants.{ToModem}
 use Rattle.mux_capture.specs.declared.packet.Stamp.{Stamp}
 use Rattle.mux_station.specs.declared.role.Role.TheVariants.{Initiator, Responder}
 use Rattle.mux_station.specs.Acts as station
-use Rattle.mux_frame.specs.declared.frame.Kind.TheVariants.{Sabm}
-use Rattle.mux_station.specs.Written.{is_kind}
 use Rattle.mux_station.specs.Messages.{Message, fcoff, message_in, msc, msc_stops}
-use Rattle.mux_station.specs.Sending.{StationSetting, owed_frames}
 use Rattle.modem_desk.specs.declared.request.Ask.{Ask}
 use Rattle.modem_desk.specs.declared.request.Ask.TheVariants.{Probe}
 use Rattle.modem_history.specs.Acts as driver
@@ -19,7 +15,7 @@ use Rattle.modem_history.specs.Wholes.{taken_requests}
 use Rattle.modem_show.specs.declared.rule.Rule.TheVariants.{Unasked, Unopened, Unstopped, TooLong, Astray}
 use Rattle.modem_show.specs.Judging.{faults_from, is_text, unanswered}
 use Rattle.modem_show.specs.Rows.{sound}
-use Rattle.show_laws.specs.Lines.{IsDone, IsLawfulLine, ReadsWhileOpen, LineAct, NoneBreaks, NoneBreaksIn, captured, driver_past, modem_past, responding}
+use Rattle.show_laws.specs.Lines.{IsDone, IsLawfulLine, LineAct, NoneBreaks, ReadsInTime, StopsAsking, captured, driver_past, modem_past}
 
 -- each answer answers something that waits for it, whatever N1 the line is judged by
 unfoldable pub AnswersAsks : Setting → ℕ → List LineAct → Type 0
@@ -58,37 +54,19 @@ CarriesText s n1 line =
 
 -- ## Openings
 
--- the driver sends no data on a connection that isn't open, where it asks for each connection once at most
-unfoldable pub SendsWhileOpen : Setting → ℕ → List LineAct → Type 0
-SendsWhileOpen s n1 line =
-    IsLawfulLine s n1 line → AsksOnce (wire (driver_past line)) → (stamps : ℕ → Stamp) (most : ℕ) → NoneBreaksIn ToModem Unopened most (captured stamps line)
-
--- no SABM was sent
-abbrev pub OpensNothing : List station.Act → Type 0
-OpensNothing past = list_any (λ f. is_kind f.kind Sabm) (frames_sent past) ≡ false
-
--- all that an act calls for was sent before the next one
-abbrev pub IsPrompt : StationSetting → List station.Act → Type 0
-IsPrompt s [] = Unit {0}
-IsPrompt s (station.Sent f ∷ past) = IsPrompt s past
-IsPrompt s (station.Given ∷ past) = IsPrompt s past
-IsPrompt s (a ∷ past) = (owed_frames s past ≡ []) × IsPrompt s past
-
--- Neither end sends data on a connection that isn't open, where the driver asks for each connection once at most, and the modem is
--- prompt, and opens none by itself.
-unfoldable pub BothSendWhileOpen : Setting → ℕ → List LineAct → Type 0
-BothSendWhileOpen s n1 line =
-    IsLawfulLine s n1 line → AsksOnce (wire (driver_past line)) → OpensNothing (modem_past line)
-    → IsPrompt (responding n1) (modem_past line)
-    → (stamps : ℕ → Stamp) (most : ℕ) → NoneBreaks Unopened most (captured stamps line)
+-- neither end sends data on a connection that isn't open, where the driver asks for each connection once at most
+unfoldable pub SendWhileOpen : Setting → ℕ → List LineAct → Type 0
+SendWhileOpen s n1 line =
+    IsLawfulLine s n1 line → AsksOnce (wire (driver_past line)) → (stamps : ℕ → Stamp) (most : ℕ) → NoneBreaks Unopened most (captured stamps line)
 
 -- ## Answers
 
--- where nothing is under way each ask was answered, where each control command came while 0 was open
+-- Where nothing is under way each ask was answered, or needn't be, where the driver asks for each connection once at most, each control
+-- command came in time, and the modem sent none behind a CLD or the response to one.
 unfoldable pub AnswersAll : Setting → ℕ → List LineAct → Type 0
 AnswersAll s n1 line =
-    IsLawfulLine s n1 line → IsDone s n1 line → ReadsWhileOpen Initiator (wire (driver_past line)) → ReadsWhileOpen Responder (modem_past line)
-    → (stamps : ℕ → Stamp)
+    IsLawfulLine s n1 line → IsDone s n1 line → AsksOnce (wire (driver_past line)) → ReadsInTime Initiator (wire (driver_past line))
+    → ReadsInTime Responder (modem_past line) → StopsAsking (frames_sent (modem_past line)) → (stamps : ℕ → Stamp)
     → (unanswered Initiator (captured stamps line) ≡ []) × (unanswered Responder (captured stamps line) ≡ [])
 
 -- ## Stops
@@ -119,8 +97,6 @@ HeedsStops s n1 line =
 pub record IsPlainLine (s : Setting) (n1 : ℕ) (line : List LineAct) : Type 0 where
   pub lawful : IsLawfulLine s n1 line
   pub once : AsksOnce (wire (driver_past line))
-  pub opens_none : OpensNothing (modem_past line)
-  pub prompt : IsPrompt (responding n1) (modem_past line)
   pub commands : TakesCommandLines (driver_past line)
   pub offers : OffersText (modem_past line)
   pub probes : TakesShortProbes (driver_past line)

@@ -3,3 +3,4 @@ pub mod Laws
 pub mod Talks
 pub mod LineRows
 pub mod Simulated
+pub mod InTime

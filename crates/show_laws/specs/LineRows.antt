@@ -1,23 +1,24 @@
 -- Worked lines, N1 31.
 use Rattle.std.specs.Prelude.{◌≡◌, ℕ, List, [], ◌∷◌, ◌++◌, codes, map, reverse}
 use Rattle.mux_frame.specs.declared.frame.Kind.{Kind}
-use Rattle.mux_frame.specs.declared.frame.Kind.TheVariants.{Sabm, Ua, Uih}
+use Rattle.mux_frame.specs.declared.frame.Kind.TheVariants.{Sabm, Ua, Dm, Uih}
 use Rattle.mux_capture.specs.Passing.{Caught}
 use Rattle.mux_capture.specs.declared.packet.Stamp.{Stamp}
 use Rattle.mux_station.specs.declared.role.Role.TheVariants.{Initiator, Responder}
 use Rattle.mux_station.specs.Acts as station
 use Rattle.mux_station.specs.Written.{written}
 use Rattle.modem_desk.specs.declared.request.Ask.TheVariants.{OpenChannel, Command, Stop}
-use Rattle.modem_desk.specs.declared.request.Answer.TheVariants.{Opened, Closed, Stopped}
+use Rattle.modem_desk.specs.declared.request.Answer.TheVariants.{Opened, Refused, Closed, Stopped}
 use Rattle.modem_history.specs.Acts as driver
-use Rattle.modem_history.specs.Acts.{Given, wire}
+use Rattle.modem_history.specs.Acts.{Given}
 use Rattle.modem_history.specs.Calls.{replaying}
 use Rattle.modem_history.specs.Rows as row
 use Rattle.modem_history.specs.Rows.{takes, tells, tells_done, zero, one}
 use Rattle.modem_show.specs.Judging.{faults_from, unanswered}
 use Rattle.modem_show.specs.Rows.{never_answered, sound}
+use Rattle.show_laws.specs.InTime.{CommandsInTime, IsCalmLine}
 use Rattle.show_laws.specs.Laws.{IsPlainLine}
-use Rattle.show_laws.specs.Lines.{AtDriver, AtModem, IsDone, IsLawfulLine, LineAct, ReadsWhileOpen, captured, driver_past, modem_past}
+use Rattle.show_laws.specs.Lines.{AtDriver, AtModem, IsDone, IsLawfulLine, LineAct, captured}
 
 -- the line after these acts, of which the first comes first
 abbrev pub after : List LineAct → List LineAct → List LineAct
@@ -78,6 +79,22 @@ stopped_early =
     ++ at_driver
     (row.comes Ua 1 [] ∷ row.comes Uih 0 (row.msc_command 1 0x8d) ∷ row.comes Uih 0 row.cld_response ∷ tells 3 Stopped ∷ [])
 
+-- both ends ask for 1: the driver answers DM, and gives its own opening up; the modem answers UA, and sends before the DM comes to it
+abbrev pub both_open : List LineAct
+both_open =
+    opened_zero
+    ++ at_driver (takes 2 (OpenChannel one) ∷ row.sends Sabm 1 [] ∷ Given ∷ [])
+    ++ at_modem (station.Called (station.Open 1) ∷ sends Sabm 1 [] ∷ station.Given ∷ [])
+    ++ at_driver (row.comes Sabm 1 [] ∷ row.sends Dm 1 [] ∷ tells 2 Refused ∷ Given ∷ [])
+    ++ at_modem
+    (comes Sabm 1 [] ∷ sends Ua 1 [] ∷ sends Uih 0 (row.msc_command 1 0x8d) ∷ station.Given ∷ station.Given
+    ∷ station.Called (station.Offer 1 (row.framed (codes "RING"))) ∷ sends Uih 1 (row.framed (codes "RING"))
+    ∷ comes Dm 1 [] ∷ [])
+    ++ at_driver
+    (row.comes Ua 1 [] ∷ row.comes Uih 0 (row.msc_command 1 0x8d) ∷ row.sends Uih 0 (row.msc_response 1 0x8d) ∷ Given
+    ∷ row.comes Uih 1 (row.framed (codes "RING")) ∷ [])
+    ++ at_modem (comes Uih 0 (row.msc_response 1 0x8d) ∷ [])
+
 abbrev pub no_time : ℕ → Stamp
 no_time n = record { seconds = 0; micros = 0 }
 
@@ -95,10 +112,13 @@ pub record IsRight (acts : List LineAct) : Type 0 where
 pub record MeetsAll (acts : List LineAct) : Type 0 where
   pub plain : IsPlainLine (replaying 31) 31 (after [] acts)
   pub done : IsDone (replaying 31) 31 (after [] acts)
-  pub at_driver : ReadsWhileOpen Initiator (wire (driver_past (after [] acts)))
-  pub at_modem : ReadsWhileOpen Responder (modem_past (after [] acts))
+  pub calm : IsCalmLine (replaying 31) 31 (after [] acts)
+  pub in_time : CommandsInTime (after [] acts)
 
 pub record AreRight : Type 0 where
   pub talks : IsRight one_command
   pub talks_by_all : MeetsAll one_command
   pub stops : IsRight stopped_early
+  pub stops_by_all : MeetsAll stopped_early
+  pub opens : IsRight both_open
+  pub opens_plainly : IsPlainLine (replaying 31) 31 (after [] both_open)

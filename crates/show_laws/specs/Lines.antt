@@ -1,26 +1,26 @@
 -- A line between a driver and a modem that keeps the responder's tables, and what a capture has of it (27.010, 5.4).
-use Rattle.std.specs.Prelude.{◌≡◌, ℕ, true, false, List, [], ◌∷◌, length, reverse, if◌then◌else◌}
+use Rattle.std.specs.Prelude.{◌≡◌, ℕ, ◌||◌, Bool, true, false, List, [], ◌∷◌, length, reverse, if◌then◌else◌}
 use Rattle.std.specs.List.{list_any}
 use Rattle.mux_frame.specs.Frames.{Frame}
 use Rattle.mux_capture.specs.declared.packet.Direction.{Direction}
 use Rattle.mux_capture.specs.declared.packet.Direction.TheVariants.{ToModem, FromModem}
 use Rattle.mux_capture.specs.declared.packet.Stamp.{Stamp}
-use Rattle.mux_capture.specs.Passing.{Caught, is_same}
+use Rattle.mux_capture.specs.Passing.{Caught}
 use Rattle.mux_station.specs.declared.role.Role.{Role}
 use Rattle.mux_station.specs.declared.role.Role.TheVariants.{Initiator, Responder}
 use Rattle.mux_station.specs.Acts as station
 use Rattle.mux_station.specs.Sending.{StationSetting, StationLawful, StationComplete, is_loss}
-use Rattle.mux_station.specs.Messages.{message_in}
+use Rattle.mux_station.specs.Messages.{brings_command, brings_response, cld, message_in}
 use Rattle.mux_station.specs.Opening.{is_open}
+use Rattle.mux_station.specs.States.{is_stopping, state_of}
 use Rattle.modem_history.specs.Acts as driver
 use Rattle.modem_history.specs.Acts.{wire}
 use Rattle.modem_history.specs.Calls.{Setting, is_lost}
 use Rattle.modem_history.specs.Lawful.{Lawful, Complete}
 use Rattle.modem_history.specs.TwoEnds.{ComesInOrder, frames_got, frames_sent}
-use Rattle.modem_show.specs.declared.faults.Faults.{Faults}
 use Rattle.modem_show.specs.declared.rule.Rule.{Rule}
 use Rattle.modem_show.specs.Asking.{message_asks}
-use Rattle.modem_show.specs.Judging.{faults_from, faults_of}
+use Rattle.modem_show.specs.Judging.{faults_from}
 use Rattle.modem_show.specs.Rules.{breaks}
 use Rattle.modem_show.specs.Ways.{caught}
 
@@ -82,23 +82,28 @@ captured stamps (AtModem _ ∷ line) = captured stamps line
 abbrev pub NoneBreaks : Rule → ℕ → List Caught → Type 0
 NoneBreaks rule n1 line = list_any (λ f. breaks f rule) (faults_from n1 [] (reverse line)) ≡ false
 
--- what is wrong with each frame that goes this way, of which the first comes first, behind those that passed before
-abbrev pub faults_in : Direction → ℕ → List Caught → List Caught → List Faults
-faults_in d n1 line [] = []
-faults_in d n1 line (c ∷ more) =
-    if is_same c.direction d then faults_of n1 line c ∷ faults_in d n1 (c ∷ line) more else faults_in d n1 (c ∷ line) more
-
--- none of these frames that goes this way breaks the rule
-abbrev pub NoneBreaksIn : Direction → Rule → ℕ → List Caught → Type 0
-NoneBreaksIn d rule n1 line = list_any (λ f. breaks f rule) (faults_in d n1 [] (reverse line)) ≡ false
-
 -- ## Its end
 
--- each control command that comes to an end comes while 0 is open there: neither end has closed down before it
-abbrev pub ReadsWhileOpen : Role → List station.Act → Type 0
-ReadsWhileOpen r [] = Unit {0}
-ReadsWhileOpen r (station.Got f ∷ past) = (message_asks (message_in f) ≡ true → is_open r 0 past ≡ true) × ReadsWhileOpen r past
-ReadsWhileOpen r (_ ∷ past) = ReadsWhileOpen r past
+-- a control command may come now: 0 is open, or this end has closed down, a CLD while the end waits for the response to its own
+abbrev pub is_in_time : Role → Frame → List station.Act → Bool
+is_in_time r f past =
+    is_open r 0 past
+    || (if brings_command cld f then is_stopping (state_of r 0 past) else list_any (brings_command cld) (frames_sent past))
+
+-- each control command that comes to an end comes so
+abbrev pub ReadsInTime : Role → List station.Act → Type 0
+ReadsInTime r [] = Unit {0}
+ReadsInTime r (station.Got f ∷ past) = (message_asks (message_in f) ≡ true → is_in_time r f past ≡ true) × ReadsInTime r past
+ReadsInTime r (_ ∷ past) = ReadsInTime r past
+
+-- a CLD, or the response to one
+abbrev pub closes : Frame → Bool
+closes f = brings_command cld f || brings_response cld f
+
+-- of the frames that an end sent, the newest first, none behind such a one is a control command
+abbrev pub StopsAsking : List Frame → Type 0
+StopsAsking [] = Unit {0}
+StopsAsking (f ∷ older) = (message_asks (message_in f) ≡ true → list_any closes older ≡ false) × StopsAsking older
 
 -- nothing is under way: the line wasn't lost, nothing is owed, and all that was sent has come
 pub record IsDone (s : Setting) (n1 : ℕ) (line : List LineAct) : Type 0 where

@@ -2,11 +2,13 @@
 use Rattle.std.specs.Prelude.{◌≡◌, ℕ, ◌≤◌, Bool, true, false, List, [], ◌∷◌, ◌++◌, length, filter, is_none}
 use Rattle.std.specs.List.{list_any}
 use Rattle.mux_frame.specs.declared.dlci.Dlci.{Dlci}
+use Rattle.mux_frame.specs.declared.frame.Kind.TheVariants.{Sabm}
 use Rattle.mux_capture.specs.declared.packet.Stamp.{Stamp}
 use Rattle.mux_capture.specs.Passing.{Caught}
 use Rattle.mux_station.specs.declared.role.Role.TheVariants.{Responder}
 use Rattle.mux_station.specs.Acts as station
-use Rattle.mux_station.specs.Offering.{offered}
+use Rattle.mux_station.specs.Offering.{data_out}
+use Rattle.mux_station.specs.Written.{is_kind}
 use Rattle.at_text.specs.Commands.{refusal_of}
 use Rattle.at_text.specs.Dialects.{Dialect, is_solicited}
 use Rattle.at_text.specs.Lines.{lines}
@@ -16,7 +18,6 @@ use Rattle.modem_history.specs.Connections.{info_got, info_sent, information_got
 use Rattle.modem_history.specs.TwoEnds.{AsksOnce, TakesCommandLines, frames_got, frames_sent}
 use Rattle.modem_show.specs.declared.told.Told.{Told}
 use Rattle.modem_show.specs.Talking.{is_unfinished, is_unprompted, overlaps, told_in}
-use Rattle.show_laws.specs.Laws.{OpensNothing}
 use Rattle.show_laws.specs.Lines.{IsLawfulLine, LineAct, captured, driver_past, modem_past}
 
 -- ## Who answers what
@@ -28,10 +29,10 @@ finals_in dialect ls = length (filter dialect.is_final (filter (is_solicited dia
 abbrev pub commands_in : List (List ℕ) → ℕ
 commands_in ls = length (filter (λ l. is_none (refusal_of l)) ls)
 
--- on each connection no more final codes were offered since it opened than command lines came on it
+-- on each connection no more final codes were sent since it opened than command lines came on it
 abbrev pub AnswersNoMore : Dialect → List station.Act → Type 0
 AnswersNoMore dialect past =
-    (d : ℕ) → finals_in dialect (lines (offered Responder d past)) ≤ commands_in (lines (information_got Responder d past))
+    (d : ℕ) → finals_in dialect (lines (data_out Responder d past)) ≤ commands_in (lines (information_got Responder d past))
 
 -- so it is at each point of the past
 abbrev pub AnswersCommands : Dialect → List station.Act → Type 0
@@ -41,6 +42,10 @@ AnswersCommands dialect (a ∷ past) = AnswersNoMore dialect (a ∷ past) × Ans
 -- no command line is a final code
 abbrev pub TellsApart : Dialect → Type 0
 TellsApart dialect = (l : List ℕ) → is_none (refusal_of l) ≡ true → dialect.is_final l ≡ false
+
+-- no SABM was sent
+abbrev pub OpensNothing : List station.Act → Type 0
+OpensNothing past = list_any (λ f. is_kind f.kind Sabm) (frames_sent past) ≡ false
 
 -- A lawful line on which the driver asks for each connection once at most, and the modem opens none. The driver is given command lines, and
 -- no command line is a final code of its dialect. The modem answers commands alone.

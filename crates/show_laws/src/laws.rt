@@ -1,13 +1,14 @@
 //! Laws of what is judged of a lawful line, as contracts of functions that do nothing.
 ghost use Rattle.std.specs.Prelude.{ℕ, List};
 ghost use Rattle.modem_history.specs.Calls.{Setting};
+ghost use Rattle.show_laws.specs.InTime.{AsksInTime};
 ghost use Rattle.show_laws.specs.Lines.{LineAct};
 ghost use Rattle.show_laws.specs.LineRows.{AreRight};
 ghost use Rattle.show_laws.specs.Talks.{FinishesTalk, TalksInTurn};
 ghost use Rattle.modem_sim.specs.Acts.{End};
 ghost use Rattle.modem_ends.specs.OneModem.{EndAct};
-ghost use Rattle.show_laws.specs.Simulated.{Simulates, SoundToModem};
-ghost use Rattle.show_laws.specs.Laws.{AllSound, AnswersAll, AnswersAsks, BothSendWhileOpen, CarriesText, FitsN1, HeedsStops, NeverStopped, SendsWhileOpen};
+ghost use Rattle.show_laws.specs.Simulated.{FinishesWithModem, Simulates, SoundToModem, TalksToModem};
+ghost use Rattle.show_laws.specs.Laws.{AllSound, AnswersAll, AnswersAsks, CarriesText, FitsN1, HeedsStops, NeverStopped, SendWhileOpen};
 
 /// No frame between a driver that keeps its laws and a modem that keeps the responder's tables is judged an answer that nothing waits
 /// for.
@@ -30,16 +31,10 @@ pub fn texts()
     ensures { (s : Setting) (n1 : ℕ) (line : List LineAct) → CarriesText s n1 line }
 {}
 
-/// No data of the driver is judged to be on a connection that isn't open, where the driver asks for each connection once at most.
-#[tactic(auto, using(crate::proofs::openings::NoneUnopened::sends_while_open))]
+/// No data is judged to be on a connection that isn't open, where the driver asks for each connection once at most.
+#[tactic(auto, using(crate::proofs::openings::BothOpen::send_while_open))]
 pub fn openings()
-    ensures { (s : Setting) (n1 : ℕ) (line : List LineAct) → SendsWhileOpen s n1 line }
-{}
-
-/// No data of either end is judged so where, beyond this, the modem does at once what each act calls for, and sends no SABM of its own.
-#[tactic(auto, using(crate::proofs::openings::BothOpen::both_send_while_open))]
-pub fn openings_of_both()
-    ensures { (s : Setting) (n1 : ℕ) (line : List LineAct) → BothSendWhileOpen s n1 line }
+    ensures { (s : Setting) (n1 : ℕ) (line : List LineAct) → SendWhileOpen s n1 line }
 {}
 
 /// No data is judged to be on a stopped connection, where neither end stops any.
@@ -61,14 +56,21 @@ pub fn frames()
 {}
 
 /// Where nothing is under way on a lawful line no ask is judged unanswered, where each control command came while 0 was open at the end to
-/// which it came.
+/// which it came, or once that end had closed down, and the modem sent none behind a CLD or the response to one. The driver asks for each
+/// connection once at most.
 #[tactic(auto, using(crate::proofs::answered::NoneWaits::answers_all))]
 pub fn answered()
     ensures { (s : Setting) (n1 : ℕ) (line : List LineAct) → AnswersAll s n1 line }
 {}
 
-/// Of what is told of a line no command overlaps another one, and no final code answers nothing, where the modem offers final codes to commands
-/// alone.
+/// So it is where each connection is asked for once, the modem opens none, and does at once what each act calls for, 0 is closed by CLD alone,
+/// no stop is given up, and the line isn't lost.
+#[tactic(auto, using(crate::proofs::intime::InTime::asks_in_time))]
+pub fn in_time()
+    ensures { (s : Setting) (n1 : ℕ) (line : List LineAct) → AsksInTime s n1 line }
+{}
+
+/// Of what is told of a line no command overlaps another one, and no final code answers nothing, where the modem answers commands alone.
 #[tactic(auto, using(crate::proofs::talks::InTurn::talks_in_turn))]
 pub fn talks()
     ensures { (s : Setting) (n1 : ℕ) (line : List LineAct) → TalksInTurn s n1 line }
@@ -80,21 +82,33 @@ pub fn talks_end()
     ensures { (s : Setting) (n1 : ℕ) (line : List LineAct) → FinishesTalk s n1 line }
 {}
 
-/// A line of a driver and a simulated modem is such a lawful line, on which each connection is asked for once, and the modem opens none.
+/// A line of a driver and a simulated modem is such a line: each connection is asked for once, the modem opens none, and answers commands
+/// alone.
 #[tactic(auto, using(crate::proofs::simulated::SimulatedLines::simulates))]
 pub fn simulated()
     ensures { (s : Setting) (e : End) (line : List EndAct) → Simulates s e line }
 {}
 
-/// Nothing is judged wrong with any frame of it, where the modem does at once what each act calls for, what is offered is text, and probes
-/// are short.
+/// Nothing is judged wrong with any frame of it, where what is offered is text, and probes are short.
 #[tactic(auto, using(crate::proofs::simulated::SimulatedLines::sound_to_modem))]
 pub fn simulated_frames()
     ensures { (s : Setting) (e : End) (line : List EndAct) → SoundToModem s e line }
 {}
 
-/// Worked lines that are lawful, on which no frame is judged wrong and nothing is left unanswered: a command and a stop, which meets all that
-/// these laws ask, and a stop while a connection is being opened.
+/// Of what is told of it no command overlaps another one, and no final code answers nothing.
+#[tactic(auto, using(crate::proofs::simulated::SimulatedLines::talks_to_modem))]
+pub fn simulated_talks()
+    ensures { (s : Setting) (e : End) (line : List EndAct) → TalksToModem s e line }
+{}
+
+/// There no command on an open connection is left without an answer, where all that was sent has come, and all that is said has gone out.
+#[tactic(auto, using(crate::proofs::simulated::SimulatedLines::finishes_with_modem))]
+pub fn simulated_talks_end()
+    ensures { (s : Setting) (e : End) (line : List EndAct) → FinishesWithModem s e line }
+{}
+
+/// Worked lines that are lawful, on which no frame is judged wrong and nothing is left unanswered: a command and a stop, and a stop while a
+/// connection is being opened, which meet all that these laws ask, and two openings that cross.
 #[tactic(auto, using(crate::proofs::rows::LineRowFacts::are_right))]
 pub fn worked_lines()
     ensures { AreRight }

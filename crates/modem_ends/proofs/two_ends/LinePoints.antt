@@ -74,7 +74,7 @@ none_first [] ys h e = refl
 none_first (x ∷ xs) ys h e = let g : x ∷ (xs ++ h.rest) ≡ [] = h.joins ∙ e in cc
 
 -- its lines on d are those of its information since d opened
-lines_heard : (d : ℕ) (past : List station.Act) → AsksOne d (frames_got past) → ComesBehind d (frames_got past) → lines_on d (lines_got Responder past) ≡ lines (information_got Responder d past)
+pub lines_heard : (d : ℕ) (past : List station.Act) → AsksOne d (frames_got past) → ComesBehind d (frames_got past) → lines_on d (lines_got Responder past) ≡ lines (information_got Responder d past)
 lines_heard d [] one behind = refl
 lines_heard d (station.Got f ∷ past) one behind =
     on_both d (lines_got Responder past) (lines_with Responder past f)
@@ -307,12 +307,12 @@ marks_at s d line = marks s.role d (driver_past line)
 abbrev pub replies_at : End → ℕ → List EndAct → List (List (List ℕ))
 replies_at e d line = replied_on e.echo d e.modem (heard (modem_past line))
 
-once_there : (s : Setting) (e : End) (line : List EndAct) → Along s e line → (d : ℕ) → AsksOne d (frames_got (modem_wire line))
+pub once_there : (s : Setting) (e : End) (line : List EndAct) → Along s e line → (d : ℕ) → AsksOne d (frames_got (modem_wire line))
 once_there s e line p d =
     let ways = both_ways line p.one_line in
     asks_older d ways.at_modem.later (frames_got (modem_wire line)) (subst (AsksOne d) ways.at_modem.sent_are (p.once d))
 
-behind_there : (s : Setting) (e : End) (line : List EndAct) → Along s e line → (d : ℕ) → ComesBehind d (frames_got (modem_wire line))
+pub behind_there : (s : Setting) (e : End) (line : List EndAct) → Along s e line → (d : ℕ) → ComesBehind d (frames_got (modem_wire line))
 behind_there s e line p d =
     let ways = both_ways line p.one_line in
     behind_older d ways.at_modem.later (frames_got (modem_wire line))

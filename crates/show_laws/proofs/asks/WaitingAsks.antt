@@ -6,6 +6,7 @@ use Rattle.std.proofs.lemmas.Bool.{and_parts}
 use Rattle.mux_frame.specs.Frames.{Frame}
 use Rattle.mux_capture.specs.declared.packet.Stamp.{Stamp}
 use Rattle.mux_capture.specs.Passing.{Caught}
+use Rattle.mux_station.specs.Acts.{Act, Got, Sent}
 use Rattle.mux_station.specs.declared.role.Role.{Role}
 use Rattle.modem_show.specs.Ways.{is_from}
 use Rattle.modem_show.specs.Asking.{Ask, answered_by, asked_with, answers, excused_by, is_ask, unanswered_by, waiting}
@@ -26,9 +27,9 @@ abbrev pub frames_to : Role → List Caught → List Frame
 frames_to r [] = []
 frames_to r (c ∷ line) = if is_from r c then frames_to r line else c.frame ∷ frames_to r line
 
-pub excused_many : (t : Frame → Bool) (f : Frame) (asks : List Ask) → many_asks t (map (excused_by f) asks) ≡ many_asks t asks
-excused_many t f [] = refl
-excused_many t f (a ∷ asks) = ap (λ (n : ℕ). unit (t a.frame) + n) (excused_many t f asks)
+pub excused_many : (t : Frame → Bool) (act : Act) (asks : List Ask) → many_asks t (map (excused_by act) asks) ≡ many_asks t asks
+excused_many t act [] = refl
+excused_many t act (a ∷ asks) = ap (λ (n : ℕ). unit (t a.frame) + n) (excused_many t act asks)
 
 asked_many : (t : Frame → Bool) (stamp : Stamp) (f : Frame) (asks : List Ask) → (t f ≡ true → is_ask f ≡ true) → unit (t f) + many_asks t asks ≤ many_asks t (asked_with stamp f ++ asks)
 asked_many t stamp f asks h = by_test (is_ask f) (t f) refl refl
@@ -80,16 +81,16 @@ some_wait g r (c ∷ line) sg all = by_way (is_from r c) refl all (some_wait g r
     by_way : (b : Bool) → is_from r c ≡ b → list_all is_shaped (if b then frames_to r line else c.frame ∷ frames_to r line) ≡ true
         → (list_all is_shaped (frames_to r line) ≡ true → many (λ f. answers f g) (frames_of r line) ≤ many_asks (λ f. answers f g) (waiting r line) + many (is_alike g) (frames_to r line))
         → many (λ f. answers f g) (if b then c.frame ∷ frames_of r line else frames_of r line)
-        ≤ many_asks (λ f. answers f g) (map (excused_by c.frame) (if b then asked_with c.stamp c.frame ++ waiting r line else unanswered_by c.frame (waiting r line)))
+        ≤ many_asks (λ f. answers f g) (if b then map (excused_by (Sent c.frame)) (asked_with c.stamp c.frame ++ waiting r line) else map (excused_by (Got c.frame)) (unanswered_by c.frame (waiting r line)))
         + many (is_alike g) (if b then frames_to r line else c.frame ∷ frames_to r line)
     by_way true e all before =
-        let x = excused_many (λ f. answers f g) c.frame (asked_with c.stamp c.frame ++ waiting r line) in
+        let x = excused_many (λ f. answers f g) (Sent c.frame) (asked_with c.stamp c.frame ++ waiting r line) in
         let y = asked_many (λ f. answers f g) c.stamp c.frame (waiting r line) (answered_asks c.frame g) in
         let k = before all in
         omega (arith, x, y, k)
     by_way false e all before =
         let p = and_parts (is_shaped c.frame) (list_all is_shaped (frames_to r line)) all in
-        let x = excused_many (λ f. answers f g) c.frame (unanswered_by c.frame (waiting r line)) in
+        let x = excused_many (λ f. answers f g) (Got c.frame) (unanswered_by c.frame (waiting r line)) in
         let y = removed_many (λ f. answers f g) (λ f. answers f c.frame) (unit (is_alike g c.frame)) (waiting r line) (λ f ah. answered_most g c.frame f sg p.0 ah) in
         let k = before p.1 in
         omega (arith, x, y, k)

@@ -1,6 +1,8 @@
 -- How many frames pass a test.
-use Rattle.std.specs.Prelude.{◌≡◌, ℕ, ◌+◌, ◌≤◌, Bool, true, false, List, [], ◌∷◌, ◌++◌, drop, if◌then◌else◌}
+use Rattle.std.specs.Prelude.{◌≡◌, ℕ, ◌+◌, ◌≤◌, Bool, true, false, List, [], ◌∷◌, ◌++◌, refl, if◌then◌else◌}
+use Rattle.std.specs.List.{list_any}
 use Rattle.std.proofs.Common.{ap, arith}
+use Rattle.std.proofs.lemmas.Bool.{or_from, or_parts}
 use Rattle.mux_frame.specs.Frames.{Frame}
 
 abbrev pub unit : Bool → ℕ
@@ -25,6 +27,27 @@ few_if t n false fs gs h k = k
 pub few_both : (t : Frame → Bool) (m n : ℕ) (fs gs : List Frame) → many t fs ≤ m → many t gs ≤ n → many t (fs ++ gs) ≤ m + n
 few_both t m n fs gs h k = let e = many_both t fs gs in omega (arith, e, h, k)
 
-pub few_dropped : (t : Frame → Bool) (fs : List Frame) → many t (drop 1 fs) ≤ many t fs
-few_dropped t [] = omega arith
-few_dropped t (f ∷ fs) = omega arith
+-- none passes
+pub none_many : (t : Frame → Bool) (fs : List Frame) → list_any t fs ≡ false → many t fs ≤ 0
+none_many t [] h = omega arith
+none_many t (f ∷ fs) h =
+    let p = or_parts (t f) (list_any t fs) h in
+    let u : unit (t f) ≡ 0 = ap unit p.0 in
+    let k = none_many t fs p.1 in
+    omega (arith, u, k)
+
+pub many_none : (t : Frame → Bool) (fs : List Frame) → many t fs ≤ 0 → list_any t fs ≡ false
+many_none t [] h = refl
+many_none t (f ∷ fs) h = or_from (t f) (list_any t fs) (off (t f) refl) (many_none t fs (omega (arith, h)))
+  where
+    off : (b : Bool) → t f ≡ b → b ≡ false
+    off false e = refl
+    off true e = let u : unit (t f) ≡ 1 = ap unit e in absurd (omega (arith, u, h))
+
+pub many_fewer : (t u : Frame → Bool) (fs : List Frame) → ((f : Frame) → t f ≡ true → u f ≡ true) → many t fs ≤ many u fs
+many_fewer t u [] h = omega arith
+many_fewer t u (f ∷ fs) h = let k = many_fewer t u fs h in by_test (t f) refl k
+  where
+    by_test : (b : Bool) → t f ≡ b → many t fs ≤ many u fs → unit b + many t fs ≤ unit (u f) + many u fs
+    by_test false e k = omega (arith, k)
+    by_test true e k = let x : unit (u f) ≡ 1 = ap unit (h f e) in omega (arith, x, k)

@@ -1,5 +1,5 @@
 -- What holds of each frame of a line, by what holds at each of its points.
-use Rattle.std.specs.Prelude.{◌≡◌, ℕ, true, false, List, [], ◌∷◌, length, refl}
+use Rattle.std.specs.Prelude.{◌≡◌, ℕ, false, List, [], ◌∷◌, length, refl}
 use Rattle.mux_frame.specs.Frames.{Frame}
 use Rattle.mux_capture.specs.Passing.{Caught}
 use Rattle.mux_capture.specs.declared.packet.Direction.TheVariants.{ToModem, FromModem}
@@ -13,8 +13,8 @@ use Rattle.modem_show.specs.declared.rule.Rule.{Rule}
 use Rattle.modem_show.specs.Judging.{faults_of}
 use Rattle.modem_show.specs.Rules.{breaks}
 use Rattle.modem_show.specs.Ways.{caught}
-use Rattle.show_laws.specs.Lines.{AtDriver, AtModem, IsLawfulLine, LineAct, NoneBreaks, NoneBreaksIn, captured, stamped, driver_past, modem_past, responding}
-use Rattle.show_laws.proofs.lines.JudgedFrames.{one_more, one_more_in}
+use Rattle.show_laws.specs.Lines.{AtDriver, AtModem, IsLawfulLine, LineAct, NoneBreaks, captured, stamped, driver_past, modem_past, responding}
+use Rattle.show_laws.proofs.lines.JudgedFrames.{one_more}
 
 -- ## Each point of the line
 
@@ -80,12 +80,3 @@ every P before rule most stamps d m line h =
     over P before (NoneBreaks rule most) stamps refl
     (λ f line k q. one_more rule most (caught (stamps (length (captured stamps line))) ToModem f) (captured stamps line) q (d f line k))
     (λ f line k q. one_more rule most (caught (stamps (length (captured stamps line))) FromModem f) (captured stamps line) q (m f line k)) line h
-
--- no frame of the driver does
-pub every_in : (P : List LineAct → Type 0) → ((x : LineAct) (line : List LineAct) → P (x ∷ line) → P line) → (rule : Rule) (most : ℕ) (stamps : ℕ → Stamp)
-    → ((f : Frame) (line : List LineAct) → P (AtDriver (driver.Sent f) ∷ line) → breaks (faults_of most (captured stamps line) (caught (stamps (length (captured stamps line))) ToModem f)) rule ≡ false)
-    → (line : List LineAct) → P line → NoneBreaksIn ToModem rule most (captured stamps line)
-every_in P before rule most stamps d line h =
-    over P before (NoneBreaksIn ToModem rule most) stamps refl
-    (λ f line k q. one_more_in ToModem rule most (caught (stamps (length (captured stamps line))) ToModem f) (captured stamps line) q (λ e. d f line k))
-    (λ f line k q. one_more_in ToModem rule most (caught (stamps (length (captured stamps line))) FromModem f) (captured stamps line) q (λ e. let x : false ≡ true = e in cc)) line h

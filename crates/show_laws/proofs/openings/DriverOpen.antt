@@ -69,13 +69,13 @@ waiting_few t r [] = omega arith
 waiting_few t r (c ∷ line) = by_way (is_from r c) (waiting_few t r line)
   where
     by_way : (b : Bool) → many_asks t (waiting r line) ≤ many t (frames_of r line)
-        → many_asks t (map (excused_by c.frame) (if b then asked_with c.stamp c.frame ++ waiting r line else unanswered_by c.frame (waiting r line))) ≤ many t (if b then c.frame ∷ frames_of r line else frames_of r line)
+        → many_asks t (if b then map (excused_by (station.Sent c.frame)) (asked_with c.stamp c.frame ++ waiting r line) else map (excused_by (station.Got c.frame)) (unanswered_by c.frame (waiting r line))) ≤ many t (if b then c.frame ∷ frames_of r line else frames_of r line)
     by_way true k =
-        let e = excused_many t c.frame (asked_with c.stamp c.frame ++ waiting r line) in
+        let e = excused_many t (station.Sent c.frame) (asked_with c.stamp c.frame ++ waiting r line) in
         let x = asked_most t c.stamp c.frame (waiting r line) in
         omega (arith, e, x, k)
     by_way false k =
-        let e = excused_many t c.frame (unanswered_by c.frame (waiting r line)) in
+        let e = excused_many t (station.Got c.frame) (unanswered_by c.frame (waiting r line)) in
         let x = removed_fewer t (λ f. answers f c.frame) (waiting r line) in
         omega (arith, e, x, k)
 

@@ -7,6 +7,7 @@ use Rattle.mux_frame.specs.Frames.{Frame}
 use Rattle.mux_frame.specs.declared.frame.Kind.{Kind}
 use Rattle.mux_frame.specs.declared.frame.Kind.TheVariants.{Sabm, Ua, Dm, Disc, Uih}
 use Rattle.mux_capture.specs.declared.packet.Stamp.{Stamp}
+use Rattle.mux_station.specs.Acts.{Act, Got, Sent}
 use Rattle.mux_station.specs.Messages.{Message, cld, brings_command, brings_response, message_in, message_of}
 use Rattle.mux_station.specs.Opening.{is_mode_frame_on}
 use Rattle.mux_station.specs.Written.{is_kind, is_on}
@@ -18,11 +19,6 @@ pub record Fresh (d : ℕ) (asks : List Ask) : Type 0 where
   pub found : (g : Frame) → is_mode_answer g ≡ true → g.dlci ≡ d → answered_by g asks ≡ Some ask
   pub sabm : is_on Sabm d ask.frame ≡ true
   pub new : ask.is_excused ≡ false
-
--- a frame by which neither d is asked to open or close, nor is it answered
-pub record Aside (d : ℕ) (f : Frame) : Type 0 where
-  pub asks : (is_mode_command f && (f.dlci == d)) ≡ false
-  pub answers : (is_mode_answer f && (f.dlci == d)) ≡ false
 
 -- ## Kinds
 
@@ -51,7 +47,7 @@ no_response None = refl
 no_response (Some m) = refl
 
 -- what a UA or DM on d answers
-mode_answers : (f g : Frame) (d : ℕ) → is_mode_answer g ≡ true → g.dlci ≡ d → answers f g ≡ (is_mode_command f && (f.dlci == d))
+pub mode_answers : (f g : Frame) (d : ℕ) → is_mode_answer g ≡ true → g.dlci ≡ d → answers f g ≡ (is_mode_command f && (f.dlci == d))
 mode_answers f g d h e =
     ap (λ (o : Option Message). ((is_mode_command f && is_mode_answer g) && (f.dlci == g.dlci)) || both_respond (message_in f) o) (answer_without g h)
     ∙ (ap (λ (b : Bool). ((is_mode_command f && is_mode_answer g) && (f.dlci == g.dlci)) || b) (no_response (message_in f))
@@ -65,9 +61,9 @@ mode_answers f g d h e =
 
 -- ## One frame more
 
--- a frame aside answers no SABM on d, and excuses none
-not_answered : (d : ℕ) (a f : Frame) → is_on Sabm d a ≡ true → Aside d f → answers a f ≡ false
-not_answered d a f sabm h =
+-- a frame that is no UA or DM on d answers no SABM on it
+not_answered : (d : ℕ) (a f : Frame) → is_on Sabm d a ≡ true → (is_mode_answer f && (f.dlci == d)) ≡ false → answers a f ≡ false
+not_answered d a f sabm other =
     let p = and_parts (is_kind a.kind Sabm) (a.dlci == d) sabm in
     let same = eqb-true a.dlci d p.1 in
     let k = sabm_no_uih a.kind (a.dlci == d) sabm in
@@ -82,7 +78,7 @@ not_answered d a f sabm h =
     swapped b e same is = eq-eqb f.dlci d (sym (eqb-true a.dlci f.dlci (e ∙ is)) ∙ same)
 
     turned : a.dlci ≡ d → is_mode_answer f ≡ true → (a.dlci == f.dlci) ≡ true → true ≡ false
-    turned same m is = sym (and_from (is_mode_answer f) (f.dlci == d) m (swapped (a.dlci == f.dlci) refl same is)) ∙ h.answers
+    turned same m is = sym (and_from (is_mode_answer f) (f.dlci == d) m (swapped (a.dlci == f.dlci) refl same is)) ∙ other
 
     apart : (x y z : Bool) → (y ≡ true → z ≡ true → true ≡ false) → ((x && y) && z) ≡ false
     apart false y z k = refl
@@ -90,47 +86,47 @@ not_answered d a f sabm h =
     apart true true false k = refl
     apart true true true k = let e : true ≡ false = k refl refl in cc
 
-pub off_first : (x y : Bool) → x ≡ false → (x && y) ≡ false
+off_first : (x y : Bool) → x ≡ false → (x && y) ≡ false
 off_first true y e = cc
 off_first false y e = refl
 
-not_excused : (d : ℕ) (a f : Frame) → is_on Sabm d a ≡ true → Aside d f → excuses f a ≡ false
-not_excused d a f sabm h =
-    let x = not_answered d a f sabm h in
-    let y : drops f a ≡ false = off_first (is_kind a.kind Uih) (is_mode_frame_on 0 f || ((brings_command cld f || brings_response cld f) && not (brings_command cld a))) (sabm_no_uih a.kind (a.dlci == d) sabm).0 in
-    ap (λ (b : Bool). b || drops f a) x ∙ y
+-- none drops a SABM
+not_dropped : (d : ℕ) (a f : Frame) → is_on Sabm d a ≡ true → drops f a ≡ false
+not_dropped d a f sabm =
+    off_first (is_kind a.kind Uih) (is_mode_frame_on 0 f || ((brings_command cld f || brings_response cld f) && not (brings_command cld a))) (sabm_no_uih a.kind (a.dlci == d) sabm).0
 
-found_mapped : (p : Frame → Bool) (f : Frame) (asks : List Ask) (a : Ask) → find (λ x. p x.frame) asks ≡ Some a → find (λ x. p x.frame) (map (excused_by f) asks) ≡ Some (excused_by f a)
-found_mapped p f [] a e = cc
-found_mapped p f (x ∷ asks) a e = by_test (p x.frame) e (found_mapped p f asks a)
+found_mapped : (p : Frame → Bool) (act : Act) (asks : List Ask) (a : Ask) → find (λ x. p x.frame) asks ≡ Some a → find (λ x. p x.frame) (map (excused_by act) asks) ≡ Some (excused_by act a)
+found_mapped p act [] a e = cc
+found_mapped p act (x ∷ asks) a e = by_test (p x.frame) e (found_mapped p act asks a)
   where
-    by_test : (b : Bool) → (if b then Some x else find (λ y. p y.frame) asks) ≡ Some a → (find (λ y. p y.frame) asks ≡ Some a → find (λ y. p y.frame) (map (excused_by f) asks) ≡ Some (excused_by f a))
-        → (if b then Some (excused_by f x) else find (λ y. p y.frame) (map (excused_by f) asks)) ≡ Some (excused_by f a)
+    by_test : (b : Bool) → (if b then Some x else find (λ y. p y.frame) asks) ≡ Some a
+        → (find (λ y. p y.frame) asks ≡ Some a → find (λ y. p y.frame) (map (excused_by act) asks) ≡ Some (excused_by act a))
+        → (if b then Some (excused_by act x) else find (λ y. p y.frame) (map (excused_by act) asks)) ≡ Some (excused_by act a)
     by_test true e k = ap (λ (o : Option Ask). excused_option o) e
       where
         excused_option : Option Ask → Option Ask
         excused_option None = None
-        excused_option (Some y) = Some (excused_by f y)
+        excused_option (Some y) = Some (excused_by act y)
     by_test false e k = k e
 
-passed : (d : ℕ) (f : Frame) (asks : List Ask) → Aside d f → Fresh d asks → Fresh d (map (excused_by f) asks)
-passed d f asks h r = record {
-  ask = excused_by f r.ask;
-  found = λ g m e. found_mapped (λ x. answers x g) f asks r.ask (r.found g m e);
+passed : (d : ℕ) (act : Act) (asks : List Ask) → ((a : Frame) → is_on Sabm d a ≡ true → excuses act a ≡ false) → Fresh d asks → Fresh d (map (excused_by act) asks)
+passed d act asks h r = record {
+  ask = excused_by act r.ask;
+  found = λ g m e. found_mapped (λ x. answers x g) act asks r.ask (r.found g m e);
   sabm = r.sabm;
-  new = ap (λ (b : Bool). b || excuses f r.ask.frame) r.new ∙ not_excused d r.ask.frame f r.sabm h;
+  new = ap (λ (b : Bool). b || excuses act r.ask.frame) r.new ∙ h r.ask.frame r.sabm;
 }
 
 -- another frame of the end that asks
-found_behind : (d : ℕ) (stamp : Stamp) (f : Frame) (asks : List Ask) → Aside d f → Fresh d asks → Fresh d (asked_with stamp f ++ asks)
-found_behind d stamp f asks h r = record { ask = r.ask; found = λ g m e. by_ask (is_ask f) g (mode_answers f g d m e ∙ h.asks) (r.found g m e); sabm = r.sabm; new = r.new }
+found_behind : (d : ℕ) (stamp : Stamp) (f : Frame) (asks : List Ask) → (is_mode_command f && (f.dlci == d)) ≡ false → Fresh d asks → Fresh d (asked_with stamp f ++ asks)
+found_behind d stamp f asks other r = record { ask = r.ask; found = λ g m e. by_ask (is_ask f) g (mode_answers f g d m e ∙ other) (r.found g m e); sabm = r.sabm; new = r.new }
   where
     by_ask : (b : Bool) (g : Frame) → answers f g ≡ false → answered_by g asks ≡ Some r.ask → answered_by g ((if b then record { stamp = stamp; frame = f; is_excused = false } ∷ [] else []) ++ asks) ≡ Some r.ask
     by_ask true g e k = ap (λ (b : Bool). if b then Some (record { stamp = stamp; frame = f; is_excused = false }) else answered_by g asks) e ∙ k
     by_ask false g e k = k
 
-pub other_asks : (d : ℕ) (stamp : Stamp) (f : Frame) (asks : List Ask) → Aside d f → Fresh d asks → Fresh d (map (excused_by f) (asked_with stamp f ++ asks))
-other_asks d stamp f asks h r = passed d f (asked_with stamp f ++ asks) h (found_behind d stamp f asks h r)
+pub other_asks : (d : ℕ) (stamp : Stamp) (f : Frame) (asks : List Ask) → (is_mode_command f && (f.dlci == d)) ≡ false → Fresh d asks → Fresh d (map (excused_by (Sent f)) (asked_with stamp f ++ asks))
+other_asks d stamp f asks other r = passed d (Sent f) (asked_with stamp f ++ asks) (λ a sabm. not_dropped d a f sabm) (found_behind d stamp f asks other r)
 
 -- a frame of the other end
 still_found : (p q : Frame → Bool) (asks : List Ask) (a : Ask) → find (λ x. p x.frame) asks ≡ Some a → q a.frame ≡ false → find (λ x. p x.frame) (remove asks (position_or_len (λ x. q x.frame) asks)) ≡ Some a
@@ -158,37 +154,24 @@ still_found p q (x ∷ asks) a e off = by_tests (p x.frame) (q x.frame) refl ref
         by_first true e = e
         by_first false e = k e off
 
-pub other_answers : (d : ℕ) (f : Frame) (asks : List Ask) → Aside d f → Fresh d asks → Fresh d (map (excused_by f) (unanswered_by f asks))
-other_answers d f asks h r =
-    passed d f (unanswered_by f asks) h
-    (record { ask = r.ask; found = λ g m e. still_found (λ x. answers x g) (λ x. answers x f) asks r.ask (r.found g m e) (not_answered d r.ask.frame f r.sabm h); sabm = r.sabm; new = r.new })
+pub other_answers : (d : ℕ) (f : Frame) (asks : List Ask) → (is_mode_answer f && (f.dlci == d)) ≡ false → Fresh d asks → Fresh d (map (excused_by (Got f)) (unanswered_by f asks))
+other_answers d f asks other r =
+    passed d (Got f) (unanswered_by f asks) (λ a sabm. ap (λ (b : Bool). b || drops f a) (not_answered d a f sabm other) ∙ not_dropped d a f sabm)
+    (record { ask = r.ask; found = λ g m e. still_found (λ x. answers x g) (λ x. answers x f) asks r.ask (r.found g m e) (not_answered d r.ask.frame f r.sabm other); sabm = r.sabm; new = r.new })
 
 -- a SABM on d
-unmoved : (x y z : Bool) → y ≡ false → ((x && y) && z) ≡ false
-unmoved true true z h = cc
-unmoved true false z h = refl
-unmoved false y z h = refl
-
-pub sabm_asks : (d : ℕ) (stamp : Stamp) (f : Frame) (asks : List Ask) → is_on Sabm d f ≡ true → Fresh d (map (excused_by f) (asked_with stamp f ++ asks))
+pub sabm_asks : (d : ℕ) (stamp : Stamp) (f : Frame) (asks : List Ask) → is_on Sabm d f ≡ true → Fresh d (map (excused_by (Sent f)) (asked_with stamp f ++ asks))
 sabm_asks d stamp f asks is =
     let p = and_parts (is_kind f.kind Sabm) (f.dlci == d) is in
     let asking : is_mode_command f ≡ true = ap (λ (b : Bool). b || is_kind f.kind Disc) p.0 in
-    by_ask (is_ask f) (ap (λ (b : Bool). b || message_asks (message_in f)) asking) (and_from (is_mode_command f) (f.dlci == d) asking p.1) not_by_itself
+    by_ask (is_ask f) (ap (λ (b : Bool). b || message_asks (message_in f)) asking) (and_from (is_mode_command f) (f.dlci == d) asking p.1)
   where
-    not_by_itself : excuses f f ≡ false
-    not_by_itself =
-        let k = sabm_no_uih f.kind (f.dlci == d) is in
-        let x = unmoved (is_mode_command f) (is_mode_answer f) (f.dlci == f.dlci) k.1 in
-        let y = ap (λ (o : Option Message). both_respond o (message_in f)) (no_message f k.0) in
-        let z : drops f f ≡ false = off_first (is_kind f.kind Uih) (is_mode_frame_on 0 f || ((brings_command cld f || brings_response cld f) && not (brings_command cld f))) k.0 in
-        ap (λ (b : Bool). (b || both_respond (message_in f) (message_in f)) || drops f f) x ∙ (ap (λ (b : Bool). b || drops f f) y ∙ z)
-
-    by_ask : (b : Bool) → b ≡ true → (is_mode_command f && (f.dlci == d)) ≡ true → excuses f f ≡ false → Fresh d (map (excused_by f) ((if b then record { stamp = stamp; frame = f; is_excused = false } ∷ [] else []) ++ asks))
-    by_ask false e asking n = cc
-    by_ask true e asking n = record {
-      ask = excused_by f (record { stamp = stamp; frame = f; is_excused = false });
+    by_ask : (b : Bool) → b ≡ true → (is_mode_command f && (f.dlci == d)) ≡ true → Fresh d (map (excused_by (Sent f)) ((if b then record { stamp = stamp; frame = f; is_excused = false } ∷ [] else []) ++ asks))
+    by_ask false e asking = cc
+    by_ask true e asking = record {
+      ask = excused_by (Sent f) (record { stamp = stamp; frame = f; is_excused = false });
       found = λ g m k.
-          ap (λ (b : Bool). if b then Some (excused_by f (record { stamp = stamp; frame = f; is_excused = false })) else answered_by g (map (excused_by f) asks)) (mode_answers f g d m k ∙ asking);
+          ap (λ (b : Bool). if b then Some (excused_by (Sent f) (record { stamp = stamp; frame = f; is_excused = false })) else answered_by g (map (excused_by (Sent f)) asks)) (mode_answers f g d m k ∙ asking);
       sabm = is;
-      new = n;
+      new = not_dropped d f f is;
     }

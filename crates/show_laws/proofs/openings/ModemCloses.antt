@@ -16,6 +16,7 @@ use Rattle.mux_station.specs.Sending.{Sends, StationLawful, StationView, called_
 use Rattle.mux_station.specs.States.{State, IsShut, IsOpening, IsOpened, IsClosing, IsStopping, at_answered, at_close_down, at_sent, is_opened, is_shut, own_after, state_of}
 use Rattle.mux_station.specs.Tables.{by_frame, by_message, by_table, by_tick, held_up, is_opening, is_supported, message_frame, msc_after_opening, msc_frame, ready, response_to, ua_or_dm}
 use Rattle.mux_station.specs.Written.{is_data_frame, is_kind, is_on, written}
+use Rattle.mux_station.proofs.states.OpenedStates.{opened_is_open}
 use Rattle.mux_station.proofs.states.StatesAfterActs.{state_next}
 use Rattle.modem_history.specs.TwoEnds.{frames_got, frames_sent}
 use Rattle.show_laws.specs.Lines.{responding}
@@ -26,7 +27,7 @@ use Rattle.show_laws.proofs.counts.BalancedTables.{tick_none}
 use Rattle.show_laws.proofs.counts.StationCounts.{called}
 use Rattle.show_laws.proofs.openings.DiscBehindUa.{disc_never, discs, tick_disc}
 use Rattle.show_laws.proofs.openings.OpenBelowZero.{many_or, none_when}
-use Rattle.show_laws.proofs.openings.UaBehindSabm.{none_of}
+use Rattle.show_laws.proofs.openings.UaBehindSabm.{none_of, shut}
 use Rattle.show_laws.proofs.stops.SinceOpening.{open_before}
 
 -- a frame that closes e where it is sent
@@ -72,7 +73,7 @@ mode_no_cld r e false = omega arith
 status_no_cld : (r : Role) (e : ℕ) → many (brings_command cld) (msc_after_opening r e) ≤ 0
 status_no_cld r e = few_if (brings_command cld) 0 (e == 0) [] (msc_frame r e ready ∷ []) (omega arith) (none_one (brings_command cld) (msc_frame r e ready) (not_cld_frame r msc ((4 * e + 3) ∷ ready ∷ []) refl))
 
-table_no_cld : (r : Role) (e : ℕ) (channel own : State) (k : Kind) → many (brings_command cld) (by_table r e channel own k) ≤ 0
+pub table_no_cld : (r : Role) (e : ℕ) (channel own : State) (k : Kind) → many (brings_command cld) (by_table r e channel own k) ≤ 0
 table_no_cld Initiator e channel own Ua = few_if (brings_command cld) 0 (is_opening own) (msc_after_opening Initiator e) [] (status_no_cld Initiator e) (omega arith)
 table_no_cld Initiator e channel own Sabm = mode_no_cld Initiator e false
 table_no_cld Initiator e channel own Disc = mode_no_cld Initiator e (is_opened own)
@@ -332,6 +333,88 @@ untouched n1 e (Given ∷ past) l none asks =
 untouched n1 e (Lost ∷ past) l none asks =
     let h = untouched n1 e past l none asks in
     record { shut = next_shut e past Lost tt h.shut; sent_none = h.sent_none; owed_none = omega arith }
+
+-- ## CLD behind the SABM on 0
+
+-- no CLD was sent, and none is owed
+record NoneDown (n1 : ℕ) (past : List Act) : Type 0 where
+  sent : many (brings_command cld) (frames_sent past) ≤ 0
+  owed_none : many (brings_command cld) (owed_frames (responding n1) past) ≤ 0
+
+call_no_cld : (n1 : ℕ) (v : StationView) (c : Call) (b : Bool) → is_none (refused (responding n1) v c) ≡ b → is_opened (v.state 0) ≡ false → many (brings_command cld) (if b then frames_asked Responder c else []) ≤ 0
+call_no_cld n1 v c false k shut = omega arith
+call_no_cld n1 v (Open d) true k shut = omega arith
+call_no_cld n1 v (Close d) true k shut = omega arith
+call_no_cld n1 v (Probe octets) true k shut = none_one (brings_command cld) (message_frame Responder test octets) (not_cld_frame Responder test octets refl)
+call_no_cld n1 v Stop true k shut =
+    let o = stop_open (is_opened (v.state 0)) (if_no_room (responding n1) v Stop) k in
+    let t : true ≡ false = sym o ∙ shut in cc
+call_no_cld n1 v (Flow d go) true k shut =
+    few_if (brings_command cld) 0 (d == 0) (message_frame Responder (if go then 0xa3 else 0x63) [] ∷ []) (msc_frame Responder d (if go then ready else held_up) ∷ [])
+    (none_one (brings_command cld) (message_frame Responder (if go then 0xa3 else 0x63) []) (flow_not_cld go))
+    (none_one (brings_command cld) (msc_frame Responder d (if go then ready else held_up)) (not_cld_frame Responder msc ((4 * d + 3) ∷ (if go then ready else held_up) ∷ []) refl))
+  where
+    flow_not_cld : (go : Bool) → brings_command cld (message_frame Responder (if go then 0xa3 else 0x63) []) ≡ false
+    flow_not_cld true = refl
+    flow_not_cld false = refl
+call_no_cld n1 v (Offer d octets) true k shut = omega arith
+
+none_down : (n1 : ℕ) (past : List Act) → StationLawful (responding n1) past → many (is_on Sabm 0) (frames_got past) ≤ 0 → NoneDown n1 past
+unfolding StationLawful Sends
+none_down n1 [] l none = record { sent = omega arith; owed_none = omega arith }
+none_down n1 (Called c ∷ past) l none =
+    let h = none_down n1 past l none in
+    let st = responding n1 in
+    let v = station_view st past in
+    let shut_now = opened_is_open Responder past 0 ∙ (shut n1 0 past l none).open_not in
+    let few = called (brings_command cld) 0 st past (Called c) (call_no_cld n1 v c (is_none (refused st v c)) refl shut_now) in
+    let both = many_both (brings_command cld) (owed_frames st past) (called_frames st past (Called c)) in
+    let o = h.owed_none in
+    record { sent = h.sent; owed_none = omega (arith, few, both, o) }
+none_down n1 (Got f ∷ past) l none =
+    let h = none_down n1 past l (omega (arith, none)) in
+    let st = responding n1 in
+    let few = called (brings_command cld) 0 st past (Got f) (frame_no_cld Responder (station_view st past).state f) in
+    let both = many_both (brings_command cld) (owed_frames st past) (called_frames st past (Got f)) in
+    let o = h.owed_none in
+    record { sent = h.sent; owed_none = omega (arith, few, both, o) }
+none_down n1 (Tick ∷ past) l none =
+    let h = none_down n1 past l none in
+    let st = responding n1 in
+    let v = station_view st past in
+    let few = called (brings_command cld) 0 st past Tick (tick_none Responder (brings_command cld) (λ x. refl) (λ x. refl) n1 v.state v.queued 0 62) in
+    let both = many_both (brings_command cld) (owed_frames st past) (called_frames st past Tick) in
+    let o = h.owed_none in
+    record { sent = h.sent; owed_none = omega (arith, few, both, o) }
+none_down n1 (Given ∷ past) l none =
+    let h = none_down n1 past l none in
+    let few = called (brings_command cld) 0 (responding n1) past Given (omega arith) in
+    let both = many_both (brings_command cld) (owed_frames (responding n1) past) (called_frames (responding n1) past Given) in
+    let o = h.owed_none in
+    record { sent = h.sent; owed_none = omega (arith, few, both, o) }
+none_down n1 (Lost ∷ past) l none = record { sent = (none_down n1 past l none).sent; owed_none = omega arith }
+none_down n1 (Sent f ∷ past) l none = by_data (is_data_frame f) refl l.0 (none_down n1 past l.1 none)
+  where
+    by_data : (b : Bool) → is_data_frame f ≡ b → Sends (responding n1) past f b → NoneDown n1 past → NoneDown n1 (Sent f ∷ past)
+    by_data true is g h =
+        let quiet : unit (brings_command cld f) ≡ 0 = ap unit (or_parts (is_on Disc 0 f) (brings_command cld f) (data_no_closer 0 f is)).1 in
+        let same : many (brings_command cld) (owed_frames (responding n1) (Sent f ∷ past)) ≡ many (brings_command cld) (owed_frames (responding n1) past) =
+        ap (λ (b : Bool). many (brings_command cld) (if b then owed_frames (responding n1) past else drop 1 (owed_frames (responding n1) past))) is in
+        let x = h.sent in
+        let y = h.owed_none in
+        record { sent = omega (arith, quiet, x); owed_none = omega (arith, same, y) }
+    by_data false is g h =
+        let first : many (brings_command cld) (owed_frames (responding n1) past) ≡ unit (brings_command cld f) + many (brings_command cld) g.later = ap (many (brings_command cld)) g.is_next in
+        let same : many (brings_command cld) (owed_frames (responding n1) (Sent f ∷ past)) ≡ many (brings_command cld) g.later =
+        ap (λ (b : Bool). many (brings_command cld) (if b then owed_frames (responding n1) past else drop 1 (owed_frames (responding n1) past))) is
+        ∙ ap (λ (fs : List Frame). many (brings_command cld) (drop 1 fs)) g.is_next in
+        let x = h.sent in
+        let y = h.owed_none in
+        record { sent = omega (arith, first, x, y); owed_none = omega (arith, same, first, y) }
+
+-- a responder sends no CLD before the SABM on 0 came
+pub cld_behind : (n1 : ℕ) (past : List Act) → StationLawful (responding n1) past → many (is_on Sabm 0) (frames_got past) ≤ 0 → many (brings_command cld) (frames_sent past) ≤ 0
+cld_behind n1 past l none = (none_down n1 past l none).sent
 
 -- ## While it is open
 

@@ -1,17 +1,17 @@
--- At each point of a steady line the modem's connection is open by what passed where it is so by its past.
-use Rattle.std.specs.Prelude.{◌≡◌, zero, suc, ℕ, ◌+◌, ◌==◌, ◌≤◌, ◌&&◌, ◌||◌, not, nat_le, is_none, Bool, true, false, List, [], ◌∷◌, ◌++◌, drop, length, Option, Some, None, refl, if◌then◌else◌}
+-- At each point of a line the modem's connection is open by what passed where it is so by its past, and its UA was sent.
+use Rattle.std.specs.Prelude.{◌≡◌, zero, suc, ℕ, ◌+◌, ◌==◌, ◌≤◌, ◌&&◌, ◌||◌, not, Bool, true, false, List, [], ◌∷◌, ◌++◌, drop, Option, Some, None, refl, if◌then◌else◌}
 use Rattle.std.specs.List.{find, list_all, list_any}
-use Rattle.std.proofs.Common.{ap, arith, sym, ◌∙◌, subst, eqb-true, append-nil}
-use Rattle.std.proofs.lemmas.Bool.{and_from, and_parts, eq-eqb, le-leb, or_parts}
+use Rattle.std.proofs.Common.{ap, arith, sym, ◌∙◌, eqb-true}
+use Rattle.std.proofs.lemmas.Bool.{and_from, and_parts, or_parts}
 use Rattle.mux_frame.specs.Frames.{Frame}
 use Rattle.mux_frame.specs.declared.frame.Kind.{Kind}
 use Rattle.mux_frame.specs.declared.frame.Kind.TheVariants.{Sabm, Ua, Dm, Disc, Uih}
 use Rattle.mux_capture.specs.declared.packet.Stamp.{Stamp}
 use Rattle.mux_station.specs.declared.role.Role.TheVariants.{Initiator, Responder}
 use Rattle.mux_station.specs.Acts as station
-use Rattle.mux_station.specs.Messages.{cld, brings_command, message_in, message_of, octet_is}
-use Rattle.mux_station.specs.Opening.{ends, ends_itself, is_mode_frame_on}
-use Rattle.mux_station.specs.Sending.{Sends, StationLawful, called_frames, frames_seeing, is_loss, owed_frames, refused, station_view}
+use Rattle.mux_station.specs.Messages.{cld, brings_command, message_in}
+use Rattle.mux_station.specs.Opening.{ends, is_mode_frame_on}
+use Rattle.mux_station.specs.Sending.{Sends, StationLawful, called_frames, is_loss, owed_frames}
 use Rattle.mux_station.specs.States.{is_opened, state_of}
 use Rattle.mux_station.specs.Tables.{by_frame}
 use Rattle.mux_station.specs.Written.{is_data_frame, is_kind, is_on}
@@ -24,22 +24,23 @@ use Rattle.modem_history.specs.TwoEnds.{frames_got, frames_sent}
 use Rattle.modem_show.specs.Asking.{Ask, answered_by, answers, is_again, is_ask, is_mode_answer, is_mode_command, message_asks, waiting}
 use Rattle.modem_show.specs.Ends.{come, handled, own}
 use Rattle.show_laws.specs.Lines.{AtDriver, AtModem, LineAct, captured, driver_past, modem_past, responding}
-use Rattle.show_laws.proofs.asks.AnswerShapes.{is_shaped}
+use Rattle.show_laws.proofs.asks.AnswerShapes.{is_shaped, or_elim}
 use Rattle.show_laws.proofs.asks.AnswersCalled.{AnyProbe}
 use Rattle.show_laws.proofs.asks.NoneUnasked.{modem_shaped}
 use Rattle.show_laws.proofs.asks.WaitingAsks.{frames_of, frames_to}
-use Rattle.show_laws.proofs.counts.ManyFrames.{many, unit}
-use Rattle.show_laws.proofs.counts.BalancedTables.{none_of_tick}
-use Rattle.show_laws.proofs.counts.StationCounts.{asked, called, station_sends}
+use Rattle.show_laws.proofs.counts.ManyFrames.{many, many_both, unit}
+use Rattle.show_laws.proofs.counts.StationCounts.{station_sends}
 use Rattle.show_laws.proofs.lines.CapturedFrames.{both_ways, came_few, shows}
-use Rattle.show_laws.proofs.openings.ModeAnswers.{modes_few}
-use Rattle.show_laws.proofs.openings.ModemFollows.{FollowsM, IsSabm, answer_on, ask_on, call_step, come_step, control_step, data_step, open_m, still_step, zero_m}
-use Rattle.show_laws.proofs.openings.ModemOpen.{IsSteadyLine, above, asks_parts, disc_after, has_fresh, never_stops, steady_line_before, steady_zero}
-use Rattle.show_laws.proofs.openings.QuietFrames.{EndsNone, Quiet, cld_asks, ender_ends, ends_none}
-use Rattle.show_laws.proofs.openings.DriverOpen.{quiet_one}
+use Rattle.show_laws.proofs.openings.ModemAnswers.{IsSabm, answer_on, ask_on, open_m, opened_there, read_alone, uas_fewer, zero_m}
+use Rattle.show_laws.proofs.openings.ModemCloses.{clds_closed, discs_closed}
+use Rattle.show_laws.proofs.openings.ModemOpen.{above, asks_parts, has_fresh}
+use Rattle.show_laws.proofs.openings.QuietFrames.{EndsNone, Quiet, cld_asks, ends_none}
+use Rattle.show_laws.proofs.openings.ClosersBehindSabm.{modem_unclosed}
+use Rattle.show_laws.proofs.openings.DriverOpen.{IsOnceLine, once_line_before, quiet_one}
+use Rattle.show_laws.proofs.openings.OpenBelowZero.{sabm_behind}
 use Rattle.show_laws.proofs.openings.DiscBehindUa.{once_many}
-use Rattle.show_laws.proofs.openings.ResponderCalls.{answer_balanced, answer_modes, down_balanced, down_called, every, is_down, not_cld, opening_answered, tail_none}
-use Rattle.show_laws.proofs.openings.UaBehindSabm.{shut, ua_behind}
+use Rattle.show_laws.proofs.openings.ResponderCalls.{answer_balanced, down_by_cld, is_down, not_cld, opening_answered}
+use Rattle.show_laws.proofs.openings.UaBehindSabm.{none_of, shut, ua_behind}
 
 -- ## Quiet frames at a responder
 
@@ -88,16 +89,29 @@ quiet_handled_m d g asks q (Some x) e s a z n =
     by_again true h = refl
     by_again false h = quiet_open_m d x.frame q h
 
+-- ## Few answers
+
+-- at most one UA or DM was sent on d, and on 0, and no response to a CLD
+pub record AnsweredOnce (d : ℕ) (sent : List Frame) : Type 0 where
+  pub own : many (answer_on d) sent ≤ 1
+  pub zero : many (answer_on 0) sent ≤ 1
+  pub down : many is_down sent ≤ 0
+
+fewer_answers : (d : ℕ) (f : Frame) (sent : List Frame) → AnsweredOnce d (f ∷ sent) → AnsweredOnce d sent
+fewer_answers d f sent h = let a = h.own in let b = h.zero in let c = h.down in record { own = omega (arith, a); zero = omega (arith, b); down = omega (arith, c) }
+
+at_zero : (d : ℕ) (sent : List Frame) → AnsweredOnce d sent → AnsweredOnce 0 sent
+at_zero d sent h = record { own = h.zero; zero = h.zero; down = h.down }
+
 -- ## One act of the modem
 
-abbrev FollowsOn : ℕ → (ℕ → Stamp) → List LineAct → ℕ → Type 0
-FollowsOn n1 stamps line d = FollowsM d (modem_past line) (own Responder (captured stamps line)) (owed_frames (responding n1) (modem_past line)) (many (answer_on d) (frames_sent (modem_past line)))
-
-with_owed : (d : ℕ) (p q : List station.Act) (xs ys : List Frame) (sent : ℕ) → xs ≡ ys → FollowsM d p q xs sent → FollowsM d p q ys sent
-with_owed d p q xs ys sent e h = subst (λ (fs : List Frame). FollowsM d p q fs sent) e h
+abbrev Opens : ℕ → (ℕ → Stamp) → List LineAct → Type 0
+Opens d stamps line =
+    open_m d (modem_past line) ≡ true → 1 ≤ many (is_on Ua d) (frames_sent (modem_past line)) → AnsweredOnce d (frames_sent (modem_past line))
+    → open_m d (own Responder (captured stamps line)) ≡ true
 
 -- where d is open a SABM on it came
-asked_there : (s : Setting) (n1 d : ℕ) (line : List LineAct) → IsSteadyLine s n1 d line → open_m d (modem_past line) ≡ true → 1 ≤ many (is_on Sabm d) (frames_got (modem_past line))
+asked_there : (s : Setting) (n1 d : ℕ) (line : List LineAct) → IsOnceLine s n1 line → open_m d (modem_past line) ≡ true → 1 ≤ many (is_on Sabm d) (frames_got (modem_past line))
 asked_there s n1 d line h o = by_count (many (is_on Sabm d) (frames_got (modem_past line))) refl
   where
     by_count : (n : ℕ) → many (is_on Sabm d) (frames_got (modem_past line)) ≡ n → 1 ≤ n
@@ -105,7 +119,7 @@ asked_there s n1 d line h o = by_count (many (is_on Sabm d) (frames_got (modem_p
     by_count zero e = absurd (let x : true ≡ false = sym o ∙ (shut n1 d (modem_past line) h.lawful.modem_lawful (omega (arith, e))).open_not in cc)
 
 -- what the modem answers with a UA or DM on d, as the first of its answers there while d is open
-sabm_answered : (s : Setting) (n1 d : ℕ) (stamps : ℕ → Stamp) (f : Frame) (line : List LineAct) → IsSteadyLine s n1 d line → answer_on d f ≡ true → open_m d (modem_past line) ≡ true
+sabm_answered : (s : Setting) (n1 d : ℕ) (stamps : ℕ → Stamp) (f : Frame) (line : List LineAct) → IsOnceLine s n1 line → answer_on d f ≡ true → open_m d (modem_past line) ≡ true
     → many (answer_on d) (frames_sent (modem_past line)) ≤ 0 → IsSabm d (answered_by f (waiting Initiator (captured stamps line)))
 sabm_answered s n1 d stamps f line h a o none =
     let got = asked_there s n1 d line h o in
@@ -117,169 +131,79 @@ sabm_answered s n1 d stamps f line h a o none =
     let p = and_parts (is_mode_answer f) (f.dlci == d) a in
     record { ask = r.ask; is = r.found f p.0 (eqb-true f.dlci d p.1); sabm = r.sabm; new = r.new }
 
-modem_sent : (s : Setting) (n1 d : ℕ) (stamps : ℕ → Stamp) (f : Frame) (line : List LineAct) → IsSteadyLine s n1 d (AtModem (station.Sent f) ∷ line) → FollowsOn n1 stamps line d → FollowsOn n1 stamps line 0 → FollowsOn n1 stamps (AtModem (station.Sent f) ∷ line) d
-unfolding StationLawful Sends
-modem_sent s n1 d stamps f line h before before_zero = by_data (is_data_frame f) refl h.lawful.modem_lawful.0
+-- where another connection is open the UA on 0 was sent
+zero_answered : (s : Setting) (n1 d : ℕ) (line : List LineAct) → IsOnceLine s n1 line → (d == 0) ≡ false → open_m d (modem_past line) ≡ true → 1 ≤ many (is_on Ua 0) (frames_sent (modem_past line))
+zero_answered s n1 d line h apart o =
+    let got = asked_there s n1 d line h o in
+    let ways = both_ways line h.lawful.one_line in
+    let sent = came_few (is_on Sabm d) (wire (driver_past line)) (modem_past line) ways.at_modem in
+    let behind = sabm_behind s d (driver_past line) h.lawful.is_initiator apart h.lawful.driver_lawful (omega (arith, got, sent)) in
+    let came = came_few (is_on Ua 0) (modem_past line) (wire (driver_past line)) ways.at_driver in
+    omega (arith, behind, came)
+
+modem_sent : (s : Setting) (n1 d : ℕ) (stamps : ℕ → Stamp) (f : Frame) (line : List LineAct) → IsOnceLine s n1 (AtModem (station.Sent f) ∷ line) → Opens d stamps line → Opens 0 stamps line → Opens d stamps (AtModem (station.Sent f) ∷ line)
+modem_sent s n1 d stamps f line h before before_zero o some few =
+    let p = and_parts (open_m d (modem_past line)) (not (ends (zero_m d (modem_past line)) d (station.Sent f))) o in
+    and_from (open_m d (handled answered ++ q)) (not (ends (zero_m d (modem_past line)) d (station.Sent f))) (by_answer (answer_on d f) refl p.0) p.1
   where
-    past : List station.Act
-    past = modem_past line
-
-    asks : List Ask
-    asks = waiting Initiator (captured stamps line)
-
     q : List station.Act
     q = own Responder (captured stamps line)
+
+    answered : Option Ask
+    answered = answered_by f (waiting Initiator (captured stamps line))
+
+    sent : List Frame
+    sent = frames_sent (modem_past line)
+
+    older : IsOnceLine s n1 line
+    older = once_line_before s n1 (AtModem (station.Sent f)) line h
 
     shape : is_shaped f ≡ true
     shape = (and_parts (is_shaped f) (list_all is_shaped (frames_sent (modem_past line))) (modem_shaped n1 (station.Sent f ∷ modem_past line) h.lawful.modem_lawful)).0
 
-    data_answer : (e : ℕ) → is_data_frame f ≡ true → answer_on e f ≡ false
-    data_answer e is = (answer_balanced (length f.info) Responder e).plain f is (leb (length f.info))
-      where
-        leb : (n : ℕ) → nat_le n n ≡ true
-        leb n = le-leb n n (omega arith)
+    zero_there : (b : Bool) → (d == 0) ≡ b → open_m d (modem_past line) ≡ true → (b || zero_m d q) ≡ true
+    zero_there true e k = refl
+    zero_there false e k =
+        zero_same Responder d q
+        ∙ before_zero (above d (modem_past line) e k) (zero_answered s n1 d line older e k) (at_zero d (frames_sent (modem_past line)) (fewer_answers d f (frames_sent (modem_past line)) few))
 
-    by_data : (b : Bool) → is_data_frame f ≡ b → Sends (responding n1) (modem_past line) f b
-        → FollowsM d (station.Sent f ∷ modem_past line) (station.Sent f ∷ (handled (answered_by f (waiting Initiator (captured stamps line))) ++ own Responder (captured stamps line)))
-        (if b then owed_frames (responding n1) (modem_past line) else drop 1 (owed_frames (responding n1) (modem_past line))) (unit (answer_on d f) + many (answer_on d) (frames_sent (modem_past line)))
-    by_data true is g =
-        let k = with_owed d (modem_past line) (own Responder (captured stamps line)) (owed_frames (responding n1) (modem_past line)) [] (many (answer_on d) (frames_sent (modem_past line))) g.behind before in
-        with_owed d _ _ [] (owed_frames (responding n1) (modem_past line)) _ (sym g.behind)
-        (data_step d (modem_past line) (own Responder (captured stamps line)) f (answered_by f (waiting Initiator (captured stamps line))) (many (answer_on d) (frames_sent (modem_past line))) (unit (answer_on d f) + many (answer_on d) (frames_sent (modem_past line))) k
-        (quiet_handled_m d f (waiting Initiator (captured stamps line)) (own Responder (captured stamps line)) (answered_by f (waiting Initiator (captured stamps line))) refl shape (data_answer d is) (data_answer 0 is) ((down_balanced (length f.info) Responder).plain f is (le-leb (length f.info) (length f.info) (omega arith)))))
-    by_data false is g =
-        let k = with_owed d (modem_past line) (own Responder (captured stamps line)) (owed_frames (responding n1) (modem_past line)) (f ∷ g.later) (many (answer_on d) (frames_sent (modem_past line))) g.is_next before in
-        let k0 = with_owed 0 (modem_past line) (own Responder (captured stamps line)) (owed_frames (responding n1) (modem_past line)) (f ∷ g.later) (many (answer_on 0) (frames_sent (modem_past line))) g.is_next before_zero in
-        with_owed d _ _ g.later (drop 1 (owed_frames (responding n1) (modem_past line))) _ (sym (ap (λ (fs : List Frame). drop 1 fs) g.is_next))
-        (control_step d (modem_past line) (own Responder (captured stamps line)) f g.later (answered_by f (waiting Initiator (captured stamps line))) (many (answer_on d) (frames_sent (modem_past line))) (many (answer_on 0) (frames_sent (modem_past line))) k k0
-        (λ apart o. above d (modem_past line) apart o)
-        (λ a o none. sabm_answered s n1 d stamps f line (steady_line_before s n1 d (AtModem (station.Sent f)) line h) a o none)
-        (λ a z n. quiet_handled_m d f (waiting Initiator (captured stamps line)) (own Responder (captured stamps line)) (answered_by f (waiting Initiator (captured stamps line))) refl shape a z n))
+    not_zero : (b : Bool) → (d == 0) ≡ b → answer_on d f ≡ false → open_m d (modem_past line) ≡ true → answer_on 0 f ≡ false
+    not_zero true e a k = ap (λ n. is_mode_answer f && (f.dlci == n)) (sym (eqb-true d 0 e)) ∙ a
+    not_zero false e a k =
+        let ua = zero_answered s n1 d line older e k in
+        let fewer = uas_fewer 0 (frames_sent (modem_past line)) in
+        let z = few.zero in
+        none_of (answer_on 0) f 0 (omega (arith, ua, fewer, z))
 
--- ## A frame comes to the modem
+    by_answer : (b : Bool) → answer_on d f ≡ b → open_m d (modem_past line) ≡ true → open_m d (handled answered ++ q) ≡ true
+    by_answer true a k =
+        let u : unit (answer_on d f) ≡ 1 = ap unit a in
+        let w = few.own in
+        let r = sabm_answered s n1 d stamps f line older a k (omega (arith, u, w)) in
+        ap (λ (xs : List station.Act). open_m d (xs ++ q)) (read_alone answered r.ask r.is r.new) ∙ opened_there d r.ask.frame q r.sabm (zero_there (d == 0) refl k)
+    by_answer false a k =
+        let fewer = uas_fewer d (f ∷ []) in
+        let u : unit (answer_on d f) ≡ 0 = ap unit a in
+        let w = few.down in
+        quiet_handled_m d f (waiting Initiator (captured stamps line)) q answered refl shape a (not_zero (d == 0) refl a k) (none_of is_down f (many is_down (frames_sent (modem_past line))) w)
+        ∙ before k (omega (arith, some, fewer, u)) (fewer_answers d f (frames_sent (modem_past line)) few)
 
-one_true : (b : Bool) → 1 ≤ unit b → b ≡ true
-one_true true h = refl
-one_true false h = absurd (omega (arith, h))
-
-shut_by : (u k o e : Bool) → u ≡ false → e ≡ true → ((u && k) || (o && not e)) ≡ false
-shut_by true k o e g h = cc
-shut_by false k o false g h = cc
-shut_by false k true true g h = refl
-shut_by false k false true g h = refl
-
-disc_no_sabm : (k : Kind) (x : Bool) → (is_kind k Sabm && x) ≡ false → x ≡ true → is_kind k Sabm ≡ false
-disc_no_sabm Sabm true h e = cc
-disc_no_sabm Sabm false h e = cc
-disc_no_sabm Ua x h e = refl
-disc_no_sabm Dm x h e = refl
-disc_no_sabm Disc x h e = refl
-disc_no_sabm Uih x h e = refl
-
-uih_no_sabm : (k : Kind) (x y c : Bool) → ((is_kind k Uih && y) && c) ≡ true → (is_kind k Sabm && x) ≡ false
-uih_no_sabm Uih x y c h = refl
-uih_no_sabm Sabm x y c h = cc
-uih_no_sabm Ua x y c h = cc
-uih_no_sabm Dm x y c h = cc
-uih_no_sabm Disc x y c h = cc
-
-first_answer : (s : Setting) (n1 d : ℕ) (f : Frame) (line : List LineAct) → IsSteadyLine s n1 d (AtModem (station.Got f) ∷ line) → is_on Sabm d f ≡ true → many (answer_on d) (frames_sent (modem_past line)) ≤ 0
-first_answer s n1 d f line h is =
+-- the first UA is sent behind the SABM
+modem_got : (s : Setting) (n1 d : ℕ) (stamps : ℕ → Stamp) (f : Frame) (line : List LineAct) → IsOnceLine s n1 (AtModem (station.Got f) ∷ line) → Opens d stamps line → Opens d stamps (AtModem (station.Got f) ∷ line)
+modem_got s n1 d stamps f line h before o some few =
+    let past = modem_past line in
+    let z = zero_m d past in
+    or_elim (is_on Sabm d f && ((d == 0) || z)) (open_m d past && not (ends z d (station.Got f))) o
+    (λ k.
     let now = came_few (is_on Sabm d) (wire (driver_past line)) (modem_past (AtModem (station.Got f) ∷ line)) (both_ways (AtModem (station.Got f) ∷ line) h.lawful.one_line).at_modem in
     let once = h.once d in
-    let few = once_many (is_on Sabm d) (frames_sent (wire (driver_past line))) in
-    let one : unit (is_on Sabm d f) ≡ 1 = ap unit is in
-    let older = steady_line_before s n1 d (AtModem (station.Got f)) line h in
-    let ua = ua_behind n1 d (modem_past line) older.lawful.modem_lawful (omega (arith, now, once, few, one)) in
-    let discs = disc_none (many (is_on Disc d) (frames_sent (wire (driver_past line)))) (disc_after s n1 d line older) ua in
-    let came = came_few (is_on Disc d) (wire (driver_past line)) (modem_past line) (both_ways line older.lawful.one_line).at_modem in
-    let parts = asks_parts d (frames_got (modem_past line)) in
-    let sent = station_sends AnyProbe (responding n1) (answer_on d) (ask_on d) (answer_balanced n1 Responder d) (modem_past line) older.lawful.modem_lawful in
-    omega (arith, now, once, few, one, discs, came, parts, sent)
-  where
-    disc_none : (n : ℕ) → (1 ≤ n → 1 ≤ many (is_on Ua d) (frames_sent (modem_past line))) → many (is_on Ua d) (frames_sent (modem_past line)) ≤ 0 → n ≤ 0
-    disc_none zero k none = omega arith
-    disc_none (suc n) k none = let x = k (omega arith) in absurd (omega (arith, x, none))
+    let sent = once_many (is_on Sabm d) (frames_sent (wire (driver_past line))) in
+    let one : unit (is_on Sabm d f) ≡ 1 = ap unit (and_parts (is_on Sabm d f) ((d == 0) || z) k).0 in
+    let ua = ua_behind n1 d past (once_line_before s n1 (AtModem (station.Got f)) line h).lawful.modem_lawful (omega (arith, now, once, sent, one)) in
+    absurd (omega (arith, some, ua)))
+    (λ k. before (and_parts (open_m d past) (not (ends z d (station.Got f))) k).0 some few)
 
-modem_got : (s : Setting) (n1 d : ℕ) (stamps : ℕ → Stamp) (f : Frame) (line : List LineAct) → IsSteadyLine s n1 d (AtModem (station.Got f) ∷ line) → FollowsOn n1 stamps line d → FollowsOn n1 stamps (AtModem (station.Got f) ∷ line) d
-modem_got s n1 d stamps f line h before =
-    let past = modem_past line in
-    let st = responding n1 in
-    let owing = h.prompt.0 in
-    let frames = by_frame Responder (λ e. state_of Responder e past) f in
-    let live : list_any is_loss past ≡ false = h.live in
-    let called_is : called_frames st past (station.Got f) ≡ frames = ap (λ (b : Bool). if b then [] else frames) live in
-    let all : owed_frames st past ++ called_frames st past (station.Got f) ≡ frames = ap (λ (fs : List Frame). fs ++ called_frames st past (station.Got f)) owing ∙ called_is in
-    let z = zero_m d past in
-    let few = modes_few (answer_on d) (λ n. n == d) (answer_modes d) Responder (λ e. state_of Responder e past) f in
-    let few0 = modes_few (answer_on 0) (λ n. n == 0) (answer_modes 0) Responder (λ e. state_of Responder e past) f in
-    let zero_is : z ≡ is_opened (state_of Responder 0 past) = zero_same Responder d past ∙ sym (opened_is_open Responder past 0) in
-    with_owed d (station.Got f ∷ past) (own Responder (captured stamps line)) frames (owed_frames st past ++ called_frames st past (station.Got f)) (many (answer_on d) (frames_sent past)) (sym all)
-    (come_step d past (own Responder (captured stamps line)) f frames (many (answer_on d) (frames_sent past))
-    (with_owed d past (own Responder (captured stamps line)) (owed_frames st past) [] (many (answer_on d) (frames_sent past)) owing before)
-    (λ o. let p = and_parts (is_on Sabm d f) ((d == 0) || z) o in opening_answered d (λ e. state_of Responder e past) f p.0 (sym (ap (λ (b : Bool). (d == 0) || b) zero_is) ∙ p.1))
-    (λ o some. fresh_by (is_on Sabm d f) refl o (one_true (ask_on d f) (omega (arith, some, few))))
-    (λ some apart.
-    let a = one_true (ask_on 0 f) (omega (arith, some, few0)) in
-    let p = and_parts (is_mode_command f) (f.dlci == 0) a in
-    let away : (f.dlci == d) ≡ false = ap (λ n. n == d) (eqb-true f.dlci 0 p.1) ∙ swapped apart in
-    shut_by (is_on Sabm d f) ((d == 0) || z) (open_m d past) (ends z d (station.Got f)) (second (is_kind f.kind Sabm) (f.dlci == d) away)
-    (ender_ends z d f (and_from (is_mode_command f) ((f.dlci == d) || (f.dlci == 0)) p.0 (either (f.dlci == d) (f.dlci == 0) p.1))))
-    (λ some.
-    let p = down_called (λ e. state_of Responder e past) f (never_stops past (older_none h)) some in
-    let open_zero : z ≡ true = zero_is ∙ p.0 in
-    shut_by (is_on Sabm d f) ((d == 0) || z) (open_m d past) (ends z d (station.Got f)) (uih_no_sabm f.kind (f.dlci == d) (f.dlci == 0) (octet_is (λ n. n) cld (message_of f.info)) p.1)
-    (ap (λ (b : Bool). b || (not (d == 0) && ends_itself z 0 (station.Got f))) (down_ends (is_on Disc d f) (is_on Dm d f) (is_on Sabm d f) z (brings_command cld f) open_zero p.1)))
-    (tail_none d (λ e. state_of Responder e past) f))
-  where
-    older_none : IsSteadyLine s n1 d (AtModem (station.Got f) ∷ line) → many (brings_command cld) (frames_sent (modem_past line)) ≤ 0
-    older_none k = (steady_line_before s n1 d (AtModem (station.Got f)) line k).down_none
-
-    swapped : (d == 0) ≡ false → (0 == d) ≡ false
-    swapped e = by_test (0 == d) refl
-      where
-        by_test : (b : Bool) → (0 == d) ≡ b → b ≡ false
-        by_test false k = refl
-        by_test true k = let x : (d == 0) ≡ true = eq-eqb d 0 (sym (eqb-true 0 d k)) in let y : true ≡ false = sym x ∙ e in cc
-
-    second : (a b : Bool) → b ≡ false → (a && b) ≡ false
-    second true b e = e
-    second false b e = refl
-
-    either : (a b : Bool) → b ≡ true → (a || b) ≡ true
-    either true b e = refl
-    either false b e = e
-
-    down_ends : (a b c z k : Bool) → z ≡ true → k ≡ true → (a || (b || (c || (z && k)))) ≡ true
-    down_ends true b c z k e g = refl
-    down_ends false true c z k e g = refl
-    down_ends false false true z k e g = refl
-    down_ends false false false true k e g = g
-    down_ends false false false false k e g = cc
-
-    disc_ends : is_on Sabm d f ≡ false → ask_on d f ≡ true → open_m d (station.Got f ∷ modem_past line) ≡ false
-    disc_ends n a =
-        let p = and_parts (is_mode_command f) (f.dlci == d) a in
-        shut_by (is_on Sabm d f) ((d == 0) || zero_m d (modem_past line)) (open_m d (modem_past line)) (ends (zero_m d (modem_past line)) d (station.Got f)) n
-        (ender_ends (zero_m d (modem_past line)) d f (and_from (is_mode_command f) ((f.dlci == d) || (f.dlci == 0)) p.0 (ap (λ (b : Bool). b || (f.dlci == 0)) p.1)))
-
-    fresh_by : (b : Bool) → is_on Sabm d f ≡ b → open_m d (station.Got f ∷ modem_past line) ≡ true → ask_on d f ≡ true → many (answer_on d) (frames_sent (modem_past line)) ≤ 0
-    fresh_by true e o a = first_answer s n1 d f line h e
-    fresh_by false e o a = absurd (let x : true ≡ false = sym o ∙ disc_ends e a in cc)
-
--- ## The whole line
-
-call_line : (s : Setting) (n1 : ℕ) (stamps : ℕ → Stamp) (a : station.Act) (line : List LineAct) (d : ℕ) → owed_frames (responding n1) (modem_past line) ≡ [] → FollowsOn n1 stamps line d
-    → (open_m d (a ∷ modem_past line) ≡ true → open_m d (modem_past line) ≡ true)
-    → ((e : ℕ) → many (answer_on e) (called_frames (responding n1) (modem_past line) a) ≤ 0) → many is_down (called_frames (responding n1) (modem_past line) a) ≤ 0
-    → FollowsM d (a ∷ modem_past line) (own Responder (captured stamps line)) (owed_frames (responding n1) (modem_past line) ++ called_frames (responding n1) (modem_past line) a) (many (answer_on d) (frames_sent (modem_past line)))
-call_line s n1 stamps a line d owing before open_before none none_down =
-    let past = modem_past line in
-    let st = responding n1 in
-    let all : owed_frames st past ++ called_frames st past a ≡ called_frames st past a = ap (λ (fs : List Frame). fs ++ called_frames st past a) owing in
-    with_owed d (a ∷ past) (own Responder (captured stamps line)) (called_frames st past a) (owed_frames st past ++ called_frames st past a) (many (answer_on d) (frames_sent past)) (sym all)
-    (call_step d past (a ∷ past) (own Responder (captured stamps line)) (called_frames st past a) (many (answer_on d) (frames_sent past))
-    (with_owed d past (own Responder (captured stamps line)) (owed_frames st past) [] (many (answer_on d) (frames_sent past)) owing before) open_before (none d) (none 0) none_down)
+-- ## A frame passes to the modem
 
 plain_kinds : (k : Kind) (x : Bool) → (is_kind k Sabm || is_kind k Disc) ≡ false → is_kind k Dm ≡ false → ((is_kind k Disc && x) ≡ false) × (((is_kind k Dm && x) ≡ false) × ((is_kind k Sabm && x) ≡ false))
 plain_kinds Ua x h g = (refl, (refl, refl))
@@ -308,46 +232,97 @@ come_open d f q o = by_come (is_ask f || is_kind f.kind Dm) refl
         kept (is_on Sabm d f && ((d == 0) || zero_m d q)) (open_m d q) (ends (zero_m d q) d (station.Got f)) o
         (ends_none (zero_m d q) d f (plain d a.0 p.1) (plain 0 a.0 p.1) (cld_asks f a.1))
 
-pub modem_line : (s : Setting) (n1 d : ℕ) (stamps : ℕ → Stamp) (line : List LineAct) → IsSteadyLine s n1 d line → FollowsOn n1 stamps line d
-modem_line s n1 d stamps [] h = record { opens = λ o. let x : false ≡ true = o in cc; fresh = λ o some. omega arith; zero = λ some apart. refl; down = λ some. refl; tail = omega arith }
-modem_line s n1 d stamps (AtModem (station.Sent f) ∷ line) h = modem_sent s n1 d stamps f line h (modem_line s n1 d stamps line (steady_line_before s n1 d (AtModem (station.Sent f)) line h)) (modem_line s n1 0 stamps line (steady_zero s n1 d line (steady_line_before s n1 d (AtModem (station.Sent f)) line h)))
-modem_line s n1 d stamps (AtModem (station.Got f) ∷ line) h = modem_got s n1 d stamps f line h (modem_line s n1 d stamps line (steady_line_before s n1 d (AtModem (station.Got f)) line h))
-modem_line s n1 d stamps (AtModem (station.Called c) ∷ line) h =
-    let past = modem_past line in
+-- ## The whole line
+
+pub modem_line : (s : Setting) (n1 d : ℕ) (stamps : ℕ → Stamp) (line : List LineAct) → IsOnceLine s n1 line → Opens d stamps line
+modem_line s n1 d stamps [] h o some few = absurd (omega (arith, some))
+modem_line s n1 d stamps (AtModem (station.Sent f) ∷ line) h o some few =
+    let k = once_line_before s n1 (AtModem (station.Sent f)) line h in
+    modem_sent s n1 d stamps f line h (modem_line s n1 d stamps line k) (modem_line s n1 0 stamps line k) o some few
+modem_line s n1 d stamps (AtModem (station.Got f) ∷ line) h o some few = modem_got s n1 d stamps f line h (modem_line s n1 d stamps line (once_line_before s n1 (AtModem (station.Got f)) line h)) o some few
+modem_line s n1 d stamps (AtModem (station.Called c) ∷ line) h o some few =
+    modem_line s n1 d stamps line (once_line_before s n1 (AtModem (station.Called c)) line h) (and_parts (open_m d (modem_past line)) (not (ends (zero_m d (modem_past line)) d (station.Called c))) o).0 some few
+modem_line s n1 d stamps (AtModem station.Tick ∷ line) h o some few =
+    modem_line s n1 d stamps line (once_line_before s n1 (AtModem station.Tick) line h) (and_parts (open_m d (modem_past line)) (not (ends (zero_m d (modem_past line)) d station.Tick)) o).0 some few
+modem_line s n1 d stamps (AtModem station.Lost ∷ line) h o some few =
+    modem_line s n1 d stamps line (once_line_before s n1 (AtModem station.Lost) line h) (and_parts (open_m d (modem_past line)) (not (ends (zero_m d (modem_past line)) d station.Lost)) o).0 some few
+modem_line s n1 d stamps (AtModem station.Given ∷ line) h o some few =
+    modem_line s n1 d stamps line (once_line_before s n1 (AtModem station.Given) line h) (and_parts (open_m d (modem_past line)) (not (ends (zero_m d (modem_past line)) d station.Given)) o).0 some few
+modem_line s n1 d stamps (AtDriver (driver.Sent f) ∷ line) h o some few =
+    come_open d f (own Responder (captured stamps line)) (modem_line s n1 d stamps line (once_line_before s n1 (AtDriver (driver.Sent f)) line h) o some few)
+modem_line s n1 d stamps (AtDriver (driver.Took q) ∷ line) h o some few = modem_line s n1 d stamps line (once_line_before s n1 (AtDriver (driver.Took q)) line h) o some few
+modem_line s n1 d stamps (AtDriver (driver.Got f) ∷ line) h o some few = modem_line s n1 d stamps line (once_line_before s n1 (AtDriver (driver.Got f)) line h) o some few
+modem_line s n1 d stamps (AtDriver (driver.Told u) ∷ line) h o some few = modem_line s n1 d stamps line (once_line_before s n1 (AtDriver (driver.Told u)) line h) o some few
+modem_line s n1 d stamps (AtDriver (driver.Heard k e l) ∷ line) h o some few = modem_line s n1 d stamps line (once_line_before s n1 (AtDriver (driver.Heard k e l)) line h) o some few
+modem_line s n1 d stamps (AtDriver driver.Tick ∷ line) h o some few = modem_line s n1 d stamps line (once_line_before s n1 (AtDriver driver.Tick) line h) o some few
+modem_line s n1 d stamps (AtDriver driver.Lost ∷ line) h o some few = modem_line s n1 d stamps line (once_line_before s n1 (AtDriver driver.Lost) line h) o some few
+modem_line s n1 d stamps (AtDriver (driver.Held e) ∷ line) h o some few = modem_line s n1 d stamps line (once_line_before s n1 (AtDriver (driver.Held e)) line h) o some few
+modem_line s n1 d stamps (AtDriver (driver.Freed e) ∷ line) h o some few = modem_line s n1 d stamps line (once_line_before s n1 (AtDriver (driver.Freed e)) line h) o some few
+modem_line s n1 d stamps (AtDriver driver.Given ∷ line) h o some few = modem_line s n1 d stamps line (once_line_before s n1 (AtDriver driver.Given) line h) o some few
+
+-- ## Where data is sent
+
+-- where d is open its UA was sent, or is owed
+pub ua_called : (n1 d : ℕ) (past : List station.Act) → StationLawful (responding n1) past → list_any is_loss past ≡ false → open_m d past ≡ true
+    → 1 ≤ many (is_on Ua d) (owed_frames (responding n1) past) + many (is_on Ua d) (frames_sent past)
+unfolding StationLawful Sends
+ua_called n1 d [] l live o = cc
+ua_called n1 d (station.Sent f ∷ past) l live o =
+    let p = and_parts (open_m d past) (not (ends (zero_m d past) d (station.Sent f))) o in
+    by_data (is_data_frame f) refl l.0 (ua_called n1 d past l.1 live p.0)
+  where
+    by_data : (b : Bool) → is_data_frame f ≡ b → Sends (responding n1) past f b → 1 ≤ many (is_on Ua d) (owed_frames (responding n1) past) + many (is_on Ua d) (frames_sent past)
+        → 1 ≤ many (is_on Ua d) (if b then owed_frames (responding n1) past else drop 1 (owed_frames (responding n1) past)) + (unit (is_on Ua d f) + many (is_on Ua d) (frames_sent past))
+    by_data true is g k = omega (arith, k)
+    by_data false is g k =
+        let first : many (is_on Ua d) (owed_frames (responding n1) past) ≡ unit (is_on Ua d f) + many (is_on Ua d) g.later = ap (many (is_on Ua d)) g.is_next in
+        let rest : many (is_on Ua d) (drop 1 (owed_frames (responding n1) past)) ≡ many (is_on Ua d) g.later = ap (λ (fs : List Frame). many (is_on Ua d) (drop 1 fs)) g.is_next in
+        omega (arith, k, first, rest)
+ua_called n1 d (station.Got f ∷ past) l live o =
     let st = responding n1 in
-    let a = station.Called c in
-    call_line s n1 stamps a line d h.prompt.0 (modem_line s n1 d stamps line (steady_line_before s n1 d (AtModem a) line h))
-    (λ o. (and_parts (open_m d past) (not (ends (zero_m d past) d a)) o).0)
-    (λ e. called (answer_on e) 0 st past a (asked AnyProbe st (answer_on e) (ask_on e) (answer_balanced n1 Responder e) (station_view st past) c (is_none (refused st (station_view st past) c)) refl))
-    (called is_down 0 st past a (asked AnyProbe st is_down every (down_balanced n1 Responder) (station_view st past) c (is_none (refused st (station_view st past) c)) refl))
-modem_line s n1 d stamps (AtModem station.Tick ∷ line) h =
+    let z = zero_m d past in
+    let both = many_both (is_on Ua d) (owed_frames st past) (called_frames st past (station.Got f)) in
+    or_elim (is_on Sabm d f && ((d == 0) || z)) (open_m d past && not (ends z d (station.Got f))) o
+    (λ k.
+    let p = and_parts (is_on Sabm d f) ((d == 0) || z) k in
+    let zero_is : z ≡ is_opened (state_of Responder 0 past) = zero_same Responder d past ∙ sym (opened_is_open Responder past 0) in
+    let some = opening_answered d (λ e. state_of Responder e past) f p.0 (sym (ap (λ (b : Bool). (d == 0) || b) zero_is) ∙ p.1) in
+    let same : many (is_on Ua d) (called_frames st past (station.Got f)) ≡ many (is_on Ua d) (by_frame Responder (λ e. state_of Responder e past) f) =
+    ap (λ (b : Bool). many (is_on Ua d) (if b then [] else by_frame Responder (λ e. state_of Responder e past) f)) live in
+    omega (arith, both, some, same))
+    (λ k. let w = ua_called n1 d past l live (and_parts (open_m d past) (not (ends z d (station.Got f))) k).0 in omega (arith, both, w))
+ua_called n1 d (station.Called c ∷ past) l live o =
+    let both = many_both (is_on Ua d) (owed_frames (responding n1) past) (called_frames (responding n1) past (station.Called c)) in
+    let w = ua_called n1 d past l live (and_parts (open_m d past) (not (ends (zero_m d past) d (station.Called c))) o).0 in
+    omega (arith, both, w)
+ua_called n1 d (station.Tick ∷ past) l live o =
+    let both = many_both (is_on Ua d) (owed_frames (responding n1) past) (called_frames (responding n1) past station.Tick) in
+    let w = ua_called n1 d past l live (and_parts (open_m d past) (not (ends (zero_m d past) d station.Tick)) o).0 in
+    omega (arith, both, w)
+ua_called n1 d (station.Given ∷ past) l live o =
+    let both = many_both (is_on Ua d) (owed_frames (responding n1) past) (called_frames (responding n1) past station.Given) in
+    let w = ua_called n1 d past l live (and_parts (open_m d past) (not (ends (zero_m d past) d station.Given)) o).0 in
+    omega (arith, both, w)
+ua_called n1 d (station.Lost ∷ past) l live o = absurd (let x : true ≡ false = live in cc)
+
+-- while d is open only the SABM on it was answered
+few_on : (s : Setting) (n1 d : ℕ) (line : List LineAct) → IsOnceLine s n1 line → open_m d (modem_past line) ≡ true → many (answer_on d) (frames_sent (modem_past line)) ≤ 1
+few_on s n1 d line h o =
     let past = modem_past line in
-    let st = responding n1 in
-    let v = station_view st past in
-    call_line s n1 stamps station.Tick line d h.prompt.0 (modem_line s n1 d stamps line (steady_line_before s n1 d (AtModem station.Tick) line h))
-    (λ o. (and_parts (open_m d past) (not (ends (zero_m d past) d station.Tick)) o).0)
-    (λ e. called (answer_on e) 0 st past station.Tick (none_of_tick AnyProbe n1 Responder (answer_on e) (ask_on e) (answer_balanced n1 Responder e) n1 v.state v.queued 0 62))
-    (called is_down 0 st past station.Tick (none_of_tick AnyProbe n1 Responder is_down every (down_balanced n1 Responder) n1 v.state v.queued 0 62))
-modem_line s n1 d stamps (AtModem station.Lost ∷ line) h = absurd (let x : true ≡ false = h.live in cc)
-modem_line s n1 d stamps (AtModem station.Given ∷ line) h =
+    let sent = station_sends AnyProbe (responding n1) (answer_on d) (ask_on d) (answer_balanced n1 Responder d) past h.lawful.modem_lawful in
+    let parts = asks_parts d (frames_got past) in
+    let came = came_few (is_on Sabm d) (wire (driver_past line)) past (both_ways line h.lawful.one_line).at_modem in
+    let many_sent = once_many (is_on Sabm d) (frames_sent (wire (driver_past line))) in
+    let once = h.once d in
+    let none = modem_unclosed s n1 d line h o in
+    let discs = discs_closed d (frames_got past) in
+    omega (arith, sent, parts, came, many_sent, once, none, discs)
+
+pub answered_once : (s : Setting) (n1 d : ℕ) (line : List LineAct) → IsOnceLine s n1 line → (d == 0) ≡ false → open_m d (modem_past line) ≡ true → AnsweredOnce d (frames_sent (modem_past line))
+answered_once s n1 d line h apart o =
     let past = modem_past line in
-    let st = responding n1 in
-    let older = steady_line_before s n1 d (AtModem station.Given) line h in
-    let none : called_frames st past station.Given ≡ [] = ap (λ (b : Bool). if b then [] else frames_seeing st (station_view st past) station.Given) older.live in
-    let same : owed_frames st past ++ called_frames st past station.Given ≡ owed_frames st past = ap (λ (fs : List Frame). owed_frames st past ++ fs) none ∙ append-nil (owed_frames st past) in
-    with_owed d (station.Given ∷ past) (own Responder (captured stamps line)) (owed_frames st past) (owed_frames st past ++ called_frames st past station.Given) (many (answer_on d) (frames_sent past)) (sym same)
-    (still_step d past (station.Given ∷ past) (own Responder (captured stamps line)) (own Responder (captured stamps line)) (owed_frames st past) (many (answer_on d) (frames_sent past)) (modem_line s n1 d stamps line older)
-    (λ o. (and_parts (open_m d past) (not (ends (zero_m d past) d station.Given)) o).0) (λ o. o))
-modem_line s n1 d stamps (AtDriver (driver.Sent f) ∷ line) h =
-    let past = modem_past line in
-    still_step d past past (own Responder (captured stamps line)) (come f (own Responder (captured stamps line))) (owed_frames (responding n1) past) (many (answer_on d) (frames_sent past))
-    (modem_line s n1 d stamps line (steady_line_before s n1 d (AtDriver (driver.Sent f)) line h)) (λ o. o) (λ o. come_open d f (own Responder (captured stamps line)) o)
-modem_line s n1 d stamps (AtDriver (driver.Took q) ∷ line) h = modem_line s n1 d stamps line (steady_line_before s n1 d (AtDriver (driver.Took q)) line h)
-modem_line s n1 d stamps (AtDriver (driver.Got f) ∷ line) h = modem_line s n1 d stamps line (steady_line_before s n1 d (AtDriver (driver.Got f)) line h)
-modem_line s n1 d stamps (AtDriver (driver.Told o) ∷ line) h = modem_line s n1 d stamps line (steady_line_before s n1 d (AtDriver (driver.Told o)) line h)
-modem_line s n1 d stamps (AtDriver (driver.Heard k e l) ∷ line) h = modem_line s n1 d stamps line (steady_line_before s n1 d (AtDriver (driver.Heard k e l)) line h)
-modem_line s n1 d stamps (AtDriver driver.Tick ∷ line) h = modem_line s n1 d stamps line (steady_line_before s n1 d (AtDriver driver.Tick) line h)
-modem_line s n1 d stamps (AtDriver driver.Lost ∷ line) h = modem_line s n1 d stamps line (steady_line_before s n1 d (AtDriver driver.Lost) line h)
-modem_line s n1 d stamps (AtDriver (driver.Held e) ∷ line) h = modem_line s n1 d stamps line (steady_line_before s n1 d (AtDriver (driver.Held e)) line h)
-modem_line s n1 d stamps (AtDriver (driver.Freed e) ∷ line) h = modem_line s n1 d stamps line (steady_line_before s n1 d (AtDriver (driver.Freed e)) line h)
-modem_line s n1 d stamps (AtDriver driver.Given ∷ line) h = modem_line s n1 d stamps line (steady_line_before s n1 d (AtDriver driver.Given) line h)
+    let zero_open = above d past apart o in
+    let sent = station_sends AnyProbe (responding n1) is_down (brings_command cld) (down_by_cld n1 Responder) past h.lawful.modem_lawful in
+    let none = modem_unclosed s n1 0 line h zero_open in
+    let clds = clds_closed (frames_got past) in
+    record { own = few_on s n1 d line h o; zero = few_on s n1 0 line h zero_open; down = omega (arith, sent, none, clds) }

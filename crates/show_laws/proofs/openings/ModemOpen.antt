@@ -1,8 +1,7 @@
--- The modem sends data where what passed says that the connection is open.
-use Rattle.std.specs.Prelude.{◌≡◌, ℕ, ◌+◌, ◌==◌, ◌≤◌, ◌&&◌, ◌||◌, not, Bool, true, false, List, [], ◌∷◌, ◌++◌, length, map, refl, if◌then◌else◌}
-use Rattle.std.specs.List.{list_any}
+-- The driver's SABM waits for the first UA or DM on its connection. While a connection of the modem is open 0 is too.
+use Rattle.std.specs.Prelude.{◌≡◌, ℕ, ◌+◌, ◌==◌, ◌≤◌, ◌&&◌, ◌||◌, not, Bool, true, false, List, [], ◌∷◌, ◌++◌, length, map, refl}
 use Rattle.std.proofs.Common.{ap, arith, sym, ◌∙◌, eqb-true}
-use Rattle.std.proofs.lemmas.Bool.{and_parts, or_parts}
+use Rattle.std.proofs.lemmas.Bool.{and_parts}
 use Rattle.mux_frame.specs.Frames.{Frame}
 use Rattle.mux_frame.specs.declared.frame.Kind.{Kind}
 use Rattle.mux_frame.specs.declared.frame.Kind.TheVariants.{Sabm, Ua, Dm, Disc, Uih}
@@ -10,89 +9,27 @@ use Rattle.mux_capture.specs.declared.packet.Stamp.{Stamp}
 use Rattle.mux_capture.specs.Passing.{Caught}
 use Rattle.mux_station.specs.declared.role.Role.TheVariants.{Initiator, Responder}
 use Rattle.mux_station.specs.Acts as station
-use Rattle.mux_station.specs.Messages.{cld, brings_command, brings_response, message_of, octet_is}
+use Rattle.mux_station.specs.Messages.{cld, message_of, octet_is}
 use Rattle.mux_station.specs.Opening.{ends}
-use Rattle.mux_station.specs.Sending.{is_loss}
-use Rattle.mux_station.specs.States.{State, IsShut, IsOpening, IsOpened, IsClosing, IsStopping, at_answered, at_close_down, at_sent, at_tick, is_stopping, own_after, state_of, states}
 use Rattle.mux_station.specs.Written.{is_kind, is_on}
 use Rattle.mux_station.proofs.states.OpenByPlaces.{zero_same}
-use Rattle.mux_station.proofs.states.StatesAfterActs.{zero_own}
 use Rattle.modem_history.specs.Acts as driver
 use Rattle.modem_history.specs.Acts.{wire}
 use Rattle.modem_history.specs.Calls.{Setting}
-use Rattle.modem_history.specs.TwoEnds.{AsksOnce, frames_sent}
+use Rattle.modem_history.specs.TwoEnds.{frames_sent}
 use Rattle.modem_show.specs.Asking.{asked_with, excused_by, unanswered_by, waiting}
-use Rattle.show_laws.specs.Lines.{AtDriver, AtModem, IsLawfulLine, LineAct, captured, driver_past, modem_past, responding}
-use Rattle.show_laws.specs.Laws.{IsPrompt}
+use Rattle.show_laws.specs.Lines.{AtDriver, LineAct, captured, driver_past, modem_past}
 use Rattle.show_laws.proofs.asks.AnswerShapes.{or_elim}
-use Rattle.show_laws.proofs.asks.AnswersCalled.{AnyProbe}
-use Rattle.show_laws.proofs.asks.NoneUnasked.{any_probes}
 use Rattle.show_laws.proofs.asks.WaitingAsks.{frames_of, frames_to}
 use Rattle.show_laws.proofs.counts.ManyFrames.{many, unit}
-use Rattle.show_laws.proofs.counts.DriverCounts.{driver_sends}
 use Rattle.show_laws.proofs.lines.CapturedFrames.{both_ways, came_few, shows}
-use Rattle.show_laws.proofs.lines.EveryFrame.{lawful_before, over}
+use Rattle.show_laws.proofs.lines.EveryFrame.{over}
 use Rattle.show_laws.proofs.openings.DiscBehindUa.{disc_behind}
-use Rattle.show_laws.proofs.openings.DriverOpen.{once_before}
+use Rattle.show_laws.proofs.openings.DriverOpen.{IsOnceLine, once_line_before}
 use Rattle.show_laws.proofs.openings.FreshAsks.{Fresh, other_answers, other_asks, sabm_asks}
-use Rattle.show_laws.proofs.openings.ModemFollows.{answer_on, ask_on, open_m, uas_fewer, zero_m}
+use Rattle.show_laws.proofs.openings.ModemAnswers.{answer_on, ask_on, open_m, uas_fewer, zero_m}
 use Rattle.show_laws.proofs.openings.QuietFrames.{itself_zero, kept_zero, unended}
-use Rattle.show_laws.proofs.openings.ResponderCalls.{answer_balanced}
-
--- ## The line
-
--- a lawful line of a modem that is prompt, and hasn't asked to open or close this connection or 0
-pub record IsSteadyLine (s : Setting) (n1 d : ℕ) (line : List LineAct) : Type 0 where
-  pub lawful : IsLawfulLine s n1 line
-  pub once : AsksOnce (wire (driver_past line))
-  pub prompt : IsPrompt (responding n1) (modem_past line)
-  pub live : list_any is_loss (modem_past line) ≡ false
-  pub asks_none : many (ask_on d) (frames_sent (modem_past line)) ≤ 0
-  pub zero_none : many (ask_on 0) (frames_sent (modem_past line)) ≤ 0
-  pub down_none : many (brings_command cld) (frames_sent (modem_past line)) ≤ 0
-
-few_before : (t : Frame → Bool) (a : station.Act) (past : List station.Act) → many t (frames_sent (a ∷ past)) ≤ 0 → many t (frames_sent past) ≤ 0
-few_before t (station.Sent f) past h = omega (arith, h)
-few_before t (station.Called c) past h = h
-few_before t (station.Got f) past h = h
-few_before t station.Tick past h = h
-few_before t station.Lost past h = h
-few_before t station.Given past h = h
-
-pub prompt_before : (n1 : ℕ) (a : station.Act) (past : List station.Act) → IsPrompt (responding n1) (a ∷ past) → IsPrompt (responding n1) past
-prompt_before n1 (station.Sent f) past h = h
-prompt_before n1 (station.Given) past h = h
-prompt_before n1 (station.Called c) past h = h.1
-prompt_before n1 (station.Got f) past h = h.1
-prompt_before n1 station.Tick past h = h.1
-prompt_before n1 station.Lost past h = h.1
-
-live_before : (a : station.Act) (past : List station.Act) → list_any is_loss (a ∷ past) ≡ false → list_any is_loss past ≡ false
-live_before a past h = (or_parts (is_loss a) (list_any is_loss past) h).1
-
-pub steady_line_before : (s : Setting) (n1 d : ℕ) (x : LineAct) (line : List LineAct) → IsSteadyLine s n1 d (x ∷ line) → IsSteadyLine s n1 d line
-steady_line_before s n1 d (AtDriver a) line h = record {
-  lawful = lawful_before s n1 (AtDriver a) line h.lawful;
-  once = once_before a (driver_past line) h.once;
-  prompt = h.prompt;
-  live = h.live;
-  asks_none = h.asks_none;
-  zero_none = h.zero_none;
-  down_none = h.down_none;
-}
-steady_line_before s n1 d (AtModem a) line h = record {
-  lawful = lawful_before s n1 (AtModem a) line h.lawful;
-  once = h.once;
-  prompt = prompt_before n1 a (modem_past line) h.prompt;
-  live = live_before a (modem_past line) h.live;
-  asks_none = few_before (ask_on d) a (modem_past line) h.asks_none;
-  zero_none = few_before (ask_on 0) a (modem_past line) h.zero_none;
-  down_none = few_before (brings_command cld) a (modem_past line) h.down_none;
-}
-
--- so it is of 0
-pub steady_zero : (s : Setting) (n1 d : ℕ) (line : List LineAct) → IsSteadyLine s n1 d line → IsSteadyLine s n1 0 line
-steady_zero s n1 d line h = record { lawful = h.lawful; once = h.once; prompt = h.prompt; live = h.live; asks_none = h.zero_none; zero_none = h.zero_none; down_none = h.down_none }
+use Rattle.show_laws.proofs.openings.UaBehindSabm.{none_of}
 
 -- ## Counts
 
@@ -104,23 +41,8 @@ asks_parts d (f ∷ fs) = let x = parts (is_kind f.kind Sabm) (is_kind f.kind Di
     parts true b c = omega arith
     parts false b c = omega arith
 
-none_one : (t : Frame → Bool) (f : Frame) (n : ℕ) → unit (t f) + n ≤ 0 → t f ≡ false
-none_one t f n h = by_test (t f) refl
-  where
-    by_test : (b : Bool) → t f ≡ b → b ≡ false
-    by_test false e = refl
-    by_test true e = let x : unit (t f) ≡ 1 = ap unit e in absurd (omega (arith, x, h))
-
--- the driver answers nothing on d, where the modem asks nothing
-driver_answers_none : (s : Setting) (n1 d : ℕ) (line : List LineAct) → IsSteadyLine s n1 d line → many (answer_on d) (frames_sent (wire (driver_past line))) ≤ 0
-driver_answers_none s n1 d line h =
-    let sent = driver_sends AnyProbe s (answer_on d) (ask_on d) (answer_balanced s.n1 s.role d) (driver_past line) h.lawful.driver_lawful (any_probes (driver_past line)) in
-    let came = came_few (ask_on d) (modem_past line) (wire (driver_past line)) (both_ways line h.lawful.one_line).at_driver in
-    let none = h.asks_none in
-    omega (arith, sent, came, none)
-
 -- a DISC was sent behind the modem's UA
-pub disc_after : (s : Setting) (n1 d : ℕ) (line : List LineAct) → IsSteadyLine s n1 d line → 1 ≤ many (is_on Disc d) (frames_sent (wire (driver_past line))) → 1 ≤ many (is_on Ua d) (frames_sent (modem_past line))
+disc_after : (s : Setting) (n1 d : ℕ) (line : List LineAct) → IsOnceLine s n1 line → 1 ≤ many (is_on Disc d) (frames_sent (wire (driver_past line))) → 1 ≤ many (is_on Ua d) (frames_sent (modem_past line))
 disc_after s n1 d line h some =
     let got = disc_behind s d (driver_past line) h.lawful.is_initiator h.lawful.driver_lawful h.once some in
     let came = came_few (is_on Ua d) (modem_past line) (wire (driver_past line)) (both_ways line h.lawful.one_line).at_driver in
@@ -131,9 +53,9 @@ disc_after s n1 d line h some =
 abbrev HasFresh : ℕ → List Caught → Type 0
 HasFresh d line = 1 ≤ many (is_on Sabm d) (frames_of Initiator line) → many (answer_on d) (frames_to Initiator line) ≤ 0 → Fresh d (waiting Initiator line)
 
-driver_fresh : (s : Setting) (n1 d : ℕ) (stamps : ℕ → Stamp) (stamp : Stamp) (f : Frame) (line : List LineAct) → IsSteadyLine s n1 d (AtDriver (driver.Sent f) ∷ line) → HasFresh d (captured stamps line)
+driver_fresh : (s : Setting) (n1 d : ℕ) (stamps : ℕ → Stamp) (stamp : Stamp) (f : Frame) (line : List LineAct) → IsOnceLine s n1 (AtDriver (driver.Sent f) ∷ line) → HasFresh d (captured stamps line)
     → 1 ≤ unit (is_on Sabm d f) + many (is_on Sabm d) (frames_of Initiator (captured stamps line)) → many (answer_on d) (frames_to Initiator (captured stamps line)) ≤ 0
-    → Fresh d (map (excused_by f) (asked_with stamp f ++ waiting Initiator (captured stamps line)))
+    → Fresh d (map (excused_by (station.Sent f)) (asked_with stamp f ++ waiting Initiator (captured stamps line)))
 driver_fresh s n1 d stamps stamp f line h q some none = by_sabm (is_on Sabm d f) refl
   where
     asks_disc : is_on Sabm d f ≡ false → ask_on d f ≡ true → 1 ≤ unit (is_on Disc d f)
@@ -155,130 +77,23 @@ driver_fresh s n1 d stamps stamp f line h q some none = by_sabm (is_on Sabm d f)
         let same : many (answer_on d) (frames_to Initiator (captured stamps line)) ≡ many (answer_on d) (frames_sent (modem_past line)) = ap (many (answer_on d)) (shows stamps line).to_driver in
         absurd (omega (arith, ua, few, same, none))
 
-    by_sabm : (b : Bool) → is_on Sabm d f ≡ b → Fresh d (map (excused_by f) (asked_with stamp f ++ waiting Initiator (captured stamps line)))
+    by_sabm : (b : Bool) → is_on Sabm d f ≡ b → Fresh d (map (excused_by (station.Sent f)) (asked_with stamp f ++ waiting Initiator (captured stamps line)))
     by_sabm true e = sabm_asks d stamp f (waiting Initiator (captured stamps line)) e
     by_sabm false e =
         let x : unit (is_on Sabm d f) ≡ 0 = ap unit e in
-        let all = driver_answers_none s n1 d (AtDriver (driver.Sent f) ∷ line) h in
-        other_asks d stamp f (waiting Initiator (captured stamps line))
-        (record { asks = no_ask (ask_on d f) refl e; answers = none_one (answer_on d) f (many (answer_on d) (frames_sent (wire (driver_past line)))) all })
-        (q (omega (arith, some, x)) none)
+        other_asks d stamp f (waiting Initiator (captured stamps line)) (no_ask (ask_on d f) refl e) (q (omega (arith, some, x)) none)
 
-modem_fresh : (s : Setting) (n1 d : ℕ) (stamps : ℕ → Stamp) (f : Frame) (line : List LineAct) → IsSteadyLine s n1 d (AtModem (station.Sent f) ∷ line) → HasFresh d (captured stamps line)
+modem_fresh : (d : ℕ) (stamps : ℕ → Stamp) (f : Frame) (line : List LineAct) → HasFresh d (captured stamps line)
     → 1 ≤ many (is_on Sabm d) (frames_of Initiator (captured stamps line)) → unit (answer_on d f) + many (answer_on d) (frames_to Initiator (captured stamps line)) ≤ 0
-    → Fresh d (map (excused_by f) (unanswered_by f (waiting Initiator (captured stamps line))))
-modem_fresh s n1 d stamps f line h q some none =
-    let asks = h.asks_none in
-    other_answers d f (waiting Initiator (captured stamps line))
-    (record { asks = none_one (ask_on d) f (many (ask_on d) (frames_sent (modem_past line))) asks; answers = none_one (answer_on d) f (many (answer_on d) (frames_to Initiator (captured stamps line))) none })
-    (q some (omega (arith, none)))
+    → Fresh d (map (excused_by (station.Got f)) (unanswered_by f (waiting Initiator (captured stamps line))))
+modem_fresh d stamps f line q some none =
+    other_answers d f (waiting Initiator (captured stamps line)) (none_of (answer_on d) f (many (answer_on d) (frames_to Initiator (captured stamps line))) none) (q some (omega (arith, none)))
 
-pub has_fresh : (s : Setting) (n1 d : ℕ) (stamps : ℕ → Stamp) (line : List LineAct) → IsSteadyLine s n1 d line → HasFresh d (captured stamps line)
+pub has_fresh : (s : Setting) (n1 d : ℕ) (stamps : ℕ → Stamp) (line : List LineAct) → IsOnceLine s n1 line → HasFresh d (captured stamps line)
 has_fresh s n1 d stamps line h =
-    over (IsSteadyLine s n1 d) (λ x line k. steady_line_before s n1 d x line k) (HasFresh d) stamps (λ some none. absurd (omega (arith, some)))
+    over (IsOnceLine s n1) (λ x line k. once_line_before s n1 x line k) (HasFresh d) stamps (λ some none. absurd (omega (arith, some)))
     (λ f line k q some none. driver_fresh s n1 d stamps (stamps (length (captured stamps line))) f line k q some none)
-    (λ f line k q some none. modem_fresh s n1 d stamps f line k q some none) line h
-
--- ## The modem's states
-
-sent_going : (s : State) (k : Kind) → is_stopping s ≡ false → is_stopping (at_sent s k) ≡ false
-sent_going IsShut Sabm h = refl
-sent_going IsShut Ua h = refl
-sent_going IsShut Dm h = refl
-sent_going IsShut Disc h = refl
-sent_going IsShut Uih h = refl
-sent_going (IsOpening n) Sabm h = refl
-sent_going (IsOpening n) Ua h = refl
-sent_going (IsOpening n) Dm h = refl
-sent_going (IsOpening n) Disc h = refl
-sent_going (IsOpening n) Uih h = refl
-sent_going IsOpened Sabm h = refl
-sent_going IsOpened Ua h = refl
-sent_going IsOpened Dm h = refl
-sent_going IsOpened Disc h = refl
-sent_going IsOpened Uih h = refl
-sent_going (IsClosing n) Sabm h = refl
-sent_going (IsClosing n) Ua h = refl
-sent_going (IsClosing n) Dm h = refl
-sent_going (IsClosing n) Disc h = refl
-sent_going (IsClosing n) Uih h = refl
-sent_going (IsStopping n) k h = let x : true ≡ false = h in cc
-
-got_going : (s : State) (k : Kind) → is_stopping s ≡ false → is_stopping (at_answered true s k) ≡ false
-got_going IsShut Sabm h = refl
-got_going IsShut Ua h = refl
-got_going IsShut Dm h = refl
-got_going IsShut Disc h = refl
-got_going IsShut Uih h = refl
-got_going (IsOpening n) Sabm h = refl
-got_going (IsOpening n) Ua h = refl
-got_going (IsOpening n) Dm h = refl
-got_going (IsOpening n) Disc h = refl
-got_going (IsOpening n) Uih h = refl
-got_going IsOpened Sabm h = refl
-got_going IsOpened Ua h = refl
-got_going IsOpened Dm h = refl
-got_going IsOpened Disc h = refl
-got_going IsOpened Uih h = refl
-got_going (IsClosing n) Sabm h = refl
-got_going (IsClosing n) Ua h = refl
-got_going (IsClosing n) Dm h = refl
-got_going (IsClosing n) Disc h = refl
-got_going (IsClosing n) Uih h = refl
-got_going (IsStopping n) k h = let x : true ≡ false = h in cc
-
-down_going : (a b : Bool) (s : State) → is_stopping s ≡ false → is_stopping (at_close_down a b s) ≡ false
-down_going true b IsOpened h = refl
-down_going false b IsOpened h = refl
-down_going a b IsShut h = refl
-down_going a b (IsOpening n) h = refl
-down_going a b (IsClosing n) h = refl
-down_going a b (IsStopping n) h = let x : true ≡ false = h in cc
-
-tick_going : (s : State) → is_stopping s ≡ false → is_stopping (at_tick s) ≡ false
-tick_going IsShut h = refl
-tick_going (IsOpening n) h = refl
-tick_going IsOpened h = refl
-tick_going (IsClosing n) h = either (n == 3)
-  where
-    either : (b : Bool) → is_stopping (if b then IsShut else IsClosing n) ≡ false
-    either true = refl
-    either false = refl
-tick_going (IsStopping n) h = let x : true ≡ false = h in cc
-
-going : (s : State) (a : station.Act) → (is_stopping s ≡ false) → many (brings_command cld) (frames_sent (a ∷ [])) ≤ 0 → is_stopping (own_after Responder 0 true s a) ≡ false
-going s (station.Called c) h k = h
-going s station.Given h k = h
-going s station.Lost h k = refl
-going s station.Tick h k = tick_going s h
-going s (station.Sent f) h k = by_cld (brings_command cld f) (none_one (brings_command cld) f 0 k)
-  where
-    by_here : (b : Bool) → is_stopping (if b then at_sent s f.kind else s) ≡ false
-    by_here true = sent_going s f.kind h
-    by_here false = h
-
-    by_cld : (b : Bool) → b ≡ false → is_stopping (if b then IsStopping 0 else (if f.dlci == 0 then at_sent s f.kind else s)) ≡ false
-    by_cld true e = cc
-    by_cld false e = by_here (f.dlci == 0)
-going s (station.Got f) h k = by_here (f.dlci == 0)
-  where
-    by_here : (b : Bool) → is_stopping (if b then at_close_down (brings_command cld f) (brings_response cld f) (at_answered true s f.kind) else s) ≡ false
-    by_here true = down_going (brings_command cld f) (brings_response cld f) (at_answered true s f.kind) (got_going s f.kind h)
-    by_here false = h
-
-none_now : (a : station.Act) (past : List station.Act) → many (brings_command cld) (frames_sent (a ∷ past)) ≤ 0 → many (brings_command cld) (frames_sent (a ∷ [])) ≤ 0
-none_now (station.Sent f) past h = omega (arith, h)
-none_now (station.Called c) past h = omega arith
-none_now (station.Got f) past h = omega arith
-none_now station.Tick past h = omega arith
-none_now station.Lost past h = omega arith
-none_now station.Given past h = omega arith
-
-pub never_stops : (past : List station.Act) → many (brings_command cld) (frames_sent past) ≤ 0 → is_stopping (state_of Responder 0 past) ≡ false
-never_stops [] h = refl
-never_stops (a ∷ past) h =
-    let before : is_stopping (states Responder 0 past).zero ≡ false = ap is_stopping (sym (zero_own Responder past)) ∙ never_stops past (few_before (brings_command cld) a past h) in
-    going (states Responder 0 past).zero a before (none_now a past h)
+    (λ f line k q some none. modem_fresh d stamps f line q some none) line h
 
 -- ## Below 0
 

@@ -11,13 +11,10 @@ use Rattle.mux_station.specs.Written.{is_data_frame}
 use Rattle.modem_history.specs.Acts.{Act, Sent, wire}
 use Rattle.modem_history.specs.Calls.{Setting}
 use Rattle.modem_history.specs.Lawful.{Gated, Lawful, When, owed}
-use Rattle.modem_show.specs.declared.rule.Rule.TheVariants.{Unopened}
 use Rattle.modem_show.specs.Asking.{is_in_doubt, waiting}
 use Rattle.modem_show.specs.Judging.{is_unopened}
 use Rattle.modem_show.specs.Ways.{caught}
 use Rattle.show_laws.specs.Lines.{AtDriver, LineAct, captured, driver_past}
-use Rattle.show_laws.specs.Laws.{SendsWhileOpen}
-use Rattle.show_laws.proofs.lines.EveryFrame.{every_in}
 use Rattle.show_laws.proofs.openings.DriverOpen.{IsOnceLine, follows, once_line_before, seen_by}
 
 pub data_gated : (s : Setting) (past : List Act) (f : Frame) → Lawful s (Sent f ∷ past) → is_data_frame f ≡ true → Gated s past (owed s past) f
@@ -35,10 +32,3 @@ driver_open s n1 stamps f line h =
     by_data false b c k = refl
     by_data true true c k = refl
     by_data true false c k = let x : false ≡ true = k refl in cc
-
-pub sends_while_open : (s : Setting) (n1 : ℕ) (line : List LineAct) → SendsWhileOpen s n1 line
-unfolding SendsWhileOpen
-sends_while_open s n1 line h once stamps most =
-    every_in (IsOnceLine s n1) (λ x line k. once_line_before s n1 x line k) Unopened most stamps
-    (λ f line k. driver_open s n1 stamps f line k)
-    line (record { lawful = h; once = once })

@@ -23,11 +23,13 @@ use Rattle.modem_desk.specs.declared.request.Request.{Request}
 use Rattle.modem_history.specs.Acts.{Act, Took, Got, Sent, Told, Heard, Tick, Lost, Held, Freed, Given, wire}
 use Rattle.modem_history.specs.Calls.{HistoryView, Setting, all_have_room, asking, at_once, calls_behind, frames_by, refused_ask, seen_behind}
 use Rattle.modem_history.specs.Lawful.{IsNext, Lawful, When, owed, owes_frame, unsent}
+use Rattle.modem_history.specs.TwoEnds.{frames_got, frames_sent}
 use Rattle.show_laws.proofs.asks.AnswerShapes.{or_elim}
 use Rattle.show_laws.proofs.counts.ManyFrames.{few_if, many, many_both, none_one, unit}
 use Rattle.show_laws.proofs.counts.BalancedTables.{tick_none}
 use Rattle.show_laws.proofs.counts.DriverCounts.{called, dropped, none_owed, sends, sends_both, unsent_none}
-use Rattle.show_laws.proofs.openings.DiscBehindUa.{discs, one_of, same_place, tick_disc}
+use Rattle.show_laws.proofs.openings.DiscBehindUa.{discs, from_opened, one_of, same_place, tick_disc}
+use Rattle.show_laws.proofs.openings.DriverStates.{state_says}
 use Rattle.show_laws.proofs.openings.ModeAnswers.{sabm_never}
 use Rattle.show_laws.proofs.openings.QuietFrames.{EndsNone, asked_at, ends_none, itself_zero, kept_zero, open_at, unended, zero_at}
 use Rattle.show_laws.proofs.openings.UaBehindSabm.{none_of}
@@ -111,7 +113,7 @@ none_when zero h = omega arith
 none_when (suc n) h = absurd (h (omega arith))
 
 -- an act of which the first calls: before it no frame is owed
-first_owes : (s : Setting) (past : List Act) (a : Act) (u : Frame → Bool) → owes_frame (owed s past) ≡ false → sends u (owed s past ++ calls_behind s past (owed s past) a) ≤ many u (frames_by s (seen_behind s past (owed s past)) a)
+pub first_owes : (s : Setting) (past : List Act) (a : Act) (u : Frame → Bool) → owes_frame (owed s past) ≡ false → sends u (owed s past ++ calls_behind s past (owed s past) a) ≤ many u (frames_by s (seen_behind s past (owed s past)) a)
 first_owes s past a u prompt =
     let v = seen_behind s past (owed s past) in
     let parts = sends_both u (owed s past) (calls_behind s past (owed s past) a) in
@@ -329,3 +331,32 @@ below s d (Freed e ∷ past) is apart l =
 
 pub open_below : (s : Setting) (d : ℕ) (past : List Act) → s.role ≡ Initiator → (d == 0) ≡ false → Lawful s past → open_at d (wire past) ≡ true → is_open Initiator 0 (wire past) ≡ true
 open_below s d past is apart l o = sym (zero_same Initiator d (wire past)) ∙ (below s d past is apart l).up (or_left (open_at d (wire past)) (asked_at d (wire past)) o)
+
+-- ## The UA on 0
+
+zero_came : (d : ℕ) (p : List station.Act) → zero_at d p ≡ true → 1 ≤ many (is_on Ua 0) (frames_got p)
+zero_came d p z =
+    from_opened (many (is_on Ua 0) (frames_got p)) (many (is_on Sabm 0) (frames_sent p)) (state_of Initiator 0 p) (state_says 0 p)
+    (opened_is_open Initiator p 0 ∙ (sym (zero_same Initiator d p) ∙ z))
+
+-- a SABM on another connection is sent behind it
+pub sabm_behind : (s : Setting) (d : ℕ) (past : List Act) → s.role ≡ Initiator → (d == 0) ≡ false → Lawful s past → 1 ≤ many (is_on Sabm d) (frames_sent (wire past)) → 1 ≤ many (is_on Ua 0) (frames_got (wire past))
+unfolding Lawful
+sabm_behind s d [] is apart l some = absurd (omega (arith, some))
+sabm_behind s d (Sent f ∷ past) is apart l some = by_sabm (is_on Sabm d f) refl some (λ k. sabm_behind s d past is apart l.1 k)
+  where
+    by_sabm : (b : Bool) → is_on Sabm d f ≡ b → 1 ≤ unit b + many (is_on Sabm d) (frames_sent (wire past)) → (1 ≤ many (is_on Sabm d) (frames_sent (wire past)) → 1 ≤ many (is_on Ua 0) (frames_got (wire past)))
+        → 1 ≤ many (is_on Ua 0) (frames_got (wire past))
+    by_sabm false e k rest = rest (omega (arith, k))
+    by_sabm true e k rest =
+        let asked : asked_at d (wire (Sent f ∷ past)) ≡ true = or_left (is_on Sabm d f) _ e in
+        zero_came d (wire (Sent f ∷ past)) ((below s d (Sent f ∷ past) is apart l).up (or_right (open_at d (wire (Sent f ∷ past))) (asked_at d (wire (Sent f ∷ past))) asked))
+sabm_behind s d (Got f ∷ past) is apart l some = let k = sabm_behind s d past is apart l.1 some in omega (arith, k)
+sabm_behind s d (Took q ∷ past) is apart l some = sabm_behind s d past is apart l.1 some
+sabm_behind s d (Told o ∷ past) is apart l some = sabm_behind s d past is apart l.1 some
+sabm_behind s d (Heard u e line ∷ past) is apart l some = sabm_behind s d past is apart l.1 some
+sabm_behind s d (Tick ∷ past) is apart l some = sabm_behind s d past is apart l.1 some
+sabm_behind s d (Lost ∷ past) is apart l some = sabm_behind s d past is apart l.1 some
+sabm_behind s d (Held e ∷ past) is apart l some = sabm_behind s d past is apart l.1 some
+sabm_behind s d (Freed e ∷ past) is apart l some = sabm_behind s d past is apart l.1 some
+sabm_behind s d (Given ∷ past) is apart l some = sabm_behind s d past is apart l.1 some

@@ -98,7 +98,7 @@ ended Ua x z c h e = cc
 ended Dm x z c h e = cc
 ended Uih x z c h e = cc
 
-pub ender_ends : (z : Bool) (d : ℕ) (f : Frame) → is_ender d f ≡ true → ends z d (Got f) ≡ true
+ender_ends : (z : Bool) (d : ℕ) (f : Frame) → is_ender d f ≡ true → ends z d (Got f) ≡ true
 ender_ends z d f h =
     let p = and_parts (is_mode_command f) ((f.dlci == d) || (f.dlci == 0)) h in
     by_place (f.dlci == d) refl p.0 p.1

@@ -1,5 +1,5 @@
 -- The answers that a responder's frames and calls bring about.
-use Rattle.std.specs.Prelude.{◌≡◌, ℕ, ◌+◌, ◌*◌, ◌==◌, ◌≤◌, ◌&&◌, ◌||◌, not, Bool, true, false, List, [], ◌∷◌, drop, Option, Some, None, refl, if◌then◌else◌}
+use Rattle.std.specs.Prelude.{◌≡◌, ℕ, ◌+◌, ◌*◌, ◌==◌, ◌≤◌, ◌&&◌, ◌||◌, not, Bool, true, false, List, [], ◌∷◌, Option, Some, None, refl, if◌then◌else◌}
 use Rattle.std.proofs.Common.{ap, arith, sym, ◌∙◌, subst, eqb-true}
 use Rattle.std.proofs.lemmas.Bool.{and_from, and_parts, eq-eqb}
 use Rattle.mux_frame.specs.Frames.{Frame}
@@ -14,14 +14,15 @@ use Rattle.mux_station.specs.Tables.{by_frame, by_message, by_table, is_opening,
 use Rattle.modem_show.specs.Asking.{answers, both_respond, is_mode_answer, is_mode_command, message_asks, responds}
 use Rattle.show_laws.proofs.asks.AnswerShapes.{is_shaped, message_no_mode, one_response, or_elim, response_octet, shaped_message, supported_by}
 use Rattle.show_laws.proofs.asks.AnswersCalled.{AnyProbe, IsRead, as_it_is, is_read, unread}
-use Rattle.show_laws.proofs.counts.ManyFrames.{few_dropped, few_if, many, none_one, unit}
+use Rattle.show_laws.proofs.counts.ManyFrames.{few_if, many, none_one, unit}
 use Rattle.show_laws.proofs.counts.BalancedTables.{Balanced, is_command_octet}
-use Rattle.show_laws.proofs.openings.ModeAnswers.{OfModes, messaged, modes_balanced}
-use Rattle.show_laws.proofs.openings.ModemFollows.{answer_on, ask_on}
+use Rattle.show_laws.proofs.openings.ModeAnswers.{OfModes, modes_balanced}
+use Rattle.show_laws.proofs.openings.OpenBelowZero.{none_when}
+use Rattle.show_laws.proofs.openings.ModemAnswers.{answer_on, ask_on}
 
 -- ## UA and DM
 
-pub answer_modes : (d : ℕ) → OfModes (answer_on d) (λ n. n == d)
+answer_modes : (d : ℕ) → OfModes (answer_on d) (λ n. n == d)
 answer_modes d = record { uih = λ r e info. refl; answer = λ r e b. either r e b }
   where
     either : (r : Role) (e : ℕ) (b : Bool) → unit (answer_on d (ua_or_dm r e b)) ≤ unit (e == d)
@@ -39,32 +40,6 @@ pub answer_balanced : (most : ℕ) (r : Role) (d : ℕ) → Balanced AnyProbe mo
 answer_balanced most r d =
     modes_balanced most r (answer_on d) (λ n. n == d) (answer_modes d)
     (λ f is. no_answer f.kind (f.dlci == d) (and_parts (is_kind f.kind Uih) (not (f.dlci == 0)) is).0) (λ e. refl) (λ e. refl)
-
-after_first : (d e : ℕ) (channel own : State) (k : Kind) → many (answer_on d) (drop 1 (by_table Responder e channel own k)) ≤ 0
-after_first d e channel own Ua = omega arith
-after_first d e channel own Dm = omega arith
-after_first d e channel own Uih = omega arith
-after_first d e channel own Disc = omega arith
-after_first d e channel own Sabm = either ((e == 0) || is_opened channel)
-  where
-    status : (b : Bool) → many (answer_on d) (if b then [] else msc_frame Responder e ready ∷ []) ≤ 0
-    status true = omega arith
-    status false = omega arith
-
-    either : (b : Bool) → many (answer_on d) (drop 1 (if b then ua_or_dm Responder e true ∷ msc_after_opening Responder e else ua_or_dm Responder e false ∷ [])) ≤ 0
-    either true = status (e == 0)
-    either false = omega arith
-
--- behind the first frame that is called for no UA or DM is
-pub tail_none : (d : ℕ) (state : ℕ → State) (f : Frame) → many (answer_on d) (drop 1 (by_frame Responder state f)) ≤ 0
-tail_none d state f = by_on (is_on Uih 0 f)
-  where
-    by_on : (b : Bool) → many (answer_on d) (drop 1 (if b then by_message Responder (state 0) f else by_table Responder f.dlci (state 0) (state f.dlci) f.kind)) ≤ 0
-    by_on true =
-        let x = messaged (answer_on d) (λ n. n == d) (answer_modes d) Responder (state 0) f in
-        let y = few_dropped (answer_on d) (by_message Responder (state 0) f) in
-        omega (arith, x, y)
-    by_on false = after_first d f.dlci (state 0) (state f.dlci) f.kind
 
 -- a SABM that opens is answered by UA
 opening_table : (d e : ℕ) (channel own : State) (k : Kind) → (is_kind k Sabm && (e == d)) ≡ true → ((e == 0) || is_opened channel) ≡ true → 1 ≤ many (is_on Ua d) (by_table Responder e channel own k)
@@ -120,10 +95,6 @@ message_not_down r octet value h = by_test (is_down (message_frame r octet value
     by_test false e = refl
     by_test true e = let x : true ≡ false = sym (down_octet r octet value e) ∙ h in cc
 
-some_if : {P : Type 0} → (b : Bool) (fs gs : List Frame) → (1 ≤ many is_down fs → P) → (b ≡ false → 1 ≤ many is_down gs → P) → 1 ≤ many is_down (if b then fs else gs) → P
-some_if true fs gs f g h = f h
-some_if false fs gs f g h = g refl h
-
 one_some : (f : Frame) → 1 ≤ many is_down (f ∷ []) → is_down f ≡ true
 one_some f h = by_test (is_down f) refl h
   where
@@ -147,13 +118,6 @@ response_down : (r : Role) (o : Option Message) → 1 ≤ many is_down (response
 response_down r None h = absurd (omega (arith, h))
 response_down r (Some m) h = responded r m (is_supported m.octet) (is_command m && not (m.octet == nsc)) refl h
 
-message_down : (r : Role) (s : State) (f : Frame) → is_stopping s ≡ false → 1 ≤ many is_down (by_message r s f) → (is_opened s ≡ true) × (octet_is (λ n. n) cld (message_in f) ≡ true)
-message_down r IsOpened f t h = (refl, response_down r (message_in f) h)
-message_down r (IsStopping n) f t h = let x : true ≡ false = t in cc
-message_down r IsShut f t h = absurd (omega (arith, h))
-message_down r (IsOpening n) f t h = absurd (omega (arith, h))
-message_down r (IsClosing n) f t h = absurd (omega (arith, h))
-
 mode_not_down : (r : Role) (e : ℕ) (b : Bool) → many is_down (ua_or_dm r e b ∷ []) ≤ 0
 mode_not_down r e true = omega arith
 mode_not_down r e false = omega arith
@@ -174,17 +138,6 @@ table_not_down Responder e channel own Disc = mode_not_down Responder e (is_open
 table_not_down Responder e channel own Sabm =
     few_if is_down 0 ((e == 0) || is_opened channel) (ua_or_dm Responder e true ∷ msc_after_opening Responder e) (ua_or_dm Responder e false ∷ [])
     (let a = mode_not_down Responder e true in let c = status_not_down Responder e in omega (arith, a, c)) (mode_not_down Responder e false)
-
--- what calls for the response to a CLD is a CLD, while 0 is Opened
-pub down_called : (state : ℕ → State) (f : Frame) → is_stopping (state 0) ≡ false → 1 ≤ many is_down (by_frame Responder state f) → (is_opened (state 0) ≡ true) × (brings_command cld f ≡ true)
-down_called state f t h = by_on (is_on Uih 0 f) refl h
-  where
-    by_on : (b : Bool) → is_on Uih 0 f ≡ b → 1 ≤ many is_down (if b then by_message Responder (state 0) f else by_table Responder f.dlci (state 0) (state f.dlci) f.kind) → (is_opened (state 0) ≡ true) × (brings_command cld f ≡ true)
-    by_on true e h =
-        let p = message_down Responder (state 0) f t h in
-        let same : octet_is (λ n. n) cld (message_of f.info) ≡ true = sym (ap (λ (b : Bool). octet_is (λ n. n) cld (if b then message_of f.info else None)) e) ∙ p.1 in
-        (p.0, and_from (is_on Uih 0 f) (octet_is (λ n. n) cld (message_of f.info)) e same)
-    by_on false e h = let none = table_not_down Responder f.dlci (state 0) (state f.dlci) f.kind in absurd (omega (arith, h, none))
 
 closing_response : (r : Role) (f : Frame) (b : Bool) → brings_command cld f ≡ b → 1 ≤ many is_down (if b then response_to r (message_in f) else []) → b ≡ true
 closing_response r f true e h = refl
@@ -248,6 +201,46 @@ cld_answer f g c shape h =
         let y = and_parts (is_mode_command f) (is_mode_answer g) (and_parts (is_mode_command f && is_mode_answer g) (f.dlci == g.dlci) x).0 in
         absurd (let z : true ≡ false = sym y.0 ∙ (message_no_mode f m e).0 in cc))
         (λ x. by_answer m e k (message_in g) refl (sym (ap (λ (o : Option Message). both_respond o (message_in g)) e) ∙ x))
+
+-- the response to a CLD answers a CLD alone
+pub down_answers : (x f : Frame) → is_shaped f ≡ true → brings_response cld f ≡ true → answers x f ≡ true → brings_command cld x ≡ true
+down_answers x f shape down h =
+    or_elim ((is_mode_command x && is_mode_answer f) && (x.dlci == f.dlci)) (both_respond (message_in x) (message_in f)) h
+    (λ k.
+    let q = (and_parts (is_mode_command x) (is_mode_answer f) (and_parts (is_mode_command x && is_mode_answer f) (x.dlci == f.dlci) k).0).1 in
+    absurd (no_mode (message_in f) refl q there))
+    (λ k. by_read (message_in x) (message_in f) refl refl there shape k)
+  where
+    there : octet_is command_of cld (message_in f) ≡ true
+    there =
+        let p = and_parts (is_on Uih 0 f) (octet_is command_of cld (message_of f.info)) down in
+        ap (λ (b : Bool). octet_is command_of cld (if b then message_of f.info else None)) p.0 ∙ p.1
+
+    no_mode : (o : Option Message) → message_in f ≡ o → is_mode_answer f ≡ true → octet_is command_of cld o ≡ true → ⊥
+    no_mode None e m k = cc
+    no_mode (Some n) e m k = let t : true ≡ false = sym m ∙ (message_no_mode f n e).1 in cc
+
+    brought : (m : Message) → message_in x ≡ Some m → (m.octet == cld) ≡ true → brings_command cld x ≡ true
+    brought m e k = by_on (is_on Uih 0 x) refl e
+      where
+        by_on : (b : Bool) → is_on Uih 0 x ≡ b → (if b then message_of x.info else None) ≡ Some m → (b && octet_is (λ n. n) cld (message_of x.info)) ≡ true
+        by_on true on r = ap (octet_is (λ n. n) cld) r ∙ k
+        by_on false on r = cc
+
+    by_read : (o p : Option Message) → message_in x ≡ o → message_in f ≡ p → octet_is command_of cld p ≡ true → shaped_message p ≡ true → both_respond o p ≡ true → brings_command cld x ≡ true
+    by_read None p e g c sh k = cc
+    by_read (Some a) None e g c sh k = cc
+    by_read (Some a) (Some n) e g c sh k =
+        let q = and_parts (message_asks (Some a)) (responds a n) k in
+        let one = one_response a n q.0 sh q.1 in
+        brought a e (octet_back (is_supported a.octet) a.octet n.octet refl one.0 c)
+      where
+        octet_back : (b : Bool) (o m : ℕ) → is_supported o ≡ b → m ≡ response_octet b o → (command_of m == cld) ≡ true → (o == cld) ≡ true
+        octet_back true o m s e c = same o (eqb-true (command_of m) cld c) e
+          where
+            same : (o : ℕ) → command_of m ≡ cld → m ≡ response_of o → (o == cld) ≡ true
+            same o c e = let z : o ≡ cld = omega (arith, c, e) in ap (λ n. n == cld) z
+        octet_back false o m s e c = let z : true ≡ false = sym c ∙ ap (λ n. command_of n == cld) e in cc
 
 -- what another answer answers is no CLD
 pub not_cld : (f g : Frame) → is_shaped g ≡ true → answers f g ≡ true → is_down g ≡ false → brings_command cld f ≡ false
@@ -314,3 +307,13 @@ down_balanced most r = record {
             let y : octet ≡ 0xc1 = omega (arith, x) in
             let z : is_command_octet 0xc1 ≡ true = subst (λ n. is_command_octet n ≡ true) y h in
             cc
+
+-- no more of them than CLDs
+pub down_by_cld : (most : ℕ) (r : Role) → Balanced AnyProbe most r is_down (brings_command cld)
+down_by_cld most r =
+    let b = down_balanced most r in
+    record { frame = λ state f. by_cld state f (brings_command cld f) refl; plain = b.plain; sabm = b.sabm; disc = b.disc; command = b.command; probe = b.probe; short = b.short }
+  where
+    by_cld : (state : ℕ → State) (f : Frame) (b : Bool) → brings_command cld f ≡ b → many is_down (by_frame r state f) ≤ unit b
+    by_cld state f true e = (down_balanced most r).frame state f
+    by_cld state f false e = none_when (many is_down (by_frame r state f)) (λ some. let t : true ≡ false = sym (any_down_called r state f some).1 ∙ e in cc)

@@ -1,4 +1,4 @@
--- A line of a driver and a simulated modem is lawful at each of its points.
+-- A line of a driver and a simulated modem is one on which commands are answered.
 use Rattle.std.specs.Prelude.{◌≡◌, ℕ, ◌+◌, ◌==◌, ◌≤◌, ◌&&◌, not, Bool, true, false, List, [], ◌∷◌, ◌++◌, drop, Some, refl, is_none, if◌then◌else◌}
 use Rattle.std.specs.List.{list_any}
 use Rattle.std.proofs.Common.{ap, arith, sym, ◌∙◌, subst}
@@ -13,12 +13,17 @@ use Rattle.mux_station.specs.Acts.{Open, Close, Probe, Stop, Flow, Offer}
 use Rattle.mux_station.specs.Sending.{Sends, StationLawful, called_frames, frames_asked, frames_seeing, owed_frames, refused, station_view}
 use Rattle.mux_station.specs.States.{State}
 use Rattle.mux_station.specs.Tables.{by_frame, held_up, message_frame, msc_frame, ready, ua_or_dm}
-use Rattle.mux_station.specs.Written.{is_data_frame, is_kind}
+use Rattle.mux_station.specs.Offering.{data_out}
+use Rattle.mux_station.specs.Written.{is_data_frame, is_kind, is_on}
+use Rattle.at_text.specs.Dialects.{Dialect, standard}
+use Rattle.at_text.specs.Lines.{lines}
 use Rattle.modem_history.specs.Acts as driver
 use Rattle.modem_history.specs.Acts.{wire}
 use Rattle.modem_history.specs.Calls.{Setting}
+use Rattle.modem_history.specs.Connections.{info_got, info_sent, information_got}
 use Rattle.modem_history.specs.Lawful.{Lawful}
-use Rattle.modem_history.specs.TwoEnds.{AsksOnce, ComesInOrder, TakesCommandLines, frames_sent}
+use Rattle.modem_history.specs.TwoEnds.{AsksOnce, ComesInOrder, TakesCommandLines, frames_got, frames_sent}
+use Rattle.modem_history.proofs.commands.FramesOnLine.{hears}
 use Rattle.modem_sim.specs.declared.script.StepAct.{StepAct}
 use Rattle.modem_sim.specs.declared.script.StepAct.TheVariants.{Announce, Flow as StepFlow, Hold, Disconnect, CloseDown}
 use Rattle.modem_sim.specs.Acts as modem
@@ -27,15 +32,21 @@ use Rattle.modem_sim.specs.Doing.{call_of, call_owed}
 use Rattle.modem_sim.specs.Histories.{EachAllowed}
 use Rattle.modem_ends.specs.OneModem as ends
 use Rattle.modem_ends.specs.OneModem.{EndAct}
+use Rattle.modem_ends.proofs.two_ends.LinePoints.{along, behind_there, once_there}
 use Rattle.modem_show.specs.Asking.{is_mode_command}
 use Rattle.show_laws.specs.Laws.{AllSound}
 use Rattle.show_laws.specs.Lines.{IsOneLine, driver_past, modem_past, responding}
-use Rattle.show_laws.specs.Simulated.{Simulates, SoundToModem, as_line}
+use Rattle.show_laws.specs.Simulated.{FinishesWithModem, Simulates, SoundToModem, TalksToModem, as_line}
+use Rattle.show_laws.specs.Talks.{AnswersCommands, FinishesTalk, TalksInTurn, TellsApart, commands_in, finals_in}
 use Rattle.show_laws.proofs.counts.ManyFrames.{few_if, many, many_both, unit}
 use Rattle.show_laws.proofs.counts.StationCounts.{called}
+use Rattle.show_laws.proofs.openings.DiscBehindUa.{once_many}
 use Rattle.show_laws.proofs.openings.ModeAnswers.{modes_few}
 use Rattle.show_laws.proofs.openings.UaBehindSabm.{none_of}
+use Rattle.show_laws.proofs.simulated.AnsweredCommands.{all_answered, answers_commands, tells_apart}
 use Rattle.show_laws.proofs.sound.AllFrames.{all_sound}
+use Rattle.show_laws.proofs.talks.InTurn.{acts_got, acts_sent, finishes_talk, talks_in_turn}
+use Rattle.show_laws.proofs.talks.SentText.{given_is, modem_sent_all}
 
 same_driver : (line : List EndAct) → driver_past (as_line line) ≡ ends.driver_past line
 same_driver [] = refl
@@ -148,9 +159,6 @@ sent_none e past f false is g h =
     let y = h.owed in
     record { sent = omega (arith, first, x, y); owed = omega (arith, same, first, y) }
 
-taken_call : (c : station.Call) (past : List modem.Act) → call_owed past ≡ Some c → (d : ℕ) → c ≡ Open d → ⊥
-taken_call c past e d k = never_opens past d (e ∙ ap (λ (x : station.Call). Some x) k)
-
 owes_none : (e : End) (past : List modem.Act) → StationLawful (responding e.n1) (modem.wire past) → EachAllowed e past → OwesNone e past
 unfolding StationLawful
 owes_none e [] l h = record { sent = omega arith; owed = omega arith }
@@ -198,11 +206,41 @@ simulates s e line h = record {
   opens_none =
       ap (λ (q : List station.Act). list_any (λ f. is_kind f.kind Sabm) (frames_sent q)) (same_modem line)
       ∙ none_any (frames_sent (ends.modem_wire line)) (owes_none e (ends.modem_past line) h.modem_lawful.at_station h.modem_lawful.acts).sent;
+  apart = subst (λ (x : Dialect). TellsApart x) (sym h.codes) tells_apart;
+  answers =
+      subst (λ (x : Dialect). AnswersCommands x (modem_past (as_line line))) (sym h.codes)
+      (subst (λ (q : List station.Act). AnswersCommands standard q) (sym (same_modem line)) (answers_commands s e line (along s e line h)));
 }
 
 pub sound_to_modem : (s : Setting) (e : End) (line : List EndAct) → SoundToModem s e line
 unfolding SoundToModem Simulates AllSound
-sound_to_modem s e line h prompt offers probes stamps most low high high2 =
+sound_to_modem s e line h offers probes stamps most low high high2 =
     let k = simulates s e line h in
     all_sound s e.n1 (as_line line)
-    (record { lawful = k.lawful; once = k.once; opens_none = k.opens_none; prompt = prompt; commands = k.commands; offers = offers; probes = probes }) stamps most low high high2
+    (record { lawful = k.lawful; once = k.once; commands = k.commands; offers = offers; probes = probes }) stamps most low high high2
+
+pub talks_to_modem : (s : Setting) (e : End) (line : List EndAct) → TalksToModem s e line
+unfolding TalksToModem Simulates TalksInTurn
+talks_to_modem s e line h stamps data_channels = talks_in_turn s e.n1 (as_line line) (simulates s e line h) stamps data_channels
+
+pub finishes_with_modem : (s : Setting) (e : End) (line : List EndAct) → FinishesWithModem s e line
+unfolding FinishesWithModem Simulates FinishesTalk
+finishes_with_modem s e line h d said stamps data_channels =
+    let p = along s e line h in
+    let m = ends.modem_wire line in
+    let one = once_there s e line p d in
+    let few = once_many (is_on Sabm d) (frames_got m) in
+    let got : info_got d (modem_past (as_line line)) ≡ information_got Responder d m =
+    ap (info_got d) (same_modem line) ∙ (acts_got d m ∙ sym ((hears d m one (behind_there s e line p d)).all said.is_open)) in
+    let sent : info_sent d (modem_past (as_line line)) ≡ data_out Responder d m =
+    ap (info_sent d) (same_modem line)
+    ∙ (acts_sent d m ∙ (sym (modem_sent_all e.n1 d m h.modem_lawful.at_station (omega (arith, one, few)) said.is_open) ∙ sym (given_is d m))) in
+    let commands : commands_in (lines (info_got d (modem_past (as_line line)))) ≡ commands_in (lines (information_got Responder d m)) = ap (λ z. commands_in (lines z)) got in
+    let finals : finals_in s.dialect (lines (info_sent d (modem_past (as_line line)))) ≡ finals_in standard (lines (data_out Responder d m)) =
+    ap (λ (x : Dialect). finals_in x (lines (info_sent d (modem_past (as_line line))))) h.codes ∙ ap (λ z. finals_in standard (lines z)) sent in
+    let all = all_answered s e d line p said in
+    finishes_talk s e.n1 (as_line line) (simulates s e line h) d
+    (record {
+      came = ap frames_got (same_modem line) ∙ (said.came ∙ ap (λ (past : List driver.Act). frames_sent (wire past)) (sym (same_driver line)));
+      answered = omega (arith, commands, finals, all);
+    }) stamps data_channels

@@ -15,11 +15,11 @@ use Rattle.show_laws.specs.Lines.{LineAct, captured}
 use Rattle.show_laws.specs.Laws.{AllSound}
 use Rattle.show_laws.proofs.asks.NoneUnasked.{answers_asks}
 use Rattle.show_laws.proofs.lines.JudgedFrames.{turned}
-use Rattle.show_laws.proofs.openings.BothOpen.{both_send_while_open}
+use Rattle.show_laws.proofs.openings.BothOpen.{send_while_open}
 use Rattle.show_laws.proofs.sizes.NoneTooLong.{fits_n1}
 use Rattle.show_laws.proofs.stops.NoneUnstopped.{heeds_stops}
 use Rattle.show_laws.proofs.texts.NoneAstray.{carries_text}
-use Rattle.show_laws.specs.Laws.{AnswersAsks, BothSendWhileOpen, CarriesText, FitsN1, HeedsStops}
+use Rattle.show_laws.specs.Laws.{AnswersAsks, SendWhileOpen, CarriesText, FitsN1, HeedsStops}
 
 abbrev Kept : Rule → List Faults → Type 0
 Kept rule fs = list_any (λ f. breaks f rule) fs ≡ false
@@ -51,10 +51,10 @@ any_order (c ∷ line) =
     ap (map (λ (x : Caught). sound)) (turned c line) ∙ (last_first c (reverse line) ∙ ap (λ (fs : List Faults). sound ∷ fs) (any_order line))
 
 pub all_sound : (s : Setting) (n1 : ℕ) (line : List LineAct) → AllSound s n1 line
-unfolding AllSound AnswersAsks BothSendWhileOpen CarriesText FitsN1 HeedsStops
+unfolding AllSound AnswersAsks SendWhileOpen CarriesText FitsN1 HeedsStops
 all_sound s n1 line h stamps most low high high2 =
     let fs = faults_from most [] (reverse (captured stamps line)) in
-    each_sound fs (answers_asks s n1 line h.lawful stamps most) (both_send_while_open s n1 line h.lawful h.once h.opens_none h.prompt stamps most)
+    each_sound fs (answers_asks s n1 line h.lawful stamps most) (send_while_open s n1 line h.lawful h.once stamps most)
     (heeds_stops s n1 line h.lawful h.once stamps most) (fits_n1 s n1 line h.lawful h.probes stamps most low high high2)
     (carries_text s n1 line h.lawful h.commands h.offers stamps most)
     ∙ (one_each most [] (reverse (captured stamps line)) ∙ any_order (captured stamps line))

@@ -55,7 +55,7 @@ calls_none s d past a none before =
 pub opened_state : (s : Setting) (d : ℕ) (past : List Act) → s.role ≡ Initiator → open_at d (wire past) ≡ false → is_opened (state_of s.role d (wire past)) ≡ false
 opened_state s d past is h = ap (λ (r : Role). is_opened (state_of r d (wire past))) is ∙ (opened_is_open Initiator (wire past) d ∙ h)
 
-opening_state : (s : Setting) (d : ℕ) (past : List Act) → s.role ≡ Initiator → asked_at d (wire past) ≡ false → is_opening (state_of s.role d (wire past)) ≡ false
+pub opening_state : (s : Setting) (d : ℕ) (past : List Act) → s.role ≡ Initiator → asked_at d (wire past) ≡ false → is_opening (state_of s.role d (wire past)) ≡ false
 opening_state s d past is h =
     ap (λ (r : Role). is_opening (state_of r d (wire past))) is ∙ (opening_is_asked d (wire past) ∙ and_left (asked_at d (wire past)) (not (open_at d (wire past))) h)
 

@@ -1,7 +1,8 @@
 -- A connection that was closed, and that was asked for once, is open at neither end any more.
-use Rattle.std.specs.Prelude.{◌≡◌, zero, suc, ℕ, ◌+◌, ◌==◌, ◌≤◌, ◌&&◌, ◌||◌, not, Bool, true, false, List, ◌∷◌, refl}
+use Rattle.std.specs.Prelude.{◌≡◌, zero, suc, ℕ, ◌+◌, ◌==◌, ◌≤◌, ◌&&◌, ◌||◌, not, Bool, true, false, List, [], ◌∷◌, refl}
+use Rattle.std.specs.List.{list_any}
 use Rattle.std.proofs.Common.{ap, arith, sym, ◌∙◌}
-use Rattle.std.proofs.lemmas.Bool.{and_parts, or_from, or_parts}
+use Rattle.std.proofs.lemmas.Bool.{and_left, and_parts, or_from, or_parts}
 use Rattle.mux_frame.specs.Frames.{Frame}
 use Rattle.mux_frame.specs.declared.frame.Kind.TheVariants.{Sabm, Ua, Uih}
 use Rattle.mux_capture.specs.declared.packet.Stamp.{Stamp}
@@ -17,11 +18,11 @@ use Rattle.modem_history.specs.Lawful.{Lawful}
 use Rattle.modem_history.specs.TwoEnds.{AsksOnce, frames_got, frames_sent}
 use Rattle.modem_history.proofs.commands.FramesOnLine.{asked_first}
 use Rattle.modem_history.proofs.commands.SentCommands.{while_open}
-use Rattle.show_laws.specs.Laws.{OpensNothing}
 use Rattle.show_laws.specs.Lines.{AtDriver, AtModem, LineAct, driver_past, modem_past}
+use Rattle.show_laws.specs.Talks.{OpensNothing}
 use Rattle.show_laws.proofs.counts.ManyFrames.{many, unit}
 use Rattle.show_laws.proofs.lines.CapturedFrames.{both_ways, came_few}
-use Rattle.show_laws.proofs.openings.BothOpen.{data_gated, no_sabms}
+use Rattle.show_laws.proofs.openings.BothOpen.{data_gated}
 use Rattle.show_laws.proofs.openings.ClosersBehindSabm.{driver_unclosed, modem_unclosed, unclosed_yet}
 use Rattle.show_laws.proofs.openings.DiscBehindUa.{once_many}
 use Rattle.show_laws.proofs.openings.DriverFollows.{sent_closed}
@@ -54,7 +55,7 @@ second_off : (a b : Bool) → b ≡ false → (a && b) ≡ false
 second_off true b k = k
 second_off false b k = refl
 
-driver_stays : (e : ℕ) (a : driver.Act) (past : List driver.Act) → AsksOnce (wire (a ∷ past)) → 1 ≤ many (is_on Sabm e) (frames_sent (wire past)) → Neither e (wire past) → Neither e (wire (a ∷ past))
+pub driver_stays : (e : ℕ) (a : driver.Act) (past : List driver.Act) → AsksOnce (wire (a ∷ past)) → 1 ≤ many (is_on Sabm e) (frames_sent (wire past)) → Neither e (wire past) → Neither e (wire (a ∷ past))
 driver_stays e (driver.Sent f) past once some n = sent_closed e f (wire past) n.0 n.1 (by_sabm (is_on Sabm e f) refl)
   where
     by_sabm : (b : Bool) → is_on Sabm e f ≡ b → b ≡ false
@@ -110,6 +111,24 @@ ended_stays e (AtModem a) line once h =
     let m = more_passed (closer e) a (modem_past line) in
     let k = h.closed in
     record { asked = h.asked; shut = h.shut; unasked = h.unasked; closed = omega (arith, m, k) }
+
+-- ## A modem that opens none
+
+pub opens_before : (a : station.Act) (past : List station.Act) → OpensNothing (a ∷ past) → OpensNothing past
+opens_before (station.Sent f) past h = (or_parts (is_kind f.kind Sabm) (list_any (λ g. is_kind g.kind Sabm) (frames_sent past)) h).1
+opens_before (station.Called c) past h = h
+opens_before (station.Got f) past h = h
+opens_before station.Tick past h = h
+opens_before station.Lost past h = h
+opens_before station.Given past h = h
+
+pub no_sabms : (e : ℕ) (fs : List Frame) → list_any (λ g. is_kind g.kind Sabm) fs ≡ false → many (is_on Sabm e) fs ≤ 0
+no_sabms e [] h = omega arith
+no_sabms e (f ∷ fs) h =
+    let p = or_parts (is_kind f.kind Sabm) (list_any (λ g. is_kind g.kind Sabm) fs) h in
+    let x : unit (is_on Sabm e f) ≡ 0 = ap unit (and_left (is_kind f.kind Sabm) (f.dlci == e) p.0) in
+    let y = no_sabms e fs p.1 in
+    omega (arith, x, y)
 
 -- ## No data is sent any more
 

@@ -136,7 +136,7 @@ modem_room : (s : Setting) (n1 d : ℕ) (stamps : ℕ → Stamp) (f : Frame) (li
 modem_room s n1 d stamps f line h is same =
     let cs = captured stamps line in
     let seen = shows stamps line in
-    let b = modem_bound s n1 f line h is in
+    let b = modem_bound s n1 f line h is (data_carries f is) in
     let out : commands_in (lines (info_in d (frames_of Initiator cs))) ≡ commands_in (lines (info_in f.dlci (frames_sent (wire (driver_past line))))) =
     ap (λ z. commands_in (lines z)) (ap (λ n. info_in n (frames_of Initiator cs)) (sym same) ∙ ap (info_in f.dlci) seen.driver_frames) in
     let back : finals_in s.dialect (lines (info_in d (frames_of Responder cs) ++ f.info)) ≡ finals_in s.dialect (lines (info_in f.dlci (frames_sent (modem_past line)) ++ f.info)) =
@@ -334,7 +334,7 @@ talks_in_turn s n1 line h stamps data_channels =
 
 -- ## The end
 
-acts_got : (d : ℕ) (past : List station.Act) → info_got d past ≡ info_in d (frames_got past)
+pub acts_got : (d : ℕ) (past : List station.Act) → info_got d past ≡ info_in d (frames_got past)
 acts_got d [] = refl
 acts_got d (station.Got f ∷ past) = ap (λ z. z ++ info_of d f) (acts_got d past)
 acts_got d (station.Sent f ∷ past) = acts_got d past
@@ -343,7 +343,7 @@ acts_got d (station.Tick ∷ past) = acts_got d past
 acts_got d (station.Lost ∷ past) = acts_got d past
 acts_got d (station.Given ∷ past) = acts_got d past
 
-acts_sent : (d : ℕ) (past : List station.Act) → info_sent d past ≡ info_in d (frames_sent past)
+pub acts_sent : (d : ℕ) (past : List station.Act) → info_sent d past ≡ info_in d (frames_sent past)
 acts_sent d [] = refl
 acts_sent d (station.Sent f ∷ past) = ap (λ z. z ++ info_of d f) (acts_sent d past)
 acts_sent d (station.Got f ∷ past) = acts_sent d past

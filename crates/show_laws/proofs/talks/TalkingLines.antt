@@ -10,20 +10,18 @@ use Rattle.mux_frame.specs.declared.frame.Kind.TheVariants.{Sabm, Ua, Dm, Uih}
 use Rattle.mux_capture.specs.declared.packet.Stamp.{Stamp}
 use Rattle.mux_station.specs.declared.role.Role.TheVariants.{Responder}
 use Rattle.mux_station.specs.Acts as station
-use Rattle.mux_station.specs.Messages.{Message, brings_command, brings_response, cld, command_of, message_in, message_of, octet_is, response_of}
-use Rattle.mux_station.specs.Tables.{is_supported}
+use Rattle.mux_station.specs.Messages.{Message, brings_command, brings_response, cld, command_of, message_in, message_of, octet_is}
 use Rattle.mux_station.specs.Written.{is_kind, is_on}
-use Rattle.at_text.specs.Dialects.{Dialect}
 use Rattle.modem_history.specs.Acts as driver
 use Rattle.modem_history.specs.Acts.{wire}
 use Rattle.modem_history.specs.Calls.{Setting}
 use Rattle.modem_history.specs.TwoEnds.{frames_got, frames_sent}
 use Rattle.modem_history.proofs.commands.FramesOnLine.{asked_first, info_in}
-use Rattle.modem_show.specs.Asking.{answers, both_respond, is_answer, is_mode_answer, is_mode_command, message_answers, message_asks, responds}
+use Rattle.modem_show.specs.Asking.{answers, is_answer, is_mode_answer, message_answers}
 use Rattle.modem_show.specs.Talking.{closes_all, is_close, is_turn_on, starts_afresh}
 use Rattle.show_laws.specs.Lines.{AtDriver, AtModem, LineAct, driver_past, modem_past, responding}
-use Rattle.show_laws.specs.Talks.{AnswersCommands, AnswersNoMore, IsTalkingLine}
-use Rattle.show_laws.proofs.asks.AnswerShapes.{is_alike, is_shaped, message_no_mode, one_response, or_elim, response_octet, shaped_message}
+use Rattle.show_laws.specs.Talks.{IsTalkingLine}
+use Rattle.show_laws.proofs.asks.AnswerShapes.{is_alike, is_shaped, or_elim}
 use Rattle.show_laws.proofs.asks.AnswersCalled.{AnyProbe, answers_balanced}
 use Rattle.show_laws.proofs.asks.NoneUnasked.{any_probes, driver_shaped, modem_shaped, self_alike}
 use Rattle.show_laws.proofs.counts.ManyFrames.{many, unit}
@@ -33,13 +31,12 @@ use Rattle.show_laws.proofs.lines.CapturedFrames.{both_ways, came_few}
 use Rattle.show_laws.proofs.lines.EveryFrame.{lawful_before}
 use Rattle.show_laws.proofs.openings.DiscBehindUa.{once_many}
 use Rattle.show_laws.proofs.openings.DriverOpen.{IsOnceLine, none_filtered, once_before}
-use Rattle.show_laws.proofs.openings.ModemFollows.{answer_on, ask_on, uas_fewer}
+use Rattle.show_laws.proofs.openings.ModemAnswers.{answer_on, ask_on, uas_fewer}
 use Rattle.show_laws.proofs.openings.ModemOpen.{asks_parts}
-use Rattle.show_laws.proofs.openings.ResponderCalls.{answer_balanced, is_down}
-use Rattle.show_laws.proofs.openings.BothOpen.{no_sabms, opens_before}
+use Rattle.show_laws.proofs.openings.ResponderCalls.{answer_balanced, down_answers, is_down}
 use Rattle.show_laws.proofs.openings.ModeAnswers.{is_ending}
 use Rattle.show_laws.proofs.openings.ModemCloses.{clds_closed, discs_closed}
-use Rattle.show_laws.proofs.talks.EndedLines.{IsEnded, driver_ended, modem_ended}
+use Rattle.show_laws.proofs.talks.EndedLines.{IsEnded, driver_ended, modem_ended, no_sabms, opens_before}
 use Rattle.show_laws.proofs.talks.SilentChannels.{Under, UnderM, before_sabm, before_sabm_m, before_ua, before_ua_m}
 use Rattle.show_laws.proofs.texts.NoneAstray.{commands_before}
 
@@ -63,53 +60,9 @@ talking_before s n1 (AtModem a) line h = record {
   answers = h.answers.1;
 }
 
-pub answers_now : (dialect : Dialect) (past : List station.Act) → AnswersCommands dialect past → AnswersNoMore dialect past
-answers_now dialect [] h = λ d. omega arith
-answers_now dialect (a ∷ past) h = h.0
-
 -- ## Answers to what wasn't sent
 
--- the response to a CLD answers a CLD alone
-down_answers : (x f : Frame) → is_shaped f ≡ true → brings_response cld f ≡ true → answers x f ≡ true → brings_command cld x ≡ true
-down_answers x f shape down h =
-    or_elim ((is_mode_command x && is_mode_answer f) && (x.dlci == f.dlci)) (both_respond (message_in x) (message_in f)) h
-    (λ k.
-    let q = (and_parts (is_mode_command x) (is_mode_answer f) (and_parts (is_mode_command x && is_mode_answer f) (x.dlci == f.dlci) k).0).1 in
-    absurd (no_mode (message_in f) refl q there))
-    (λ k. by_read (message_in x) (message_in f) refl refl there shape k)
-  where
-    there : octet_is command_of cld (message_in f) ≡ true
-    there =
-        let p = and_parts (is_on Uih 0 f) (octet_is command_of cld (message_of f.info)) down in
-        ap (λ (b : Bool). octet_is command_of cld (if b then message_of f.info else None)) p.0 ∙ p.1
-
-    no_mode : (o : Option Message) → message_in f ≡ o → is_mode_answer f ≡ true → octet_is command_of cld o ≡ true → ⊥
-    no_mode None e m k = cc
-    no_mode (Some n) e m k = let t : true ≡ false = sym m ∙ (message_no_mode f n e).1 in cc
-
-    brought : (m : Message) → message_in x ≡ Some m → (m.octet == cld) ≡ true → brings_command cld x ≡ true
-    brought m e k = by_on (is_on Uih 0 x) refl e
-      where
-        by_on : (b : Bool) → is_on Uih 0 x ≡ b → (if b then message_of x.info else None) ≡ Some m → (b && octet_is (λ n. n) cld (message_of x.info)) ≡ true
-        by_on true on r = ap (octet_is (λ n. n) cld) r ∙ k
-        by_on false on r = cc
-
-    by_read : (o p : Option Message) → message_in x ≡ o → message_in f ≡ p → octet_is command_of cld p ≡ true → shaped_message p ≡ true → both_respond o p ≡ true → brings_command cld x ≡ true
-    by_read None p e g c sh k = cc
-    by_read (Some a) None e g c sh k = cc
-    by_read (Some a) (Some n) e g c sh k =
-        let q = and_parts (message_asks (Some a)) (responds a n) k in
-        let one = one_response a n q.0 sh q.1 in
-        brought a e (octet_back (is_supported a.octet) a.octet n.octet refl one.0 c)
-      where
-        octet_back : (b : Bool) (o m : ℕ) → is_supported o ≡ b → m ≡ response_octet b o → (command_of m == cld) ≡ true → (o == cld) ≡ true
-        octet_back true o m s e c = same o (eqb-true (command_of m) cld c) e
-          where
-            same : (o : ℕ) → command_of m ≡ cld → m ≡ response_of o → (o == cld) ≡ true
-            same o c e = let z : o ≡ cld = omega (arith, c, e) in ap (λ n. n == cld) z
-        octet_back false o m s e c = let z : true ≡ false = sym c ∙ ap (λ n. command_of n == cld) e in cc
-
-down_is_answer : (f : Frame) → brings_response cld f ≡ true → is_answer f ≡ true
+pub down_is_answer : (f : Frame) → brings_response cld f ≡ true → is_answer f ≡ true
 down_is_answer f down = or_right (is_mode_answer f) (message_answers (message_in f)) (by_read (message_in f) there)
   where
     there : octet_is command_of cld (message_in f) ≡ true

@@ -7,7 +7,7 @@ use Rattle.mux_frame.specs.declared.frame.Kind.TheVariants.{Sabm}
 use Rattle.mux_station.specs.declared.role.Role.{Role}
 use Rattle.mux_station.specs.declared.role.Role.TheVariants.{Initiator, Responder}
 use Rattle.mux_station.specs.Acts as station
-use Rattle.mux_station.specs.Offering.{data_out, offered}
+use Rattle.mux_station.specs.Offering.{data_out}
 use Rattle.mux_station.specs.Opening.{is_open}
 use Rattle.mux_station.specs.Written.{is_data_frame, is_on}
 use Rattle.at_text.specs.Lines.{lines}
@@ -30,7 +30,7 @@ use Rattle.modem_history.proofs.commands.SentCommands.{are_lines, asks_of, sent_
 use Rattle.modem_history.proofs.commands.SentPrefixes.{when_true}
 use Rattle.modem_history.proofs.commands.TextCounts.{texts_filled}
 use Rattle.modem_history.proofs.commands.WholeTexts.{whole_reached}
-use Rattle.modem_history.proofs.connections.InformationGrowth.{sent_grows}
+use Rattle.modem_history.proofs.connections.InformationGrowth.{got_same, sent_grows}
 use Rattle.modem_history.proofs.lines.LinePlaces.{placed_lines}
 use Rattle.modem_history.proofs.lines.MarkPlaces.{are_placed}
 use Rattle.show_laws.specs.Lines.{AtDriver, AtModem, LineAct, driver_past, modem_past}
@@ -41,7 +41,7 @@ use Rattle.show_laws.proofs.openings.BothOpen as modem_data
 use Rattle.show_laws.proofs.openings.DiscBehindUa.{once_many}
 use Rattle.show_laws.proofs.talks.CountedLines.{answered_few, commands_few, commands_first, finals_first}
 use Rattle.show_laws.proofs.talks.SentText.{driver_got_all, given_is, modem_sent_all}
-use Rattle.show_laws.proofs.talks.TalkingLines.{answers_now, talking_before}
+use Rattle.show_laws.proofs.talks.TalkingLines.{talking_before}
 
 asked_line : (s : Setting) (n1 : ℕ) (line : List LineAct) → IsTalkingLine s n1 line → IsOnceLine s n1 line
 asked_line s n1 line h = record { lawful = h.lawful; once = h.once }
@@ -63,10 +63,6 @@ turns : (s : Setting) (past : List driver.Act) (f : Frame) → Lawful s (driver.
     → reached_in (length (information_out s.role f.dlci past ++ f.info)) (texts (accepted s.role f.dlci past)) ≤ answered s.dialect (marks s.role f.dlci past) + 1
 unfolding Lawful
 turns s past f l is = leb-true (reached_in (length (information_out s.role f.dlci past ++ f.info)) (texts (accepted s.role f.dlci past))) (answered s.dialect (marks s.role f.dlci past) + 1) (when_true (is_data_frame f) is l.0.in_turn)
-
-before_it : (s : Setting) (a : driver.Act) (past : List driver.Act) → Lawful s (a ∷ past) → Lawful s past
-unfolding Lawful
-before_it s a past l = l.1
 
 few_taken : {X : Type 0} → (n : ℕ) (xs : List X) → length (take n xs) ≤ n
 few_taken n xs = let e = length-take n xs in least n (length xs) (length (take n xs)) e
@@ -136,9 +132,9 @@ driver_bound s n1 f line h is carry =
 
 -- ## The modem
 
-pub modem_bound : (s : Setting) (n1 : ℕ) (f : Frame) (line : List LineAct) → IsTalkingLine s n1 (AtModem (station.Sent f) ∷ line) → is_data_frame f ≡ true
+pub modem_bound : (s : Setting) (n1 : ℕ) (f : Frame) (line : List LineAct) → IsTalkingLine s n1 (AtModem (station.Sent f) ∷ line) → is_data_frame f ≡ true → carries f.dlci f ≡ true
     → finals_in s.dialect (lines (info_in f.dlci (frames_sent (modem_past line)) ++ f.info)) ≤ commands_in (lines (info_in f.dlci (frames_sent (wire (driver_past line)))))
-modem_bound s n1 f line h is =
+modem_bound s n1 f line h is carry =
     let d = f.dlci in
     let past = modem_past line in
     let p = wire (driver_past line) in
@@ -148,14 +144,20 @@ modem_bound s n1 f line h is =
     let once = h.once d in
     let many_sent = once_many (is_on Sabm d) (frames_sent p) in
     let came = came_few (is_on Sabm d) p past there in
-    let sent : data_out Responder d past ≡ info_in d (frames_sent past) = given_is d past ∙ modem_sent_all n1 d past k.lawful.modem_lawful (omega (arith, once, many_sent, came)) gated.is_open in
-    let all : IsPrefixOf (info_in d (frames_sent past) ++ f.info) (offered Responder d past) =
-    record { rest = gated.later; joins = ap (λ z. z ++ f.info ++ gated.later) (sym sent) ∙ sym gated.is_offered } in
-    let few = finals_first s.dialect (info_in d (frames_sent past) ++ f.info) (offered Responder d past) all in
-    let answers = answers_now s.dialect past k.answers d in
+    let open_there : (carries d f && is_open Responder d past) ≡ true = ap (λ (b : Bool). b && is_open Responder d past) carry ∙ gated.is_open in
+    let sent : data_out Responder d (station.Sent f ∷ past) ≡ info_in d (frames_sent past) ++ f.info =
+    given_is d (station.Sent f ∷ past)
+    ∙ (sent_grows Responder d past f
+    ∙ (ap (λ (b : Bool). if b then information_sent Responder d past ++ f.info else information_sent Responder d past) open_there
+    ∙ ap (λ z. z ++ f.info) (modem_sent_all n1 d past k.lawful.modem_lawful (omega (arith, once, many_sent, came)) gated.is_open))) in
+    let out : finals_in s.dialect (lines (data_out Responder d (station.Sent f ∷ past))) ≡ finals_in s.dialect (lines (info_in d (frames_sent past) ++ f.info)) =
+    ap (λ z. finals_in s.dialect (lines z)) sent in
+    let answers = h.answers.0 d in
+    let still : commands_in (lines (information_got Responder d (station.Sent f ∷ past))) ≡ commands_in (lines (information_got Responder d past)) =
+    ap (λ z. commands_in (lines z)) (got_same Responder d past (station.Sent f) refl) in
     let one = asks_older d there.later (frames_got past) (subst (λ (fs : List Frame). AsksOne d fs) there.sent_are (h.once d)) in
     let behind = behind_older d there.later (frames_got past) (subst (λ fs. ComesBehind d fs) there.sent_are (sent_behind d p (h.once d) (while_open s (driver_past line) k.lawful.is_initiator k.lawful.driver_lawful))) in
     let got : commands_in (lines (information_got Responder d past)) ≡ commands_in (lines (info_in d (frames_got past))) = ap (λ z. commands_in (lines z)) ((hears d past one behind).all gated.is_open) in
     let first = commands_first (info_in d (frames_got past)) (info_in d (frames_sent p))
     (same_first (info_in d (frames_got past)) (info_in d (there.later ++ frames_got past)) (info_in d (frames_sent p)) (sym (ap (info_in d) there.sent_are)) (first_info d there.later (frames_got past))) in
-    omega (arith, few, answers, got, first)
+    omega (arith, out, answers, still, got, first)
