@@ -76,6 +76,7 @@ ended_by said c p (Some (fault.NoCapture kind)) k s = tt
 ended_by said c p (Some fault.Silent) k s = tt
 ended_by said c p (Some fault.Capture) k s = tt
 ended_by said c p (Some fault.Data) k s = tt
+ended_by said c p (Some fault.Unwritten) k s = tt
 
 -- a fault that was told
 other_fault : (said : Progress) (p : PlanView) (f : DriveFault) → IsToldFault (Some f) → SaysBy said p (Some f)
@@ -95,6 +96,7 @@ other_fault said p (fault.NoCapture kind) n = tt
 other_fault said p fault.Silent n = tt
 other_fault said p fault.Capture n = tt
 other_fault said p fault.Data n = tt
+other_fault said p fault.Unwritten n = tt
 
 pub said_otherwise : (said : Progress) (p : PlanView) (f : DriveFault) (end : Option DriveFault) → went.Ends (Some f) ≡ went.Ends end → IsToldFault (Some f) → SaysBy said p end
 said_otherwise said p f end e n = let same : Some f ≡ end = cc in subst (SaysBy said p) same (other_fault said p f n)

@@ -57,7 +57,7 @@ drove_device b rules text n1 line before after silent said r same h =
 -- ## The status
 
 -- a status other than 1 is that of no fault, and says whether a line was bad
-by_status : (end : Option DriveFault) (was_bad : Bool) (n : ℕ) → n ≡ driven_status end was_bad → n ≢ 1 → (end ≡ None) × ((n == 2) ≡ was_bad)
+pub by_status : (end : Option DriveFault) (was_bad : Bool) (n : ℕ) → n ≡ driven_status end was_bad → n ≢ 1 → (end ≡ None) × ((n == 2) ≡ was_bad)
 by_status (Some why) was_bad n is other = absurd (other is)
 by_status None true n is other = (refl, ap (λ (k : ℕ). k == 2) is)
 by_status None false n is other = (refl, ap (λ (k : ℕ). k == 2) is)
@@ -110,7 +110,7 @@ ran_badly device capture silent named said (Err why) n names s is one = refused 
 ran_badly device capture silent named said (Ok d) n names s is one = ended_badly device capture silent named said d d.fault d.was_bad n s names s.why is one
 
 -- with the path of the capture, where the settings name one
-capture_is : (given : Option (Bor (List ℕ))) (other : Bor (List ℕ)) → other.now ≡ [] → (unwrap_or given other).now ≡ capture_path given
+pub capture_is : (given : Option (Bor (List ℕ))) (other : Bor (List ℕ)) → other.now ≡ [] → (unwrap_or given other).now ≡ capture_path given
 capture_is None other none = none
 capture_is (Some path) other none = refl
 

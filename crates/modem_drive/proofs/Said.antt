@@ -34,7 +34,7 @@ bad_last place n (l ∷ lines) (b ∷ bad) line why at (AreBadFrom.bad_next _ _ 
     AreBadFrom.bad_next place l w (lines ++ line ∷ []) (bad ++ record { place = n; why = why } ∷ []) g (bad_last (place + 1) n lines bad line why (omega (arith, at)) h is)
 
 -- another text
-said_last : (a b c : Option (List ℕ)) (texts : List (List ℕ)) (text : List ℕ) → AreSaid a b texts → IsBegun b c text → AreSaid a c (texts ++ text ∷ [])
+pub said_last : (a b c : Option (List ℕ)) (texts : List (List ℕ)) (text : List ℕ) → AreSaid a b texts → IsBegun b c text → AreSaid a c (texts ++ text ∷ [])
 said_last a b c [] text (AreSaid.said_none _) begun = AreSaid.said_next a c c text [] begun (AreSaid.said_none c)
 said_last a b c (t ∷ texts) text (AreSaid.said_next _ between _ _ _ first h) begun = AreSaid.said_next a between c t (texts ++ text ∷ []) first (said_last between b c texts text h begun)
 

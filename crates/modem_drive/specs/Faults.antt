@@ -44,6 +44,7 @@ fault_words fault.Silent =
 fault_words (fault.NoCapture why) = codes "fault: the capture can't be made"
 fault_words fault.Capture = codes "fault: capture"
 fault_words fault.Data = codes "fault: at most 8 connections carry data, each named once, and not 0"
+fault_words fault.Unwritten = codes "fault: what came on a connection that carries data wasn't all written to its file"
 fault_words (fault.GaveUp why) = give_up_words why
 
 -- the whole text of a fault, where the system has no part in it
@@ -63,6 +64,7 @@ fault_text fault.HungUp = Some (fault_words fault.HungUp)
 fault_text fault.Silent = Some (fault_words fault.Silent)
 fault_text fault.Capture = Some (fault_words fault.Capture)
 fault_text fault.Data = Some (fault_words fault.Data)
+fault_text fault.Unwritten = Some (fault_words fault.Unwritten)
 fault_text (fault.GaveUp why) = Some (give_up_words why)
 
 -- how the line begins that names the path of a file too, up to the path, where the fault concerns one
@@ -82,4 +84,5 @@ fault_head fault.HungUp = None
 fault_head fault.Silent = None
 fault_head fault.Capture = None
 fault_head fault.Data = None
+fault_head fault.Unwritten = None
 fault_head (fault.GaveUp why) = None

@@ -14,4 +14,6 @@ pub mod Running
 pub mod DataDrive
 pub mod CapturedLine
 pub mod OnDevice
+pub mod FileEnds
+pub mod DataDevice
 pub mod DeskRun

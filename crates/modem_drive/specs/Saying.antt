@@ -119,6 +119,7 @@ path_for device capture fault.HungUp = device
 path_for device capture fault.Silent = device
 path_for device capture fault.Capture = device
 path_for device capture fault.Data = device
+path_for device capture fault.Unwritten = device
 path_for device capture (fault.GaveUp cause) = device
 
 -- the line of this fault was given to the writer

@@ -6,7 +6,7 @@ ghost use Rattle.serial_line.specs.declared.stream_line.ZeroRead.TheVariants.{En
 use crate::fault::DriveFault;
 use crate::results::beside;
 use bell::Bell;
-use device_line::{DeviceLine, RingReader, RingWriter, drain, leave, line_over, pump};
+use device_line::{DeviceLine, FlowEnd, RingReader, RingWriter, drain, leave, line_over, pump};
 use rtrb::{Consumer, Producer, RingBuffer};
 use serial_line::ZeroRead;
 use std::alloc::{AllocError, AllocGlobal, Global};
@@ -19,8 +19,8 @@ use std::thread::{SpawnError, Threads};
 /// Octets that a ring has room for.
 const ROOM: usize = 65536;
 
-/// A bell by which a thread is told to end. The thread is told once this is dropped, and ends as soon as the call in which it waits
-/// comes back.
+/// A bell by which a thread is told to end, and a thread that writes says that it is through. The thread is told once this is dropped, and
+/// ends as soon as the call in which it waits comes back.
 pub struct StopBell {
     own: Bell,
 }
@@ -30,6 +30,12 @@ impl StopBell {
     fn new(alloc: Global) -> Result<StopBell, AllocError> {
         let own = Bell::new(alloc)?;
         Ok(StopBell { own })
+    }
+
+    /// Whether the thread said that it is through. It is rung, so that it looks.
+    fn is_through(&self) -> bool {
+        self.own.ring();
+        self.own.is_over()
     }
 
     /// The thread's share.
@@ -50,6 +56,13 @@ impl Drop for StopBell {
 pub struct DeviceThreads {
     reading: StopBell,
     writing: StopBell,
+}
+
+impl DeviceThreads {
+    /// Whether all that was put into the ring is written to the device, once the ring's writer is dropped.
+    pub fn are_through(&self) -> bool {
+        self.writing.is_through()
+    }
 }
 
 /// A thread that was spawned. Generic, because proving the drop for a concrete closure is slow.
@@ -132,7 +145,9 @@ where
     let mut output = output;
     let mut ring = ring;
     spawned(thread::spawn(rt, move || {
-        let _ = drain(&rt_there, &mut output, &mut ring, &shares.bell, &shares.own);
+        if drain(&rt_there, &mut output, &mut ring, &shares.bell, &shares.own) == FlowEnd::Ended {
+            shares.own.end();
+        }
         leave(ring, &shares.bell);
     }))
 }

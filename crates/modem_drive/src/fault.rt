@@ -71,6 +71,8 @@ pub enum DriveFault {
     Capture,
     /// More than 8 connections are to carry data, one of them is 0, or one is named twice.
     Data,
+    /// What came on a connection wasn't all written to its file.
+    Unwritten,
     /// It didn't come to its end.
     GaveUp(GiveUp),
 }
@@ -113,6 +115,9 @@ impl DriveFault {
             DriveFault::Capture => "fault: capture",
             DriveFault::Data => {
                 "fault: at most 8 connections carry data, each named once, and not 0"
+            }
+            DriveFault::Unwritten => {
+                "fault: what came on a connection that carries data wasn't all written to its file"
             }
             DriveFault::GaveUp(why) => why.words(),
         }

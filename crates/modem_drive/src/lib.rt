@@ -7,7 +7,8 @@
 //! # Layout
 //!
 //! - `on_device`, `device`, `settings`, `patience`: from a device's path to its status; its threads.
-//! - `data_drive`: one with files beside connections that carry data.
+//! - `data_device`, `data_drive`: one with files beside connections that carry data. `file_threads`, `file_ending`, `file_saying`: the
+//!   threads of these files, their end, and what is said of it.
 //! - `running`, `driving`, `ending`, `fault`: a drive over any line. `users`, `plan`, `queues`, `turns`, `channels`,
 //!   `input`: what it asks.
 //! - `showing`, `pieces`, `saying`, `results`: what it prints. `captured_line`: what it captures.
@@ -16,11 +17,15 @@
 
 mod captured_line;
 mod channels;
+mod data_device;
 mod data_drive;
 mod device;
 mod driving;
 mod ending;
 mod fault;
+mod file_ending;
+mod file_saying;
+mod file_threads;
 mod input;
 pub mod laws;
 mod on_device;
@@ -36,8 +41,9 @@ mod showing;
 mod turns;
 mod users;
 
+pub use data_device::drive_data_run;
 pub use data_drive::drive_data_over;
 pub use fault::{DriveFault, GiveUp};
 pub use on_device::{drive_run, drive_threaded};
 pub use running::{Driven, drive_over};
-pub use settings::Settings;
+pub use settings::{DataPath, Settings};

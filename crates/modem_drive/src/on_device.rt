@@ -28,7 +28,7 @@ use std::thread::Threads;
 
 /// The device of this path, opened for reading and for writing. A regular file is refused with NotSetUp before it is opened for
 /// writing.
-fn open_device<R: Files<File = File>>(rt: &R, path: &str) -> Result<(File, File), DriveFault> {
+pub fn open_device<R: Files<File = File>>(rt: &R, path: &str) -> Result<(File, File), DriveFault> {
     let reader = match File::open(rt, path) {
         Ok(reader) => reader,
         Err(error) => return Err(DriveFault::NoDevice(error.kind())),
@@ -68,14 +68,14 @@ fn open_capture<R: Files<File = File>>(
 
 /// What a drive needs before it begins.
 #[derive(Drop)]
-struct Opened {
-    reader: File,
-    writer: File,
-    capture: Option<Capture<File>>,
+pub struct Opened {
+    pub reader: File,
+    pub writer: File,
+    pub capture: Option<Capture<File>>,
 }
 
 /// The device, and the capture where the settings name a file.
-fn open_all<R: Files<File = File>>(
+pub fn open_all<R: Files<File = File>>(
     rt: &R,
     alloc: Global,
     path: &str,
@@ -134,7 +134,7 @@ fn fault_with(fault: Option<DriveFault>, has_failed: bool) -> Option<DriveFault>
 }
 
 /// What a drive on a line with a capture came to.
-fn judge_capture<L: SerialLine + Drop, K: Clock + Drop, C: Write + Drop>(
+pub fn judge_capture<L: SerialLine + Drop, K: Clock + Drop, C: Write + Drop>(
     ended: (CapturedLine<L, K, C>, Driven),
 ) -> Driven
     ensures fault { result.fault ≡ None → (ended.1.fault ≡ None) × (ended.0.capture.failed ≡ false) }
@@ -224,16 +224,16 @@ where
 }
 
 /// The line of a device and the input, by threads that are told to end once `threads` and `input_stop` are dropped.
-struct Threaded {
-    line: DeviceLine,
-    input: RingReader,
-    threads: DeviceThreads,
-    input_stop: StopBell,
+pub struct Threaded {
+    pub line: DeviceLine,
+    pub input: RingReader,
+    pub threads: DeviceThreads,
+    pub input_stop: StopBell,
 }
 
 /// Has threads read the input, read the device and write it. Refused where one of them can't be started: the others are told to end, and
 /// nothing is written to the device.
-fn start_threads<R, D, O, I>(
+pub fn start_threads<R, D, O, I>(
     rt: &R,
     device: (D, O),
     input: I,

@@ -35,6 +35,16 @@ pub struct Settings<'a> {
     pub capture: Option<&'a str>,
 }
 
+/// A connection that carries data, and the file beside it.
+#[derive(Clone, Copy)]
+pub struct DataPath<'a> {
+    pub dlci: Dlci,
+    /// Whether its data begins behind a CONNECT line, not at once.
+    pub by_connect: bool,
+    /// The path of a terminal, set up as a modem's is. It is opened for reading and for writing.
+    pub path: &'a str,
+}
+
 /// How long a connection may be without an answer to its command.
 pub fn quiet_time(given: Option<Duration>) -> Duration
     ensures given { IfSome given (λ time. result ≡ time) }

@@ -1,6 +1,6 @@
 -- What is shown of the files that the words name.
-use Rattle.std.specs.Prelude.{◌≡◌, ◌⊎◌, ℕ, Bool, List, [], ◌++◌, ◌==◌, map, Option, None, Some, codes, option_map, refl, true, if◌then◌else◌}
-use Rattle.std.proofs.Common.{ap, sym, ◌∙◌, subst, inl, inr}
+use Rattle.std.specs.Prelude.{◌≡◌, ℕ, Bool, List, [], ◌==◌, map, Option, None, Some, codes, option_map, refl, true, if◌then◌else◌}
+use Rattle.std.proofs.Common.{ap, sym, ◌∙◌, subst, inr}
 use Rattle.std.specs.Fmt.{decimal}
 use Rattle.std.specs.Io.Buffered.{reader_buffer, reader_capacity, reader_inner, reader_remaining}
 use Rattle.std.specs.Io.KnownBytes.{prepend_known}
@@ -9,19 +9,18 @@ use Rattle.std.specs.declared.io.ErrorKind.{ErrorKind}
 use Rattle.clap.specs.Words.{Text, first_value, found_of, matched_of, one_text, raw_values}
 use Rattle.clap.specs.declared.ArgMatches.{ArgMatches}
 use Rattle.mux_frame.specs.declared.dlci.Dlci.{Dlci}
-use Rattle.modem_runs.specs.Statuses.{status_of, stop_line}
+use Rattle.modem_runs.specs.Statuses.{stop_line}
 use Rattle.modem_runs.specs.declared.stop.Stop.TheVariants as Stop
 use Rattle.modem_runs.proofs.outputs.SaidLines.{begun_line}
 use Rattle.modem_texts.specs.Writing.{IsBegun}
 use Rattle.show_texts.specs.Captures.{HasShown, SaysFault}
 use Rattle.show_texts.specs.Merging.{HasShownUntimed}
-use Rattle.show_texts.specs.Options.{setting_by}
 use Rattle.show_texts.specs.Telling.{Setting}
 use Rattle.show_texts.specs.declared.run.ShowOptions.{ShowOptions}
 use Rattle.modemctl.specs.Benches.{IsFlag}
 use Rattle.modemctl.specs.Dialects.{IsGivenDialect}
 use Rattle.modemctl.specs.Files.{IsNoText, SaysWhy}
-use Rattle.modemctl.specs.Shows.{AreChannels, AreWantedBy, NamesUnread, SaysUnread, SaysUnreadOf, SaysUnshown, ShowsFiles, ShowsWith, closed, cut, no_memory}
+use Rattle.modemctl.specs.Shows.{AreChannels, AreWantedBy, SaysUnread, SaysUnreadOf, SaysUnshown, ShowsFiles, ShowsWith, closed, cut, no_memory}
 use Rattle.modemctl.specs.declared.words.file_faults.FileFault.TheVariants as FileFault
 
 -- ## The connections of data

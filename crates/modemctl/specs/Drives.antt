@@ -1,16 +1,44 @@
 -- What the program prints at `drive`.
-use Rattle.std.specs.Prelude.{ℕ, Bool, List, Option, codes, is_some}
-use Rattle.clap.specs.Words.{Row, Text, first_value, found_of}
+use Rattle.std.specs.Prelude.{◌≡◌, ℕ, Bool, List, [], ◌∷◌, ◌++◌, All, Option, None, Some, codes, is_some, map, option_map}
+use Rattle.std.specs.Fmt.{decimal}
+use Rattle.clap.specs.Words.{Row, Text, first_value, found_of, matched_of, raw_values}
 use Rattle.clap.specs.declared.ArgMatches.{ArgMatches}
 use Rattle.at_text.specs.Rules.{Rules}
+use Rattle.modem_drive.specs.DataDevice.{RanFiles, opened_files}
 use Rattle.modem_drive.specs.Entry.{entry_for}
 use Rattle.modem_drive.specs.OnDevice.{RanDevice}
+use Rattle.modem_drive.specs.declared.settings.DataPath.{DataPath}
 use Rattle.modemctl.specs.Dialects.{IsGivenDialect}
-use Rattle.modemctl.specs.Words.{IsGiven, raw_in}
+use Rattle.modemctl.specs.Shows.{all_in}
+use Rattle.modemctl.specs.Words.{IsGiven, is_set, raw_in}
 
--- a device was driven without a fault, with the N1 of the words and the codes of their dialect, and entered by their text, or by
--- that of this N1 where they give none; this was printed, and where they name a file for a capture it was captured. It is given whether a
--- line was bad, and what stood beside the output before and stands there since.
+-- a connection and the path of the file beside it: D=PATH
+abbrev pub data_path_text : DataPath → Text
+data_path_text p = decimal p.dlci.number ++ 61 ∷ p.path.now
+
+-- connections with files, by their texts; the data of each begins behind a CONNECT line, or at once; none where there are no texts
+abbrev pub AreDataPaths : Option (List Text) → (by_connect : Bool) → List DataPath → Type 0
+AreDataPaths None by_connect data_paths = data_paths ≡ []
+AreDataPaths (Some texts) by_connect data_paths =
+    (texts ≡ map (λ p. data_path_text p) data_paths) × All (λ p. p.by_connect ≡ by_connect) data_paths
+
+-- a device was driven without a fault, with these files beside connections, if there are any
+abbrev pub RanBy : List DataPath → (captures : Bool) (rules : Rules) (text : List ℕ) (n1 : ℕ) (before after silent said : Option (List ℕ))
+    (was_bad : Bool) → Type 0
+RanBy [] captures rules text n1 before after silent said was_bad = RanDevice captures rules text n1 before after silent said was_bad
+RanBy (p ∷ more) captures rules text n1 before after silent said was_bad =
+    RanFiles captures rules text n1 (opened_files (p ∷ more)) before after silent said was_bad
+
+-- the same with the files that these texts give
+pub record RanGiven (texts : Option (List Text)) (by_connect : Bool) (captures : Bool) (rules : Rules) (text : List ℕ) (n1 : ℕ)
+    (before after silent said : Option (List ℕ)) (was_bad : Bool) : Type 0 where
+  pub data_paths : List DataPath
+  pub given : AreDataPaths texts by_connect data_paths
+  pub ran : RanBy data_paths captures rules text n1 before after silent said was_bad
+
+-- a device was driven without a fault, with the N1 of the words, the codes of their dialect, and the files that they name beside
+-- connections, and entered by their text, or by that of this N1 where they give none; this was printed, and where they name a file for
+-- a capture it was captured. It is given whether a line was bad, and what stood beside the output before and stands there since.
 pub record PrintsDrive (texts : Text → Option (List ℕ)) (met : Option (Text × List Row)) (before after silent said : Option (List ℕ))
     (was_bad : Bool) : Type 0 where
   pub n1 : ℕ
@@ -18,14 +46,21 @@ pub record PrintsDrive (texts : Text → Option (List ℕ)) (met : Option (Text 
   pub rules : Rules
   pub named : IsGivenDialect texts (raw_in met (codes "dialect")) rules
   pub drove :
-      RanDevice (is_some (raw_in met (codes "capture"))) rules (entry_for (raw_in met (codes "entry")) n1) n1 before after silent said
-      was_bad
+      RanGiven (all_in met (codes "data")) (is_set (raw_in met (codes "arm"))) (is_some (raw_in met (codes "capture"))) rules
+      (entry_for (raw_in met (codes "entry")) n1) n1 before after silent said was_bad
 
--- a device was driven so, with the options that the matches of the subcommand have
+-- a device was driven so, with the files that the matches of the subcommand have
+abbrev pub RanWith : (m : ArgMatches) (captures : Bool) (rules : Rules) (text : List ℕ) (n1 : ℕ)
+    (before after silent said : Option (List ℕ)) (was_bad : Bool) → Type 0
+RanWith m captures rules text n1 before after silent said was_bad =
+    RanGiven (option_map raw_values (matched_of (found_of m) (codes "data"))) (is_set (first_value (found_of m) (codes "arm"))) captures
+    rules text n1 before after silent said was_bad
+
+-- and with the other options that they have
 pub record DrivesWith (texts : Text → Option (List ℕ)) (n1 : ℕ) (m : ArgMatches) (before after silent said : Option (List ℕ))
     (was_bad : Bool) : Type 0 where
   pub rules : Rules
   pub named : IsGivenDialect texts (first_value (found_of m) (codes "dialect")) rules
   pub drove :
-      RanDevice (is_some (first_value (found_of m) (codes "capture"))) rules
+      RanWith m (is_some (first_value (found_of m) (codes "capture"))) rules
       (entry_for (first_value (found_of m) (codes "entry")) n1) n1 before after silent said was_bad

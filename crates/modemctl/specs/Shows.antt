@@ -4,7 +4,6 @@ use Rattle.std.specs.Fmt.{decimal}
 use Rattle.std.specs.declared.io.ErrorKind.{ErrorKind}
 use Rattle.clap.specs.Words.{Row, Text, all_of, first_value, found_of, matched_of, one_text, raw_values}
 use Rattle.clap.specs.declared.ArgMatches.{ArgMatches}
-use Rattle.at_text.specs.Rules.{Rules}
 use Rattle.mux_frame.specs.declared.dlci.Dlci.{Dlci}
 use Rattle.modem_runs.specs.Statuses.{stop_line}
 use Rattle.modem_runs.specs.declared.stop.Stop.TheVariants as Stop

@@ -133,6 +133,14 @@ quiet_rule = record (new_rule (codes "quiet-for")) {
 abbrev pub entry_rule : Rule
 entry_rule = record (new_rule (codes "entry")) { long = Some (codes "entry"); action = Some Set; value_names = 1 }
 
+-- the option `--data` of a drive: a text, as often as is wanted
+abbrev pub data_path_rule : Rule
+data_path_rule = record (new_rule (codes "data")) { long = Some (codes "data"); action = Some Append; value_names = 1 }
+
+-- the option `--arm`, which has no value
+abbrev pub arm_rule : Rule
+arm_rule = record (new_rule (codes "arm")) { long = Some (codes "arm"); action = Some SetTrue }
+
 -- the device, a word that has to be there
 abbrev pub device_rule : Rule
 device_rule = record (new_rule (codes "device")) { action = Some Set; value_names = 1; required = true }
@@ -141,7 +149,11 @@ device_rule = record (new_rule (codes "device")) { action = Some Set; value_name
 abbrev pub drive_app : App
 drive_app =
     with_rule
+    (with_rule
+    (with_rule
     (with_rule (with_rule (with_rule (with_rule (with_rule (subcommand_app (codes "drive")) tick_rule) quiet_rule) entry_rule) dialect_rule) capture_rule)
+    data_path_rule)
+    arm_rule)
     device_rule
 
 -- the same with a drive

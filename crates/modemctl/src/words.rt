@@ -19,6 +19,7 @@ ghost use Rattle.modemctl.specs.Words.{fault_in, met_in, raw_in, AreFor, AsksNoH
 
 mod answers;
 mod commands;
+mod data_paths;
 mod dialects;
 mod driving;
 mod file_faults;

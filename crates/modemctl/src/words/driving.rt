@@ -1,11 +1,13 @@
 //! The words of a drive.
-ghost use Rattle.std.specs.Prelude.{◌≡◌, ◌<◌, ◌≤◌, ◌⊎◌, IfOk, codes, false, true};
+ghost use Rattle.std.specs.Prelude.{◌≡◌, ◌<◌, ◌≤◌, ◌⊎◌, IfOk, codes, false, is_some, true};
 ghost use Rattle.clap.specs.Words.{app_of, first_value, found_of, rule_of, with_subcommand, AddsSubcommand};
+ghost use Rattle.modem_drive.specs.Entry.{entry_for, given_text};
 ghost use Rattle.modemctl.specs.Dialects.{IsShut};
-ghost use Rattle.modemctl.specs.Drives.{DrivesWith};
+ghost use Rattle.modemctl.specs.Drives.{DrivesWith, RanWith};
 ghost use Rattle.modemctl.specs.Files.{NamesCause};
 ghost use Rattle.modemctl.specs.Words.{device_rule, drive_app, entry_rule, quiet_rule, tick_rule};
 
+use crate::words::data_paths::{arm_option, data_path_option, data_paths_of, refuse_data};
 use crate::words::dialects::{dialect_option, given_dialect};
 use crate::words::files::capture_option;
 use crate::words::numbers::{number_of, seconds_of};
@@ -13,7 +15,7 @@ use crate::words::options::n1_option;
 use crate::words::text_files::TextFiles;
 use crate::words::{help, refuse};
 use clap::{Arg, ArgAction, ArgMatches, Command, value_parser};
-use modem_drive::{Settings, drive_run};
+use modem_drive::{Settings, drive_data_run, drive_run};
 use std::alloc::{AllocError, AllocGlobal, Global};
 use std::fs::File;
 use std::io::{Read, Write};
@@ -92,6 +94,8 @@ pub fn drive_command<'a>(alloc: Global) -> Result<Command<'a>, AllocError>
         .arg(entry_option(alloc))?
         .arg(dialect_option(alloc))?
         .arg(capture_option(alloc))?
+        .arg(data_path_option(alloc))?
+        .arg(arm_option(alloc))?
         .arg(device_word(alloc))
 }
 
@@ -114,6 +118,41 @@ fn times_of(matches: &ArgMatches<'_>) -> Result<Times, &'static str> {
         tick: Duration::from_millis(u64::from(tick)),
         quiet_for: quiet_for.map(|seconds| Duration::from_secs(u64::from(seconds))),
     })
+}
+
+/// Drives a modem on the device of this path, with the files that the words name beside connections. Texts that give none are refused
+/// before the device is opened.
+fn drive_on<R, I, W, E>(
+    rt: &R,
+    matches: &ArgMatches<'_>,
+    path: &str,
+    input: I,
+    output: &mut W,
+    faults: &mut E,
+    settings: Settings<'_>,
+) -> u8
+where
+    R: Files<File = File> + Threads + Wait + Clock + AllocGlobal + Copy + Send + Drop + 'static,
+    I: Read + Send + Drop + 'static,
+    W: Write,
+    E: Write,
+    ensures status { result ≤ 2 }
+    ensures done { result ≡ 0 → RanWith matches.now (is_some (given_text settings.entry.capture)) settings.entry.dialect.now
+        (entry_for (given_text settings.entry.entry) settings.entry.n1) settings.entry.n1 (W.contents output.old)
+        (W.contents output.new) (E.contents faults.old) (E.contents faults.new) false }
+    ensures bad { result ≡ 2 → (output.new ≡ output.old)
+        ⊎ RanWith matches.now (is_some (given_text settings.entry.capture)) settings.entry.dialect.now
+        (entry_for (given_text settings.entry.entry) settings.entry.n1) settings.entry.n1 (W.contents output.old)
+        (W.contents output.new) (E.contents faults.old) (E.contents faults.new) true }
+{
+    let data = match data_paths_of(rt.alloc(), matches) {
+        Ok(data) => data,
+        Err(fault) => return refuse_data(faults, fault),
+    };
+    if data.is_empty() {
+        return drive_run(rt, path, input, output, faults, settings);
+    }
+    drive_data_run(rt, path, data.as_slice(), input, output, faults, settings)
 }
 
 /// Drives a modem on the device that the words name. A number that isn't one and a dialect that isn't had are refused before the
@@ -170,7 +209,7 @@ where
                 tick: times.tick,
                 quiet_for: times.quiet_for,
             };
-            drive_run(rt, path, input, output, faults, settings)
+            drive_on(rt, matches, path, input, output, faults, settings)
         }
         Err(status) => status,
     }

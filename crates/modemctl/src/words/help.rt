@@ -22,7 +22,7 @@ pub const SIM: &str =
 
 /// Behind the help of `drive`.
 pub const DRIVE: &str =
-    "Set the terminal up first: stty -F DEVICE raw -echo min 0 time 1 -crtscts clocal -hupcl\n\nEach line of the input is a connection from 1 to 61, a blank and a command.\n\nAn interrupt can't be caught: the modem then stays in the multiplexer. The next drive begins with a CLD frame if nothing answers it.\n\nExample: printf '1 AT+CSQ\\n' | modemctl drive /dev/ttyUSB0\n\nExit status: 0 all is done; 1 a fault, named on standard error; 2 bad words, a bad line, or a bad file of --dialect.\ndocs/modemctl.1 has what it does with the terminal and the modem, docs/FORMATS.md its output.";
+    "Set the terminal up first: stty -F DEVICE raw -echo min 0 time 1 -crtscts clocal -hupcl\n\nEach line of the input is a connection from 1 to 61, a blank and a command.\n\nWith --data D=PATH the octets of connection D go to and from the terminal PATH, set up in the same way. They do so from the opening of D on; with --arm behind the CONNECT line that answers a command on D, such as ATD*99#; the rule `final prefix CONNECT` of a --dialect has that line end the command. Without --arm give no command on D.\n\nAn interrupt can't be caught: the modem then stays in the multiplexer. The next drive begins with a CLD frame if nothing answers it.\n\nExample: printf '1 AT+CSQ\\n' | modemctl drive /dev/ttyUSB0\n\nExit status: 0 all is done; 1 a fault, named on standard error; 2 bad words, a bad line, or a bad file of --dialect.\ndocs/modemctl.1 has what it does with the terminal and the modem, docs/FORMATS.md its output.";
 
 /// Behind the help of `show`.
 pub const SHOW: &str =

@@ -93,10 +93,10 @@ pub fn show_command<'a>(alloc: Global) -> Result<Command<'a>, AllocError>
 
 /// Why the words give no connections of data.
 #[derive(Clone, Copy)]
-enum NoChannels {
+pub enum NoChannels {
     /// Memory was refused.
     NoMemory,
-    /// A text is no number in decimal.
+    /// A text isn't as it must be.
     NotDecimal,
 }
 
@@ -107,7 +107,7 @@ impl<T: Drop> From<AllocFailed<T>> for NoChannels {
 }
 
 /// The connection of this number in decimal.
-fn channel_of(text: &str) -> Option<Dlci>
+pub fn channel_of(text: &str) -> Option<Dlci>
     ensures { IfSome result (λ d. text.now ≡ decimal d.number) }
 {
     let decimal = text.parse::<Decimal>().ok()?;

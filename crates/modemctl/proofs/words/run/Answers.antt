@@ -12,7 +12,7 @@ use Rattle.modem_runs.specs.Stopping.{HasGivenUp}
 use Rattle.modemctl.specs.Benches.{PrintsBench, PrintsFrames, PrintsReplay}
 use Rattle.modemctl.specs.Dialects.{IsShut}
 use Rattle.modemctl.specs.Drives.{PrintsDrive}
-use Rattle.modemctl.specs.Files.{IsNoText, NamesCause}
+use Rattle.modemctl.specs.Files.{NamesCause}
 use Rattle.modemctl.specs.Sims.{IsNotBegun, LeavesClient, RefusesClient, ServesClient, files_given}
 use Rattle.modemctl.specs.Shows.{IsShutFile, PrintsShow, SaysUnshown, all_in}
 use Rattle.modemctl.proofs.words.run.Goals as goal

@@ -10,9 +10,8 @@ use Rattle.modem_serve.specs.Watching.{CapturesClient}
 use Rattle.modemctl.specs.Benches.{AreGiven, AreMatched, AreOwn, AreScripted, IsFlag}
 use Rattle.modemctl.specs.Sims.{FailsClient, HasBadMatched, IsNotBegun, LeavesClient, LeavesWith, RefusesClient, SaysBadAnswer, SaysBadStep, SimFiles, files_given, files_matched}
 use Rattle.modem_drive.specs.Entry.{entry_for}
-use Rattle.modem_drive.specs.OnDevice.{RanDevice}
 use Rattle.modemctl.specs.Dialects.{IsGivenDialect, IsShut, PrintsActs}
-use Rattle.modemctl.specs.Drives.{DrivesWith, PrintsDrive}
+use Rattle.modemctl.specs.Drives.{DrivesWith, PrintsDrive, RanGiven}
 use Rattle.modemctl.specs.Files.{NamesCause}
 use Rattle.modemctl.specs.Shows.{AreChannels, AreWanted, AreWantedBy, IsShutFile, PrintsShow, SaysUnshown, ShowsFiles, ShowsWith, all_in}
 use Rattle.show_texts.specs.declared.run.ShowOptions.{ShowOptions}
@@ -155,6 +154,15 @@ returns-in-sim-clause-sim_bad g c two named =
 pub returns-in-Err-clause-sim_bad : goal.returns-in-Err-clause-sim_bad
 returns-in-Err-clause-sim_bad g c two named = inl (record { option = _; said = c.refuse.ensures.said })
 
+of_all : (met : Option (Text × List Row)) (rows : List Row) (option : Text) → Some rows ≡ option_map (λ p. p.1) met → all_of option rows ≡ all_in met option
+of_all None rows option e = cc
+of_all (Some p) rows option e = let same : Some rows ≡ Some p.1 = e in let rows_are : rows ≡ p.1 = cc in ap (all_of option) rows_are
+
+-- all that the words give for an option
+words_given : (top m : ArgMatches) (option : Text) → Some (rows_of (found_of m)) ≡ option_map (λ p. p.1) (subcommand_rows_of top)
+    → option_map raw_values (matched_of (found_of m) option) ≡ all_in (subcommand_rows_of top) option
+words_given top m option e = raw_values-rows (found_of m) option ∙ of_all (subcommand_rows_of top) (rows_of (found_of m)) option e
+
 prints_drive : (texts : Text → Option (List ℕ)) (top m : ArgMatches) (n1 : ℕ) (before after silent said : Option (List ℕ)) (was_bad : Bool) → Some (rows_of (found_of m)) ≡ option_map (λ p. p.1) (subcommand_rows_of top) → IsNumberOf 31 (one_text (found_of m) (codes "n1")) n1
     → DrivesWith texts n1 m before after silent said was_bad → PrintsDrive texts (subcommand_rows_of top) before after silent said was_bad
 prints_drive texts top m n1 before after silent said was_bad e is drives = record {
@@ -163,8 +171,10 @@ prints_drive texts top m n1 before after silent said was_bad e is drives = recor
   rules = drives.rules;
   named = subst (λ (t : Option Text). IsGivenDialect texts t drives.rules) (word_given top m (codes "dialect") e) drives.named;
   drove =
-      subst (λ (t : Option Text × Option Text). RanDevice (is_some t.0) drives.rules (entry_for t.1 n1) n1 before after silent said was_bad)
-      (λ i. (word_given top m (codes "capture") e i, word_given top m (codes "entry") e i)) drives.drove;
+      subst
+      (λ (t : Option Text × Option Text × Option (List Text) × Option Text). RanGiven t.2 (is_set t.3) (is_some t.0) drives.rules (entry_for t.1 n1) n1 before after silent said was_bad)
+      (λ i. (word_given top m (codes "capture") e i, word_given top m (codes "entry") e i, words_given top m (codes "data") e i, word_given top m (codes "arm") e i))
+      drives.drove;
 }
 
 pub returns-in-drive-clause-drive : goal.returns-in-drive-clause-drive
@@ -220,15 +230,6 @@ returns-in-drive-clause-drive_shut g c named is =
     c.drive_words.ensures.shut (shut c.args.matches.now c.in-Some.given.now (g.R.TextFiles.is_shut c.args.rt.now) c.in-Some.ensures.rows is)
 
 -- ## A capture that is shown
-
-of_all : (met : Option (Text × List Row)) (rows : List Row) (option : Text) → Some rows ≡ option_map (λ p. p.1) met → all_of option rows ≡ all_in met option
-of_all None rows option e = cc
-of_all (Some p) rows option e = let same : Some rows ≡ Some p.1 = e in let rows_are : rows ≡ p.1 = cc in ap (all_of option) rows_are
-
--- all that the words give for an option
-words_given : (top m : ArgMatches) (option : Text) → Some (rows_of (found_of m)) ≡ option_map (λ p. p.1) (subcommand_rows_of top)
-    → option_map raw_values (matched_of (found_of m) option) ≡ all_in (subcommand_rows_of top) option
-words_given top m option e = raw_values-rows (found_of m) option ∙ of_all (subcommand_rows_of top) (rows_of (found_of m)) option e
 
 are_wanted : (texts : Text → Option (List ℕ)) (top m : ArgMatches) (n1 : ℕ) (options : ShowOptions) → Some (rows_of (found_of m)) ≡ option_map (λ p. p.1) (subcommand_rows_of top) → IsNumberOf 31 (one_text (found_of m) (codes "n1")) n1
     → AreWantedBy texts n1 m options → AreWanted texts (subcommand_rows_of top) options

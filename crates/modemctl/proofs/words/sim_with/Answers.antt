@@ -1,14 +1,12 @@
-use Rattle.std.proofs.Common.{◌≡◌, Bool, List, Option, None, Some, ℕ, inl, inr, refl, subst, sym, is_some, false, true}
+use Rattle.std.proofs.Common.{◌≡◌, List, Option, None, Some, ℕ, refl, subst, sym, is_some, true}
 use Rattle.clap.specs.Words.{Text}
 use Rattle.modem_serve.specs.Leaving.{EndsFor}
 use Rattle.modem_serve.specs.declared.serving.SimOptions.{SimOptions}
-use Rattle.modem_serve.specs.Serving.{IsServed}
 use Rattle.modem_serve.specs.Watching.{CapturesClient, IsCaptured}
 use Rattle.mux_capture.specs.Passing.{CaptureState}
 use Rattle.modemctl.specs.Captures.{HasBegunWith, SaysNoCapture}
-use Rattle.modemctl.specs.Sims.{FailsClient, HasNoCapture}
+use Rattle.modemctl.specs.Sims.{HasNoCapture}
 use Rattle.modemctl.specs.declared.words.files.NoCapture.{NoCapture}
-use Rattle.modemctl.proofs.words.sim_with.Goals as goal
 
 -- no capture is wanted
 not_wanted : (given : Option Text) (options : SimOptions) (input before after : Option (List ℕ)) → None ≡ given → CapturesClient (is_some given) options input before after

@@ -1,12 +1,11 @@
 -- A drive by the words.
-use Rattle.std.proofs.Common.{ap, ◌≡◌, ℕ, Bool, List, Option, arith, codes, inr, is_some, refl, subst, true, ◌==◌}
+use Rattle.std.proofs.Common.{ap, ◌≡◌, ℕ, Bool, List, Option, arith, codes, false, inl, inr, is_some, refl, subst, true, ⊎_elim}
 use Rattle.clap.specs.Words.{Text, first_value, found_of}
 use Rattle.clap.specs.declared.ArgMatches.{ArgMatches}
 use Rattle.at_text.specs.Rules.{Rules}
 use Rattle.modem_drive.specs.Entry.{entry_for}
-use Rattle.modem_drive.specs.OnDevice.{RanDevice}
 use Rattle.modemctl.specs.Dialects.{IsGivenDialect}
-use Rattle.modemctl.specs.Drives.{DrivesWith}
+use Rattle.modemctl.specs.Drives.{DrivesWith, RanWith}
 use Rattle.modemctl.proofs.FileFaults.{names_cause}
 use Rattle.modemctl.proofs.words.driving.drive_words.Goals as goal
 
@@ -19,26 +18,25 @@ pub record AreOf (texts : Text → Option (List ℕ)) (m : ArgMatches) (n1 n : �
   pub named : IsGivenDialect texts (first_value (found_of m) (codes "dialect")) rules
 
 drives_with : (texts : Text → Option (List ℕ)) (m : ArgMatches) (n1 n : ℕ) (rules own : Rules) (entry capture before after silent said : Option (List ℕ)) (was_bad : Bool) → AreOf texts m n1 n rules own entry capture
-    → RanDevice (is_some capture) own (entry_for entry n) n before after silent said was_bad → DrivesWith texts n1 m before after silent said was_bad
+    → RanWith m (is_some capture) own (entry_for entry n) n before after silent said was_bad → DrivesWith texts n1 m before after silent said was_bad
 drives_with texts m n1 n rules own entry capture before after silent said was_bad are drove = record {
   rules = rules;
   named = are.named;
   drove =
-      subst (λ (x : ℕ × Rules × Option (List ℕ) × Option (List ℕ)). RanDevice (is_some x.3) x.1 (entry_for x.2 x.0) x.0 before after silent said was_bad)
+      subst (λ (x : ℕ × Rules × Option (List ℕ) × Option (List ℕ)). RanWith m (is_some x.3) x.1 (entry_for x.2 x.0) x.0 before after silent said was_bad)
       (λ i. (are.same_n1 i, are.same_rules i, are.same_entry i, are.same_capture i)) drove;
 }
 
--- by the status it is told whether a line was bad
-by_status : (texts : Text → Option (List ℕ)) (n1 : ℕ) (m : ArgMatches) (before after first silent said : Option (List ℕ)) (status wanted : ℕ) → status ≡ wanted → silent ≡ first
-    → DrivesWith texts n1 m before after silent said (status == 2) → DrivesWith texts n1 m before after first said (wanted == 2)
-by_status texts n1 m before after first silent said status wanted is same drives =
-    subst (λ (s : Option (List ℕ)). DrivesWith texts n1 m before after s said (wanted == 2)) same
-    (subst (λ (n : ℕ). DrivesWith texts n1 m before after silent said (n == 2)) is drives)
+-- behind a dialect that said nothing
+behind : (texts : Text → Option (List ℕ)) (n1 : ℕ) (m : ArgMatches) (before after first silent said : Option (List ℕ)) (was_bad : Bool) → silent ≡ first
+    → DrivesWith texts n1 m before after silent said was_bad → DrivesWith texts n1 m before after first said was_bad
+behind texts n1 m before after first silent said was_bad same drives =
+    subst (λ (s : Option (List ℕ)). DrivesWith texts n1 m before after s said was_bad) same drives
 
 pub returns-in-Ok-given_dialect-clause-done : goal.returns-in-Ok-given_dialect-clause-done
 returns-in-Ok-given_dialect-clause-done g c zero =
-    by_status (g.R.TextFiles.text_of c.args.rt.now) _ _ _ _ _ _ _ _ 0 zero (ap g.E.Write.contents c.in-Ok-given_dialect.ensures.silent)
-    (drives_with (g.R.TextFiles.text_of c.args.rt.now) _ _ _ _ _ _ _ _ _ _ _ _
+    behind (g.R.TextFiles.text_of c.args.rt.now) _ _ _ _ _ _ _ false (ap g.E.Write.contents c.in-Ok-given_dialect.ensures.silent)
+    (drives_with (g.R.TextFiles.text_of c.args.rt.now) _ _ _ _ _ _ _ _ _ _ _ false
     (record {
       same_n1 = refl;
       same_rules = refl;
@@ -46,13 +44,14 @@ returns-in-Ok-given_dialect-clause-done g c zero =
       same_capture = c.get_str-in-Ok-given_dialect-2.ensures;
       named = c.in-Ok-given_dialect.ensures.given;
     })
-    (c.drive_run.ensures.drove (λ one. omega (arith, zero, one))))
+    (c.drive_on.ensures.done zero))
 
 pub returns-in-Ok-given_dialect-clause-bad : goal.returns-in-Ok-given_dialect-clause-bad
 returns-in-Ok-given_dialect-clause-bad g c two =
-    inr
-    (by_status (g.R.TextFiles.text_of c.args.rt.now) _ _ _ _ _ _ _ _ 2 two (ap g.E.Write.contents c.in-Ok-given_dialect.ensures.silent)
-    (drives_with (g.R.TextFiles.text_of c.args.rt.now) _ _ _ _ _ _ _ _ _ _ _ _
+    ⊎_elim (λ same. inl same)
+    (λ ran. inr
+    (behind (g.R.TextFiles.text_of c.args.rt.now) _ _ _ _ _ _ _ true (ap g.E.Write.contents c.in-Ok-given_dialect.ensures.silent)
+    (drives_with (g.R.TextFiles.text_of c.args.rt.now) _ _ _ _ _ _ _ _ _ _ _ true
     (record {
       same_n1 = refl;
       same_rules = refl;
@@ -60,7 +59,8 @@ returns-in-Ok-given_dialect-clause-bad g c two =
       same_capture = c.get_str-in-Ok-given_dialect-2.ensures;
       named = c.in-Ok-given_dialect.ensures.given;
     })
-    (c.drive_run.ensures.drove (λ one. omega (arith, two, one)))))
+    ran)))
+    (c.drive_on.ensures.bad two)
 
 pub returns-in-Err-given_dialect-clause-done : goal.returns-in-Err-given_dialect-clause-done
 returns-in-Err-given_dialect-clause-done g c zero = let some = c.in-Err-given_dialect.ensures.bad.0 in absurd (omega (arith, some, zero))

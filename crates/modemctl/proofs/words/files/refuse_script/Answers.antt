@@ -1,10 +1,9 @@
-use Rattle.std.proofs.Common.{◌≡◌, ◌≢◌, ℕ, List, Option, None, Some, arith, ap, refl, sym}
-use Rattle.clap.specs.Words.{Text}
+use Rattle.std.proofs.Common.{◌≡◌, ℕ, List, Option, None, Some, arith, ap, refl}
 use Rattle.modem_runs.specs.Steps.{HasBadStep}
 use Rattle.modem_runs.specs.declared.stop.Stop.{Stop}
 use Rattle.modem_texts.specs.declared.line_fault.LineFault.{LineFault}
 use Rattle.modemctl.specs.Files.{text_status}
-use Rattle.modemctl.specs.Sims.{IsOfScript, SaysBadStep, bad_step_of}
+use Rattle.modemctl.specs.Sims.{IsOfScript, bad_step_of}
 use Rattle.modemctl.specs.declared.words.text_files.TextFault.{TextFault}
 use Rattle.modemctl.proofs.words.files.refuse_script.Goals as goal
 

@@ -1,0 +1,129 @@
+//! The files that the words name beside connections that carry data.
+ghost use Rattle.std.specs.Prelude.{◌≡◌, ◌<◌, ◌≤◌, All, IfOk, IfSome, codes, false, map, option_map};
+ghost use Rattle.clap.specs.Words.{first_value, found_of, matched_of, raw_values, rule_of};
+ghost use Rattle.modem_runs.specs.Statuses.{stop_line};
+ghost use Rattle.modem_runs.specs.declared.stop.Stop.TheVariants as StopOf;
+ghost use Rattle.modem_texts.specs.Writing.{IsBegun};
+ghost use Rattle.modemctl.specs.Drives.{AreDataPaths, data_path_text};
+ghost use Rattle.modemctl.specs.Words.{arm_rule, data_path_rule, is_set};
+
+use crate::words::showing::{NoChannels, channel_of};
+use clap::{Arg, ArgAction, ArgMatches};
+use modem_drive::DataPath;
+use modem_runs::{Stop, give_up};
+use modem_texts::say_line;
+use std::alloc::Global;
+use std::io::Write;
+
+/// So many connections carry data at most.
+const MOST: usize = 8;
+
+/// The option `--data`.
+pub fn data_path_option<'a>(alloc: Global) -> Arg<'a>
+    ensures rule { rule_of result ≡ data_path_rule }
+    ensures own { result.global ≡ false }
+{
+    Arg::new(alloc, "data")
+        .long("data")
+        .value_name("D=PATH")
+        .help(
+            "Connection D, 1 to 61, carries the data of the terminal PATH; may be given again, 8 times in all",
+        )
+        .action(ArgAction::Append)
+}
+
+/// The option `--arm`.
+pub fn arm_option<'a>(alloc: Global) -> Arg<'a>
+    ensures rule { rule_of result ≡ arm_rule }
+    ensures own { result.global ≡ false }
+{
+    Arg::new(alloc, "arm")
+        .long("arm")
+        .help("Data begins behind the CONNECT line that answers a command, not at once")
+        .action(ArgAction::SetTrue)
+}
+
+/// Whether data begins behind a CONNECT line.
+fn arm_of(matches: &ArgMatches<'_>) -> bool
+    ensures { result ≡ is_set (first_value (found_of matches.now) (codes "arm")) }
+{
+    matches!(matches.get_str("arm"), Some("true"))
+}
+
+/// The connection and the path of this text, `D=PATH`. None where D is no number from 1 to 61 in decimal, or the path is empty.
+fn data_path_of(text: &str, by_connect: bool) -> Option<DataPath<'_>>
+    ensures { IfSome result (λ p. (text.now ≡ data_path_text p) × (p.by_connect ≡ by_connect)) }
+{
+    let (number, path) = text.split_once('=')?;
+    let dlci = channel_of(number)?;
+    if dlci.number() == 0 || path.is_empty() {
+        return None;
+    }
+    Some(DataPath {
+        dlci,
+        by_connect,
+        path,
+    })
+}
+
+/// Whether one of these is beside the connection of another.
+fn is_taken(found: &[DataPath<'_>], other: DataPath<'_>) -> bool {
+    found.iter().any(|one| one.dlci == other.dlci)
+}
+
+/// The connections and paths of these texts, at most 8, each connection once.
+fn data_paths_by<'a>(
+    alloc: Global,
+    texts: &[&'a str],
+    by_connect: bool,
+) -> Result<Vec<DataPath<'a>>, NoChannels>
+    ensures { IfOk result (λ found. (map (λ t. t.now) texts.now ≡ map (λ p. data_path_text p) found.items)
+        × All (λ p. p.by_connect ≡ by_connect) found.items) }
+{
+    let mut found = Vec::new(alloc);
+    for text in texts {
+        let Some(one) = data_path_of(text, by_connect) else {
+            return Err(NoChannels::NotDecimal);
+        };
+        if found.len() == MOST || is_taken(found.as_slice(), one) {
+            return Err(NoChannels::NotDecimal);
+        }
+        found.push(one)?;
+    }
+    Ok(found)
+}
+
+/// The connections and paths that the words give.
+pub fn data_paths_of<'a>(
+    alloc: Global,
+    matches: &ArgMatches<'a>,
+) -> Result<Vec<DataPath<'a>>, NoChannels>
+    ensures { IfOk result
+        (λ found. AreDataPaths (option_map raw_values (matched_of (found_of matches.now) (codes "data")))
+        (is_set (first_value (found_of matches.now) (codes "arm"))) found.items) }
+{
+    match matches.get_strs("data") {
+        Some(texts) => data_paths_by(alloc, texts, arm_of(matches)),
+        None => Ok(Vec::new(alloc)),
+    }
+}
+
+/// Says why the words give no connections and paths, and gives the status.
+pub fn refuse_data<E: Write>(faults: &mut E, fault: NoChannels) -> u8
+    ensures some { 0 < result }
+    ensures status { result ≤ 2 }
+    ensures said { result ≡ 1 → IsBegun (E.contents faults.old) (E.contents faults.new) (stop_line StopOf.NoMemory) }
+{
+    match fault {
+        NoChannels::NoMemory => give_up(faults, Stop::NoMemory),
+        NoChannels::NotDecimal => {
+            say_line(
+                faults,
+                "error: --data takes ",
+                "D=PATH",
+                ", with a connection from 1 to 61, each once, and 8 of them at most",
+            );
+            2
+        }
+    }
+}
