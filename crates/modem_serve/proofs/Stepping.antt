@@ -1,6 +1,6 @@
 -- What a modem for a client does with octets: at plain lines, and in the multiplexer.
-use Rattle.std.specs.Prelude.{◌≡◌, ℕ, ◌+◌, ◌-◌, ◌<◌, ◌≤◌, min, Bool, true, false, List, [], ◌∷◌, ◌++◌, Option, Some, None, is_some, option_map, take, drop, length, refl}
-use Rattle.std.proofs.Common.{arith, ap, sym, ◌∙◌, append_assoc, append-nil, length-append, length-drop, subst}
+use Rattle.std.specs.Prelude.{◌≡◌, ℕ, ◌==◌, ◌+◌, ◌-◌, ◌<◌, ◌≤◌, min, Bool, true, false, List, [], ◌∷◌, ◌++◌, Option, Some, None, is_some, option_map, take, drop, length, refl}
+use Rattle.std.proofs.Common.{suc, zero, arith, ap, sym, ◌∙◌, append_assoc, append-nil, length-append, length-drop, subst}
 use Rattle.std.proofs.lemmas.Bool.{false≢true}
 use Rattle.std.proofs.lemmas.List.{take-append-drop, take-append-le, take_all}
 use Rattle.mux_frame.specs.Frames.{Frame}
@@ -293,6 +293,10 @@ takes_more s a b c entered octets left rest x y z p q = record {
       (subst (λ (l : List Entry). Stands s came ((went ++ p.more) ++ q.more) l c rest) (entry_said entered p.more q.more (undecided c ++ rest) es)
       (q.stands came (went ++ p.more) (with_more [] p.more es) (p.stands came went es at)));
 }
+
+pub not_zero : (n : ℕ) → (n == 0) ≡ false → 0 < n
+not_zero zero is = absurd (false≢true (sym is))
+not_zero (suc n) is = omega arith
 
 pub mapped_none : {A B : Type 0} (f : A → B) (o : Option A) → option_map f o ≡ None → o ≡ None
 mapped_none f None none = refl

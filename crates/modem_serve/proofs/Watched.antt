@@ -79,13 +79,13 @@ passing_part Holds Undecided Sees Begins s first came went old new u w octets le
 }
 
 pub passes_part : {X V : Type 0} (Holds : Setting → List ℕ → List ℕ → List Entry → X → List ℕ → Type 0) (Undecided : X → List ℕ) (Sees : V → V → Direction → List ℕ → Type 0) (Begins : V → V → ℕ → Type 0) (s : Setting) (old new : X) (u w : V) (octets left part none said before out : List ℕ) (entered : Option ℕ)
-    → Undecided old ++ octets ≡ part ++ (Undecided new ++ left) → (entered ≡ None → left ≡ []) → StepsOn Holds Undecided s old new entered octets left none said → none ≡ [] → SeesPart Sees Begins u w part said entered → out ≡ before ++ said
+    → Undecided old ++ octets ≡ part ++ (Undecided new ++ left) → (entered ≡ None → left ≡ []) → StepsOn Holds Undecided s old new entered octets left none said → none ≡ [] → SeesPart Sees Begins u w part said entered → (given : List ℕ) → given ≡ said → out ≡ before ++ given
     → PassesOn Holds Undecided Sees Begins s old new u w octets left before out
-passes_part Holds Undecided Sees Begins s old new u w octets left part none said before out entered ends all steps is_none sees written =
+passes_part Holds Undecided Sees Begins s old new u w octets left part none said before out entered ends all steps is_none sees given given_is written =
     let is : said ≡ steps.more = steps.written ∙ ap (λ (l : List ℕ). l ++ steps.more) is_none in
     record {
       more = steps.more;
-      written = written ∙ ap (λ (l : List ℕ). before ++ l) is;
+      written = written ∙ ap (λ (l : List ℕ). before ++ l) (given_is ∙ is);
       passes = λ first came went p.
           passing_part Holds Undecided Sees Begins s first came went old new u w octets left part steps.more entered ends all (steps.stands came went)
           (subst (λ (l : List ℕ). SeesPart Sees Begins u w part l entered) is sees) p;

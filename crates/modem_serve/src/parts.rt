@@ -1,5 +1,5 @@
 //! What passes between a client and what answers it, part by part, and who is told of it.
-ghost use Rattle.std.specs.Prelude.{◌≡◌, ◌++◌, [], false, IfErr, IfOk, option_map};
+ghost use Rattle.std.specs.Prelude.{◌≡◌, ◌<◌, ◌++◌, [], false, true, length, IfErr, IfOk, option_map};
 ghost use Rattle.modem_serve.specs.Entry.{octets_of};
 ghost use Rattle.modem_serve.specs.Leaving.{IsOfModem};
 ghost use Rattle.modem_serve.specs.Standing.{setting_by};
@@ -35,6 +35,7 @@ fn pass_part<M: Answering, V: Watcher>(
 ) -> Result<(M, Vec<u8>, bool), ServeFault>
     requires { pending.old.items ≡ M.undecided now ++ octets.now }
     ensures all { IfOk result (λ r. r.2 ≡ false → r.1.items ≡ []) }
+    ensures fewer { IfOk result (λ r. r.2 ≡ true → M.weight r.0 (length r.1.items) < M.weight now (length octets.now)) }
     ensures pending { IfOk result (λ r. pending.new.items ≡ M.undecided r.0 ++ r.1.items) }
     ensures passes { IfOk result (λ r. (m : ModemState)
         → PassesOn M.holds M.undecided V.sees V.begins (setting_by setup.now m) now r.0 watcher.old watcher.new octets.now r.1.items out.old.items out.new.items) }
@@ -69,20 +70,13 @@ pub(crate) fn pass<M: Answering, V: Watcher>(
     let mut now = first;
     let mut rest = Vec::from_slice(setup.alloc, octets)?;
     pending.extend_from_slice(octets)?;
-    for _ in 0..u64::MAX {
-        let (next, behind, entered) = pass_part(
-            setup,
-            now,
-            watcher,
-            rest.as_slice(),
-            pending,
-            out,
-        )?;
+    loop {
+        let (next, behind, entered) =
+            pass_part(setup, now, watcher, rest.as_slice(), pending, out)?;
+        if !entered {
+            return Ok(next);
+        }
         now = next;
         rest = behind;
-        if !entered {
-            return Ok(now);
-        }
     }
-    Err(ServeFault::EndlessModem)
 }

@@ -1,5 +1,5 @@
 //! A modem for a client whose octets are handed in and out: at plain lines or in the multiplexer.
-ghost use Rattle.std.specs.Prelude.{◌≡◌, ◌<◌, ◌++◌, ℕ, List, [], None, length, option_map, IfErr, IfOk};
+ghost use Rattle.std.specs.Prelude.{◌≡◌, ◌≢◌, ◌<◌, ◌++◌, ℕ, List, [], None, length, option_map, IfErr, IfOk};
 ghost use Rattle.modem_serve.specs.Entry.{octets_of};
 ghost use Rattle.modem_serve.specs.Serving.{Entry, Setting, with_more};
 ghost use Rattle.modem_sim.specs.declared.state.ModemState.{ModemState};
@@ -60,6 +60,9 @@ pub(crate) trait Answering: Drop {
     /// The octets that it has taken of which it isn't decided yet what they are.
     ghost undecided: { Self → List ℕ };
 
+    /// What falls with each line that enters the multiplexer, by how many octets are left.
+    ghost weight: { Self → ℕ → ℕ };
+
     /// Takes octets, to the end of a line that enters the multiplexer at most, and writes what is said to them behind other octets. Gives
     /// the octets behind that line, and the N1 of the multiplexer; none are left where no line enters it.
     fn take_part(
@@ -71,6 +74,7 @@ pub(crate) trait Answering: Drop {
     where
         Self: Sized,
         ensures all { IfOk result (λ r. r.2 ≡ None → r.1.items ≡ []) }
+        ensures fewer { IfOk result (λ r. r.2 ≢ None → weight r.0 (length r.1.items) < weight self (length octets.now)) }
         ensures ends { IfOk result (λ r. EndsWith (undecided self ++ octets.now) (undecided r.0 ++ r.1.items)) }
         ensures steps { IfOk result (λ r. (m : ModemState)
             → StepsOn holds undecided (setting_by setup.now m) self r.0 (option_map octets_of r.2) octets.now r.1.items out.old.items out.new.items) }
@@ -219,6 +223,7 @@ fn take_each(
     out: &mut Vec<u8>,
 ) -> Result<(Mode, Vec<u8>, Option<N1>), ServeFault>
     ensures all { IfOk result (λ r. r.2 ≡ None → r.1.items ≡ []) }
+    ensures fewer { IfOk result (λ r. r.2 ≢ None → weight r.0 (length r.1.items) < weight mode (length octets.now)) }
     ensures ends { IfOk result (λ r. EndsWith (undecided mode ++ octets.now) (undecided r.0 ++ r.1.items)) }
     ensures steps { IfOk result (λ r. (m : ModemState)
         → StepsOn Stands undecided (setting_by setup.now m) mode r.0 (option_map octets_of r.2) octets.now r.1.items out.old.items out.new.items) }
@@ -241,6 +246,8 @@ impl Answering for Mode {
     ghost holds = { Stands };
 
     ghost undecided = { undecided };
+
+    ghost weight = { weight };
 
     ghost brings = { stands_before };
 

@@ -20,4 +20,4 @@ returns-clause-passes g c = λ m.
     (sym c.requires ∙ front_taken c.args.pending.now.items held behind c.len.result c.len-2.result c.undecided_len.result ends all behind_len c.undecided_len.ensures ∙ ap (λ (l : List ℕ). l ++ (held ++ behind)) (sym front))
     (λ none. c.in_ok-next.ensures.all (mapped_none octets_of c.in_ok-next.entered none)) (c.in_ok-next.ensures.steps m) c.new-said.ensures.items
     (subst (λ (l : List ℕ). SeesPart g.V.Watcher.sees g.V.Watcher.begins c.args.watcher.now c.tell.new.watcher c.split_at.result.0.now l (option_map octets_of c.in_ok-next.entered)) c.as_slice.ensures.value c.tell.ensures)
-    (c.in_ok-extend_from_slice.ensures.items ∙ ap (λ (l : List ℕ). c.args.out.now.items ++ l) c.as_slice-2.ensures.value)
+    c.as_slice-2.result.now c.as_slice-2.ensures.value c.in_ok-extend_from_slice.ensures.items
