@@ -13,7 +13,7 @@ use Rattle.modem_serve.specs.declared.server.Setup.{Setup}
 use Rattle.modem_serve.specs.declared.serving.SimOptions.{SimOptions}
 use Rattle.modem_serve.specs.Serving.{Answers, AnswersEntering, Entry, IsAnswered, Setting, setting_of, with_more}
 use Rattle.modem_serve.specs.Standing.{IsAtLines, Stands, StepsOn, setting_by, with_entry}
-use Rattle.modem_serve.specs.Watching.{BeginsAnew, BeginsIf, CapturesAnswers, Exchanges, History, HoldsNow, IsCaptured, IsWatched, Notes, Passing, PassesOn, SeesPart, SeesPassed, Turns, WatchedAnswers, WatchedSoFar, WatchedWhole, comes, enters, nothing, one_stretch, turn}
+use Rattle.modem_serve.specs.Watching.{BeginsAnew, CapturesAnswers, Exchanges, History, HoldsNow, IsCaptured, IsWatched, Notes, Passing, PassesOn, SeesPart, SeesPassed, Turns, WatchedAnswers, WatchedSoFar, WatchedWhole, comes, enters, nothing, one_stretch, turn}
 use Rattle.modem_serve.proofs.Entries.{none_more}
 use Rattle.modem_serve.proofs.Leaving.{ServedSoFar}
 use Rattle.modem_serve.proofs.Served.{answers_by, answers_entering, begun_mode, consumed_more, consumed_none, keeps_same}

@@ -1,6 +1,5 @@
 -- How a modem for a client stands after octets that came.
 use Rattle.std.specs.Prelude.{◌≡◌, ℕ, ◌+◌, ◌*◌, min, true, false, List, [], ◌∷◌, ◌++◌, drop, length, Option, Some, None}
-use Rattle.std.specs.Io.KnownBytes.{Appends, Consumes, IsAtEnd}
 use Rattle.mux_frame.specs.Frames.{Frame}
 use Rattle.mux_frame.specs.Laws.{AreOctets}
 use Rattle.mux_frame.specs.Reading.{Reads}

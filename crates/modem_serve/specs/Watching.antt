@@ -7,7 +7,7 @@ use Rattle.mux_capture.specs.declared.packet.Stamp.{Stamp}
 use Rattle.mux_capture.specs.Passing.{CaptureState, Captures, HasCaptured, HasStretches, Renews, Stretch, passed_at}
 use Rattle.modem_serve.specs.declared.serving.SimOptions.{SimOptions}
 use Rattle.modem_serve.specs.Serving.{Answers, AnswersEntering, Entry, Setting, setting_of, with_more}
-use Rattle.modem_serve.specs.Standing.{EndsWith, with_entry}
+use Rattle.modem_serve.specs.Standing.{with_entry}
 
 -- A client's octets were read, and passed on to a watcher part by part, each with what was said to it: these, and not yet those of
 -- `kept`. A part ends where a line enters the multiplexer, and with that its N1 begins; else it ends what is answered: all that was read

@@ -71,8 +71,14 @@ pub(crate) fn pass<M: Answering, V: Watcher>(
     let mut rest = Vec::from_slice(setup.alloc, octets)?;
     pending.extend_from_slice(octets)?;
     loop {
-        let (next, behind, entered) =
-            pass_part(setup, now, watcher, rest.as_slice(), pending, out)?;
+        let (next, behind, entered) = pass_part(
+            setup,
+            now,
+            watcher,
+            rest.as_slice(),
+            pending,
+            out,
+        )?;
         if !entered {
             return Ok(next);
         }

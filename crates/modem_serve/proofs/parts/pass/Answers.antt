@@ -1,7 +1,7 @@
-use Rattle.std.proofs.Common.{List, [], ℕ, subst, sym}
+use Rattle.std.proofs.Common.{List, ℕ, subst}
 use Rattle.modem_serve.specs.Standing.{setting_by}
 use Rattle.modem_serve.specs.Watching.{PassesOn}
-use Rattle.modem_serve.proofs.Watched.{passes_both, passes_none}
+use Rattle.modem_serve.proofs.Watched.{passes_both}
 use Rattle.modem_serve.proofs.parts.pass.Goals as goal
 
 pub loop-rest-preserved : goal.loop-rest-preserved
