@@ -13,7 +13,7 @@ use Rattle.modem_serve.specs.declared.server.Setup.{Setup}
 use Rattle.modem_serve.specs.declared.serving.SimOptions.{SimOptions}
 use Rattle.modem_serve.specs.Serving.{Answers, AnswersEntering, Entry, IsAnswered, Setting, setting_of, with_more}
 use Rattle.modem_serve.specs.Standing.{IsAtLines, Stands, StepsOn, setting_by, with_entry}
-use Rattle.modem_serve.specs.Watching.{BeginsAnew, CapturesAnswers, Exchanges, History, HoldsNow, IsCaptured, IsWatched, Notes, Passing, PassesOn, SeesPart, SeesPassed, Turns, WatchedAnswers, WatchedSoFar, WatchedWhole, comes, enters, nothing, one_stretch, turn}
+use Rattle.modem_serve.specs.Watching.{BeginsAnew, CapturesAnswers, EndsCapture, Exchanges, History, HoldsNow, IsCaptured, IsWatched, Notes, Passing, PassesOn, SeesPart, SeesPassed, Turns, WatchedAnswers, WatchedSoFar, WatchedWhole, comes, enters, nothing, one_stretch, turn}
 use Rattle.modem_serve.proofs.Entries.{none_more}
 use Rattle.modem_serve.proofs.Leaving.{ServedSoFar}
 use Rattle.modem_serve.proofs.Served.{answers_by, answers_entering, begun_mode, consumed_more, consumed_none, keeps_same}
@@ -90,16 +90,6 @@ passes_part Holds Undecided Sees Begins s old new u w octets left part none said
           passing_part Holds Undecided Sees Begins s first came went old new u w octets left part steps.more entered ends all (steps.stands came went)
           (subst (λ (l : List ℕ). SeesPart Sees Begins u w part l entered) is sees) p;
     }
-
-pub passes_none : {X V : Type 0} (Holds : Setting → List ℕ → List ℕ → List Entry → X → List ℕ → Type 0) (Undecided : X → List ℕ) (Sees : V → V → Direction → List ℕ → Type 0) (Begins : V → V → ℕ → Type 0) (s : Setting) (now : X) (v : V) (octets left out : List ℕ) → left ≡ octets
-    → PassesOn Holds Undecided Sees Begins s now now v v octets left out out
-passes_none Holds Undecided Sees Begins s now v octets left out is = record {
-  more = [];
-  written = sym (append-nil out);
-  passes = λ first came went p.
-      subst (λ (l : List ℕ). Passing Holds Undecided Sees Begins s first came l now left v) (sym (append-nil went))
-      (subst (λ (l : List ℕ). Passing Holds Undecided Sees Begins s first came went now l v) (sym is) p);
-}
 
 pub passes_both : {X V : Type 0} (Holds : Setting → List ℕ → List ℕ → List Entry → X → List ℕ → Type 0) (Undecided : X → List ℕ) (Sees : V → V → Direction → List ℕ → Type 0) (Begins : V → V → ℕ → Type 0) (s : Setting) (a b c : X) (u v w : V) (octets left given rest x y z : List ℕ)
     → PassesOn Holds Undecided Sees Begins s a b u v octets left x y → given ≡ left → PassesOn Holds Undecided Sees Begins s b c v w given rest y z → PassesOn Holds Undecided Sees Begins s a c u w octets rest x z
@@ -297,9 +287,10 @@ captured_so_far s first _ _ _ _ _ (enters came part kept went more es n1 u v w x
       captured = λ at_first h. renews_on w x at_first both.last.over both.last.now.passed both.last.now.n1 both.n1 third.2 (both.captured at_first h);
     }
 
-captured_all : (s : Setting) (x y : Option (List ℕ)) (first now : CaptureState) (all : List ℕ) → WatchedAnswers SeesPassed BeginsAnew s x y first now all → now.failed ≡ false → CapturesAnswers s x y first now all
-captured_all s x y first now all w good =
-    let so_far = captured_so_far s first all [] w.went w.entries now w.seen_all good in
+captured_all : (s : Setting) (x y : Option (List ℕ)) (first now last : CaptureState) (all : List ℕ) → WatchedAnswers SeesPassed BeginsAnew s x y first now all → EndsCapture now last → last.failed ≡ false → CapturesAnswers s x y first last all
+captured_all s x y first now last all w ends good =
+    let over = ends good in
+    let so_far = captured_so_far s first all [] w.went w.entries now w.seen_all over.0 in
     record {
       went = w.went;
       entries = w.entries;
@@ -307,15 +298,15 @@ captured_all s x y first now all w good =
       answers = w.answers;
       exchanged = so_far.exchanged;
       written = w.written;
-      good = good;
-      n1 = so_far.n1;
-      captured = so_far.captured;
+      captured = λ at_first h. renews_on now last at_first so_far.history.over so_far.history.now.passed so_far.history.now.n1 so_far.n1 over.1 (so_far.captured at_first h);
     }
 
-captured_by : (s : Setting) (input x y : Option (List ℕ)) (first now : CaptureState) → IsWatched SeesPassed BeginsAnew s input x y first now → now.failed ≡ false → IfSome input (CapturesAnswers s x y first now)
-captured_by s None x y first now w good = tt
-captured_by s (Some all) x y first now w good = captured_all s x y first now all w good
+captured_by : (s : Setting) (input x y : Option (List ℕ)) (first now last : CaptureState) → IsWatched SeesPassed BeginsAnew s input x y first now → EndsCapture now last → last.failed ≡ false → IfSome input (CapturesAnswers s x y first last)
+captured_by s None x y first now last w ends good = tt
+captured_by s (Some all) x y first now last w ends good = captured_all s x y first now last all w ends good
 
-pub is_captured : (options : SimOptions) (s : Setting) (input x y : Option (List ℕ)) (first now : CaptureState) → s ≡ setting_of options → IsWatched SeesPassed BeginsAnew s input x y first now → now.failed ≡ false → IsCaptured options input x y first now
-is_captured options s input x y first now same w good =
-    subst (λ (t : Setting). IfSome input (CapturesAnswers t x y first now)) same (captured_by s input x y first now w good)
+pub is_captured : (options : SimOptions) (s : Setting) (input x y : Option (List ℕ)) (given first now last : CaptureState) → s ≡ setting_of options → first ≡ given → IsWatched SeesPassed BeginsAnew s input x y first now → EndsCapture now last → last.failed ≡ false
+    → IsCaptured options input x y given last
+is_captured options s input x y given first now last same begun w ends good =
+    subst (λ (t : Setting). IfSome input (CapturesAnswers t x y given last)) same
+    (subst (λ (c : CaptureState). IfSome input (CapturesAnswers s x y c last)) begun (captured_by s input x y first now last w ends good))

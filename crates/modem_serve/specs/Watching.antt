@@ -48,8 +48,9 @@ Turns old new n1 = new ≡ record { over = old.over ++ old.now ∷ []; now = rec
 abbrev pub one_stretch : ℕ → History
 one_stretch n1 = record { over = []; now = record { n1 = n1; passed = [] } }
 
--- All that a client sends was answered, and all that passed was captured, in its order. The capture begins with its N1. Each line that
--- enters the multiplexer, and nothing else, begins another stretch behind what is said to it, with the N1 that it enters with.
+-- All that a client sends was answered, and all that passed was captured, in its order. The first stretch has the N1 that the capture
+-- begins with. Each line that enters the multiplexer, and nothing else, begins another behind what is said to it, with the N1 that it
+-- enters with. All stretches are over, so that nothing but flags is missing.
 pub record CapturesAnswers (s : Setting) (before after : Option (List ℕ)) (old new : CaptureState) (all : List ℕ) : Type 0 where
   pub went : List ℕ
   pub entries : List Entry
@@ -57,9 +58,7 @@ pub record CapturesAnswers (s : Setting) (before after : Option (List ℕ)) (old
   pub answers : AnswersEntering s all went entries
   pub exchanged : Exchanges (Answers s) Notes Turns (one_stretch old.n1) all [] went entries history
   pub written : Appends before after went
-  pub good : new.failed ≡ false
-  pub n1 : new.n1 ≡ history.now.n1
-  pub captured : (at_first : Option (List ℕ)) → HasCaptured at_first [] old → HasStretches at_first history.over history.now.passed new
+  pub captured : (at_first : Option (List ℕ)) → HasCaptured at_first [] old → HasStretches at_first (history.over ++ history.now ∷ []) [] new
 
 -- of all that the reader has, where that is known
 abbrev pub IsCaptured : SimOptions → (input before after : Option (List ℕ)) → (old new : CaptureState) → Type 0
@@ -91,7 +90,11 @@ SeesPassed old new direction octets =
 abbrev pub BeginsAnew : (old new : CaptureState) → ℕ → Type 0
 BeginsAnew old new n1 = new.failed ≡ false → (old.failed ≡ false) × (new.n1 ≡ n1) × Renews old new
 
--- where one does
+-- and at the end
+abbrev pub EndsCapture : (old new : CaptureState) → Type 0
+EndsCapture old new = new.failed ≡ false → (old.failed ≡ false) × Renews old new
+
+-- where a multiplexer begins, if one does
 abbrev pub BeginsIf : {V : Type 0} → (Begins : V → V → ℕ → Type 0) → (old new : V) → (entered : Option ℕ) → Type 0
 BeginsIf Begins old new None = new ≡ old
 BeginsIf Begins old new (Some n1) = Begins old new n1

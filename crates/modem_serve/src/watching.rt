@@ -1,7 +1,7 @@
 //! Who is told what passes between a client and its modem.
 ghost use Rattle.std.specs.Prelude.{◌≡◌, List, ℕ, ⊤};
 ghost use Rattle.mux_capture.specs.declared.packet.Direction.{Direction as Way};
-ghost use Rattle.modem_serve.specs.Watching.{BeginsAnew, SeesPassed};
+ghost use Rattle.modem_serve.specs.Watching.{BeginsAnew, EndsCapture, SeesPassed};
 
 use mux_capture::{Capture, Direction, Stamp};
 use mux_frame::N1;
@@ -40,6 +40,9 @@ impl Watcher for Nobody {
     fn begin(&mut self, _n1: N1) {}
 }
 
+/// An N1 behind which nothing passes.
+const NO_INFO: u16 = 0;
+
 /// A capture, and the clock of its times.
 #[derive(Drop)]
 pub(crate) struct Recorder<'a, K: Clock, C: Write> {
@@ -65,11 +68,12 @@ impl<'a, K: Clock, C: Write> Recorder<'a, K, C> {
         Recorder { clock, capture }
     }
 
-    /// The capture.
-    pub(crate) fn into_capture(self) -> Capture<C>
-        ensures { result ≡ self.entry }
+    /// The capture, in which all is over: what could still become a frame came to none.
+    pub(crate) fn finish(self) -> Capture<C>
+        ensures { EndsCapture self.entry result }
     {
-        let Recorder { capture, .. } = self;
+        let Recorder { clock, mut capture } = self;
+        capture.renew(Stamp::now(clock), NO_INFO);
         capture
     }
 }
