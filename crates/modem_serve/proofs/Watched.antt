@@ -7,12 +7,13 @@ use Rattle.mux_capture.specs.declared.packet.Direction.{Direction}
 use Rattle.mux_capture.specs.declared.packet.Direction.TheVariants.{ToModem, FromModem}
 use Rattle.mux_capture.specs.declared.packet.Stamp.{Stamp}
 use Rattle.mux_capture.specs.Passing.{CaptureState, Captures, HasCaptured, HasStretches, Passed, Renews, Stretch, passed_at}
+use Rattle.mux_frame.specs.Reading.{no_flag}
 use Rattle.modem_sim.specs.declared.state.ModemState.{ModemState}
 use Rattle.modem_serve.specs.declared.server.Mode.{Mode}
 use Rattle.modem_serve.specs.declared.server.Setup.{Setup}
 use Rattle.modem_serve.specs.declared.serving.SimOptions.{SimOptions}
 use Rattle.modem_serve.specs.Serving.{Answers, AnswersEntering, Entry, IsAnswered, Setting, setting_of, with_more}
-use Rattle.modem_serve.specs.Standing.{IsAtLines, Stands, StepsOn, setting_by, with_entry}
+use Rattle.modem_serve.specs.Standing.{IsAtLines, MayBeFrame, Stands, StepsOn, setting_by, with_entry}
 use Rattle.modem_serve.specs.Watching.{BeginsAnew, CapturesAnswers, EndsCapture, Exchanges, History, HoldsNow, IsCaptured, IsWatched, Notes, Passing, PassesOn, SeesPart, SeesPassed, Turns, WatchedAnswers, WatchedSoFar, WatchedWhole, comes, enters, nothing, one_stretch, turn}
 use Rattle.modem_serve.proofs.Entries.{none_more}
 use Rattle.modem_serve.proofs.Leaving.{ServedSoFar}
@@ -49,11 +50,13 @@ passing_more Holds Undecided Sees Begins brings s first came went now watcher oc
     }
 
 -- by whether a line enters
-passing_part : {X V : Type 0} (Holds : Setting → List ℕ → List ℕ → List Entry → X → List ℕ → Type 0) (Undecided : X → List ℕ) (Sees : V → V → Direction → List ℕ → Type 0) (Begins : V → V → ℕ → Type 0) (s : Setting) (first : V) (came went : List ℕ) (old new : X) (u w : V) (octets left part more : List ℕ) (entered : Option ℕ)
+passing_part : {X V : Type 0} (Holds : Setting → List ℕ → List ℕ → List Entry → X → List ℕ → Type 0) (Undecided : X → List ℕ) (Sees : V → V → Direction → List ℕ → Type 0) (Begins : V → V → ℕ → Type 0)
+    → ((s : Setting) (came went : List ℕ) (entries : List Entry) (x : X) (left : List ℕ) → Holds s came went entries x left → MayBeFrame (Undecided x))
+    → (s : Setting) (first : V) (came went : List ℕ) (old new : X) (u w : V) (octets left part more : List ℕ) (entered : Option ℕ)
     → Undecided old ++ octets ≡ part ++ (Undecided new ++ left) → (entered ≡ None → left ≡ [])
     → ((es : List Entry) → Holds s came went es old octets → Holds s came (went ++ more) (with_entry (with_more [] more es) entered (Undecided new ++ left)) new left)
     → SeesPart Sees Begins u w part more entered → Passing Holds Undecided Sees Begins s first came went old octets u → Passing Holds Undecided Sees Begins s first came (went ++ more) new left w
-passing_part Holds Undecided Sees Begins s first came went old new u w octets left part more None ends all stands sees p =
+passing_part Holds Undecided Sees Begins waits s first came went old new u w octets left part more None ends all stands sees p =
     let whole : came ≡ p.seen ++ (part ++ (Undecided new ++ left)) = p.came_is ∙ ap (λ (l : List ℕ). p.seen ++ l) ends in
     let holds : Holds s came (went ++ more) (with_more [] more p.entries) new left = stands p.entries p.holds in
     record {
@@ -66,9 +69,10 @@ passing_part Holds Undecided Sees Begins s first came went old new u w octets le
           (subst (λ (l : List ℕ). Exchanges (HoldsNow Holds s) Sees Begins first p.seen l went p.entries u) ends p.exchanges)
           (subst (λ (l : List ℕ). HoldsNow Holds s l (went ++ more)) whole
           (record { entries = with_more [] more p.entries; now = new; holds = subst (λ (l : List ℕ). Holds s came (went ++ more) (with_more [] more p.entries) new l) (all refl) holds }))
+          (subst MayBeFrame (sym (ap (λ (l : List ℕ). Undecided new ++ l) (all refl) ∙ append-nil (Undecided new))) (waits s came (went ++ more) (with_more [] more p.entries) new left holds))
           sees.part_seen (subst (λ (v : _). Sees sees.seen v FromModem more) (sym sees.begins) sees.said_seen);
     }
-passing_part Holds Undecided Sees Begins s first came went old new u w octets left part more (Some n1) ends all stands sees p = record {
+passing_part Holds Undecided Sees Begins waits s first came went old new u w octets left part more (Some n1) ends all stands sees p = record {
   seen = p.seen ++ part;
   entries = with_entry (with_more [] more p.entries) (Some n1) (Undecided new ++ left);
   came_is = p.came_is ∙ ap (λ (l : List ℕ). p.seen ++ l) ends ∙ sym (append_assoc p.seen part (Undecided new ++ left));
@@ -78,16 +82,18 @@ passing_part Holds Undecided Sees Begins s first came went old new u w octets le
       (subst (λ (l : List ℕ). Exchanges (HoldsNow Holds s) Sees Begins first p.seen l went p.entries u) ends p.exchanges) sees.part_seen sees.said_seen sees.begins;
 }
 
-pub passes_part : {X V : Type 0} (Holds : Setting → List ℕ → List ℕ → List Entry → X → List ℕ → Type 0) (Undecided : X → List ℕ) (Sees : V → V → Direction → List ℕ → Type 0) (Begins : V → V → ℕ → Type 0) (s : Setting) (old new : X) (u w : V) (octets left part none said before out : List ℕ) (entered : Option ℕ)
+pub passes_part : {X V : Type 0} (Holds : Setting → List ℕ → List ℕ → List Entry → X → List ℕ → Type 0) (Undecided : X → List ℕ) (Sees : V → V → Direction → List ℕ → Type 0) (Begins : V → V → ℕ → Type 0)
+    → ((s : Setting) (came went : List ℕ) (entries : List Entry) (x : X) (left : List ℕ) → Holds s came went entries x left → MayBeFrame (Undecided x))
+    → (s : Setting) (old new : X) (u w : V) (octets left part none said before out : List ℕ) (entered : Option ℕ)
     → Undecided old ++ octets ≡ part ++ (Undecided new ++ left) → (entered ≡ None → left ≡ []) → StepsOn Holds Undecided s old new entered octets left none said → none ≡ [] → SeesPart Sees Begins u w part said entered → (given : List ℕ) → given ≡ said → out ≡ before ++ given
     → PassesOn Holds Undecided Sees Begins s old new u w octets left before out
-passes_part Holds Undecided Sees Begins s old new u w octets left part none said before out entered ends all steps is_none sees given given_is written =
+passes_part Holds Undecided Sees Begins waits s old new u w octets left part none said before out entered ends all steps is_none sees given given_is written =
     let is : said ≡ steps.more = steps.written ∙ ap (λ (l : List ℕ). l ++ steps.more) is_none in
     record {
       more = steps.more;
       written = written ∙ ap (λ (l : List ℕ). before ++ l) (given_is ∙ is);
       passes = λ first came went p.
-          passing_part Holds Undecided Sees Begins s first came went old new u w octets left part steps.more entered ends all (steps.stands came went)
+          passing_part Holds Undecided Sees Begins waits s first came went old new u w octets left part steps.more entered ends all (steps.stands came went)
           (subst (λ (l : List ℕ). SeesPart Sees Begins u w part l entered) is sees) p;
     }
 
@@ -150,6 +156,7 @@ watched_end Holds Undecided Sees Begins s a b c x y now first u w pending out wa
           subst (λ (l : List ℕ). Exchanges (HoldsNow Holds s) Sees Begins first l [] (watched.went ++ []) (with_more [] [] p.entries) w) (sym whole)
           (turn p.seen (Undecided now) [] watched.went [] p.entries u sees.seen w p.exchanges
           (subst (λ (l : List ℕ). HoldsNow Holds s l (watched.went ++ [])) p.came_is (record { entries = with_more [] [] p.entries; now = now; holds = holds }))
+          (record { n1 = 0; text = []; can = no_flag [] refl; is = refl })
           (subst (λ (l : List ℕ). Sees u sees.seen ToModem l) pending_is sees.part_seen)
           (subst (λ (v : _). Sees sees.seen v FromModem []) (sym sees.begins) (subst (λ (l : List ℕ). Sees sees.seen sees.both FromModem l) none sees.said_seen)));
     }
@@ -175,8 +182,8 @@ exchanges_for : {V : Type 0} (A B : List ℕ → List ℕ → Type 0) (Sees : V 
     → ((came went : List ℕ) → A came went → B came went) → Exchanges A Sees Begins first came kept went entries watcher → Exchanges B Sees Begins first came kept went entries watcher
 exchanges_for A B Sees Begins first _ _ _ _ _ f nothing = nothing
 exchanges_for A B Sees Begins first _ _ _ _ _ f (comes came kept went piece es v before) = comes came kept went piece es v (exchanges_for A B Sees Begins first came kept went es v f before)
-exchanges_for A B Sees Begins first _ _ _ _ _ f (turn came part kept went more es u v w before answered read written) =
-    turn came part kept went more es u v w (exchanges_for A B Sees Begins first came (part ++ kept) went es u f before) (f (came ++ (part ++ kept)) (went ++ more) answered) read written
+exchanges_for A B Sees Begins first _ _ _ _ _ f (turn came part kept went more es u v w before answered may_be read written) =
+    turn came part kept went more es u v w (exchanges_for A B Sees Begins first came (part ++ kept) went es u f before) (f (came ++ (part ++ kept)) (went ++ more) answered) may_be read written
 exchanges_for A B Sees Begins first _ _ _ _ _ f (enters came part kept went more es n1 u v w x before read written begun) =
     enters came part kept went more es n1 u v w x (exchanges_for A B Sees Begins first came (part ++ kept) went es u f before) read written begun
 
@@ -261,14 +268,14 @@ captured_so_far s first _ _ _ _ _ nothing good = record { history = one_stretch 
 captured_so_far s first _ _ _ _ _ (comes came kept went piece es v before) good =
     let so_far = captured_so_far s first came kept went es v before good in
     record { history = so_far.history; exchanged = comes came kept went piece es so_far.history so_far.exchanged; n1 = so_far.n1; captured = so_far.captured }
-captured_so_far s first _ _ _ _ _ (turn came part kept went more es u v w before answers read written) good =
+captured_so_far s first _ _ _ _ _ (turn came part kept went more es u v w before answers may_be read written) good =
     let second = written good in
     let one = read second.0 in
     let so_far = captured_so_far s first came (part ++ kept) went es u before one.0 in
     let both = captured_both first u v w so_far.history part more so_far.n1 so_far.captured one.1 one.2 second.1 second.2 in
     record {
       history = both.last;
-      exchanged = turn came part kept went more es so_far.history both.next both.last so_far.exchanged answers both.notes both.notes_said;
+      exchanged = turn came part kept went more es so_far.history both.next both.last so_far.exchanged answers may_be both.notes both.notes_said;
       n1 = both.n1;
       captured = both.captured;
     }

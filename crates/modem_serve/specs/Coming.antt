@@ -1,11 +1,12 @@
--- More octets come to what answers them: a law of the trait, whose proof has to stand here.
+-- What answers octets: laws of the trait, whose proofs have to stand here.
 use Rattle.std.specs.Prelude.{◌≡◌, ℕ, List, [], ◌∷◌, ◌++◌, refl}
 use Rattle.std.proofs.Common.{ap, sym, ◌∙◌, append_assoc, subst}
+use Rattle.mux_frame.specs.Reading.{no_flag}
 use Rattle.modem_serve.specs.declared.server.Mode.{Mode}
 use Rattle.modem_serve.specs.declared.server.Mode.TheVariants.{Lines, Mux}
 use Rattle.modem_serve.specs.Serving as stage
 use Rattle.modem_serve.specs.Serving.{AnswersFrom, Entry, Setting, with_more}
-use Rattle.modem_serve.specs.Standing.{Stands}
+use Rattle.modem_serve.specs.Standing.{MayBeFrame, Stands, undecided}
 
 pub more_twice : (a b c d : List ℕ) (es : List Entry) → with_more c d (with_more a b es) ≡ with_more (a ++ c) (b ++ d) es
 more_twice a b c d [] = refl
@@ -39,3 +40,8 @@ stands_before s came went entries octets (Mux mux) at = record {
   kept = at.kept;
   leads = λ later more es answers. comes s came went octets later more entries es (at.leads (octets ++ later) more es answers);
 }
+
+-- what isn't decided may become a frame
+pub may_be_frame : (s : Setting) (came went : List ℕ) (entries : List Entry) (mode : Mode) (left : List ℕ) → Stands s came went entries mode left → MayBeFrame (undecided mode)
+may_be_frame s came went entries (Lines p) left at = record { n1 = 0; text = []; can = no_flag [] refl; is = refl }
+may_be_frame s came went entries (Mux mux) left at = record { n1 = mux.n1; text = mux.kept; can = at.kept; is = refl }

@@ -65,6 +65,13 @@ abbrev pub undecided : Mode → List ℕ
 undecided (Lines p) = []
 undecided (Mux mux) = drop 1 mux.kept
 
+-- the octets may become a frame with a flag in front of them
+pub record MayBeFrame (octets : List ℕ) : Type 0 where
+  pub n1 : ℕ
+  pub text : List ℕ
+  pub can : Reads n1 text [] text
+  pub is : octets ≡ drop 1 text
+
 -- the octets end with these
 pub record EndsWith (all last : List ℕ) : Type 0 where
   pub front : List ℕ

@@ -7,11 +7,11 @@ use Rattle.mux_capture.specs.declared.packet.Stamp.{Stamp}
 use Rattle.mux_capture.specs.Passing.{CaptureState, Captures, HasCaptured, HasStretches, Renews, Stretch, passed_at}
 use Rattle.modem_serve.specs.declared.serving.SimOptions.{SimOptions}
 use Rattle.modem_serve.specs.Serving.{Answers, AnswersEntering, Entry, Setting, setting_of, with_more}
-use Rattle.modem_serve.specs.Standing.{with_entry}
+use Rattle.modem_serve.specs.Standing.{MayBeFrame, with_entry}
 
 -- A client's octets were read, and passed on to a watcher part by part, each with what was said to it: these, and not yet those of
--- `kept`. A part ends where a line enters the multiplexer, and with that its N1 begins; else it ends what is answered: all that was read
--- by then was answered by all that had gone.
+-- `kept`. A part ends where a line enters the multiplexer, and with that its N1 begins. Else all that was read by then was answered by
+-- all that had gone, and passed on but for what may become a frame.
 pub data Exchanges {V : Type 0} (Answered : (came went : List ℕ) → Type 0) (Sees : V → V → Direction → List ℕ → Type 0) (Begins : V → V → ℕ → Type 0) (first : V) : (came kept went : List ℕ) → List Entry → V → Type 0 where
   nothing : Exchanges Answered Sees Begins first [] [] [] [] first
   comes :
@@ -20,7 +20,7 @@ pub data Exchanges {V : Type 0} (Answered : (came went : List ℕ) → Type 0) (
   turn :
       (came part kept went more : List ℕ) (es : List Entry) (u v w : V)
       → Exchanges Answered Sees Begins first came (part ++ kept) went es u → Answered (came ++ (part ++ kept)) (went ++ more)
-      → Sees u v ToModem part → Sees v w FromModem more
+      → MayBeFrame kept → Sees u v ToModem part → Sees v w FromModem more
       → Exchanges Answered Sees Begins first (came ++ part) kept (went ++ more) (with_more [] more es) w
   enters :
       (came part kept went more : List ℕ) (es : List Entry) (n1 : ℕ) (u v w x : V)

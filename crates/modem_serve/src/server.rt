@@ -4,8 +4,8 @@ ghost use Rattle.modem_serve.specs.Entry.{octets_of};
 ghost use Rattle.modem_serve.specs.Serving.{Entry, Setting, with_more};
 ghost use Rattle.modem_sim.specs.declared.state.ModemState.{ModemState};
 ghost use Rattle.modem_serve.specs.Leaving.{IsOfModem};
-ghost use Rattle.modem_serve.specs.Standing.{EndsWith, HandlesText, IsEntered, Stands, StepsOn, setting_by, undecided, weight};
-ghost use Rattle.modem_serve.specs.Coming.{stands_before};
+ghost use Rattle.modem_serve.specs.Standing.{EndsWith, HandlesText, IsEntered, MayBeFrame, Stands, StepsOn, setting_by, undecided, weight};
+ghost use Rattle.modem_serve.specs.Coming.{may_be_frame, stands_before};
 ghost use Rattle.modem_serve.specs.declared.server.Mode.TheVariants.{Lines, Mux};
 
 use crate::fault::ServeFault;
@@ -83,6 +83,10 @@ pub(crate) trait Answering: Drop {
     /// How many octets aren't decided.
     fn undecided_len(&self) -> usize
         ensures { result ≡ length (undecided self.now) };
+
+    /// What isn't decided may become a frame.
+    ghost waits: { (s : Setting) (came went : List ℕ) (entries : List Entry) (x : Self) (left : List ℕ)
+        → holds s came went entries x left → MayBeFrame (undecided x) };
 
     /// More octets come.
     ghost brings: { (s : Setting) (came went : List ℕ) (entries : List Entry) (octets : List ℕ) (x : Self)
@@ -248,6 +252,8 @@ impl Answering for Mode {
     ghost undecided = { undecided };
 
     ghost weight = { weight };
+
+    ghost waits = { may_be_frame };
 
     ghost brings = { stands_before };
 

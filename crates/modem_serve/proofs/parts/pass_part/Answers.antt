@@ -15,7 +15,7 @@ returns-clause-passes g c = λ m.
     let behind_len : c.len-2.result ≡ length behind = search rules in
     let front : c.split_at.result.0.now ≡ take (c.len.result - c.len-2.result - c.undecided_len.result) c.args.pending.now.items =
     c.split_at.ensures.front ∙ ap (take (c.len.result - c.len-2.result - c.undecided_len.result)) c.deref.ensures.value in
-    passes_part g.M.Answering.holds g.M.Answering.undecided g.V.Watcher.sees g.V.Watcher.begins (setting_by c.args.setup.now m) c.args.now c.in_ok-next.next c.args.watcher.now c.tell.new.watcher c.args.octets.now behind c.split_at.result.0.now
+    passes_part g.M.Answering.holds g.M.Answering.undecided g.V.Watcher.sees g.V.Watcher.begins g.met.M.Answering.waits (setting_by c.args.setup.now m) c.args.now c.in_ok-next.next c.args.watcher.now c.tell.new.watcher c.args.octets.now behind c.split_at.result.0.now
     c.new-said.result.items c.take_part.new.out.items c.args.out.now.items c.extend_from_slice.new.self.items (option_map octets_of c.in_ok-next.entered)
     (sym c.requires ∙ front_taken c.args.pending.now.items held behind c.len.result c.len-2.result c.undecided_len.result ends all behind_len c.undecided_len.ensures ∙ ap (λ (l : List ℕ). l ++ (held ++ behind)) (sym front))
     (λ none. c.in_ok-next.ensures.all (mapped_none octets_of c.in_ok-next.entered none)) (c.in_ok-next.ensures.steps m) c.new-said.ensures.items

@@ -1,9 +1,7 @@
 use Rattle.std.specs.Prelude.{Result, Ok, Err, IsOk, OnOk}
-use Rattle.std.proofs.Common.{ap, sym, subst, ◌∙◌}
+use Rattle.std.proofs.Common.{sym, ◌∙◌}
 use Rattle.std.proofs.lemmas.Bool.{false≢true}
-use Rattle.mux_capture.specs.Passing.{CaptureState}
 use Rattle.modem_serve.specs.Standing.{setting_by}
-use Rattle.modem_serve.specs.Watching.{IsCaptured}
 use Rattle.modem_serve.proofs.Ending.{both_well, ends_captured, served_in_part}
 use Rattle.modem_serve.proofs.Watched.{is_captured}
 use Rattle.modem_serve.proofs.serving.sim_captured.Goals as goal
