@@ -18,7 +18,7 @@ pub const BENCH: &str =
 
 /// Behind the help of `sim`.
 pub const SIM: &str =
-    "Example: socat pty,raw,echo=0,link=/tmp/modem EXEC:'modemctl sim'\n\nExit status: 0 the input has ended; 1 a fault; 2 bad words, or a bad line of the script or the answers.\ndocs/MODEM.md has the commands that it knows, docs/FORMATS.md the files of --script and --answers; docs/TRY.md drives it.";
+    "Example: socat pty,raw,echo=0,link=/tmp/modem EXEC:'modemctl sim'\n\nExit status: 0 the input has ended; 1 a fault; 2 bad words, or a bad line of the script or the answers.\ndocs/MODEM.md has the commands that it knows, and the files of --script and --answers; docs/TRY.md drives it.";
 
 /// Behind the help of `drive`.
 pub const DRIVE: &str =
