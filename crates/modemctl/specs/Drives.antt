@@ -1,9 +1,10 @@
 -- What the program prints at `drive`.
-use Rattle.std.specs.Prelude.{◌≡◌, ℕ, Bool, List, [], ◌∷◌, ◌++◌, All, Option, None, Some, codes, is_some, map, option_map}
+use Rattle.std.specs.Prelude.{◌≡◌, ℕ, Bool, true, false, List, [], ◌∷◌, ◌++◌, All, Option, None, Some, codes, is_some, map, option_map}
 use Rattle.std.specs.Fmt.{decimal}
 use Rattle.clap.specs.Words.{Row, Text, first_value, found_of, matched_of, raw_values}
 use Rattle.clap.specs.declared.ArgMatches.{ArgMatches}
-use Rattle.at_text.specs.Rules.{Rules}
+use Rattle.at_text.specs.Rules.{FinalRule, Rules, with_rule}
+use Rattle.at_text.specs.declared.rules.Form.TheVariants.{Prefix}
 use Rattle.modem_drive.specs.DataDevice.{RanFiles, opened_files}
 use Rattle.modem_drive.specs.Entry.{entry_for}
 use Rattle.modem_drive.specs.OnDevice.{RanDevice}
@@ -21,6 +22,17 @@ abbrev pub AreDataPaths : Option (List Text) → (by_connect : Bool) → List Da
 AreDataPaths None by_connect data_paths = data_paths ≡ []
 AreDataPaths (Some texts) by_connect data_paths =
     (texts ≡ map (λ p. data_path_text p) data_paths) × All (λ p. p.by_connect ≡ by_connect) data_paths
+
+-- the codes of a drive: where data begins behind a CONNECT line, a line that begins so ends a command too
+abbrev pub drive_rules : (by_connect : Bool) → Rules → Rules
+drive_rules false rules = rules
+drive_rules true rules = with_rule rules (FinalRule Prefix (codes "CONNECT"))
+
+-- they are so those of the dialect that is given
+pub record IsDriveDialect (texts : Text → Option (List ℕ)) (name : Option Text) (by_connect : Bool) (rules : Rules) : Type 0 where
+  pub own : Rules
+  pub named : IsGivenDialect texts name own
+  pub rules_are : rules ≡ drive_rules by_connect own
 
 -- a device was driven without a fault, with these files beside connections, if there are any
 abbrev pub RanBy : List DataPath → (captures : Bool) (rules : Rules) (text : List ℕ) (n1 : ℕ) (before after silent said : Option (List ℕ))
@@ -44,7 +56,7 @@ pub record PrintsDrive (texts : Text → Option (List ℕ)) (met : Option (Text 
   pub n1 : ℕ
   pub given : IsGiven met (codes "n1") 31 n1
   pub rules : Rules
-  pub named : IsGivenDialect texts (raw_in met (codes "dialect")) rules
+  pub named : IsDriveDialect texts (raw_in met (codes "dialect")) (is_set (raw_in met (codes "arm"))) rules
   pub drove :
       RanGiven (all_in met (codes "data")) (is_set (raw_in met (codes "arm"))) (is_some (raw_in met (codes "capture"))) rules
       (entry_for (raw_in met (codes "entry")) n1) n1 before after silent said was_bad
@@ -60,7 +72,8 @@ RanWith m captures rules text n1 before after silent said was_bad =
 pub record DrivesWith (texts : Text → Option (List ℕ)) (n1 : ℕ) (m : ArgMatches) (before after silent said : Option (List ℕ))
     (was_bad : Bool) : Type 0 where
   pub rules : Rules
-  pub named : IsGivenDialect texts (first_value (found_of m) (codes "dialect")) rules
+  pub named :
+      IsDriveDialect texts (first_value (found_of m) (codes "dialect")) (is_set (first_value (found_of m) (codes "arm"))) rules
   pub drove :
       RanWith m (is_some (first_value (found_of m) (codes "capture"))) rules
       (entry_for (first_value (found_of m) (codes "entry")) n1) n1 before after silent said was_bad

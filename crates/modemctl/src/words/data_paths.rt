@@ -1,13 +1,14 @@
 //! The files that the words name beside connections that carry data.
-ghost use Rattle.std.specs.Prelude.{◌≡◌, ◌<◌, ◌≤◌, All, IfOk, IfSome, codes, false, map, option_map};
+ghost use Rattle.std.specs.Prelude.{◌≡◌, ◌<◌, ◌≤◌, All, IfErr, IfOk, IfSome, OnOk, codes, false, map, option_map, true};
 ghost use Rattle.clap.specs.Words.{first_value, found_of, matched_of, raw_values, rule_of};
 ghost use Rattle.modem_runs.specs.Statuses.{stop_line};
 ghost use Rattle.modem_runs.specs.declared.stop.Stop.TheVariants as StopOf;
 ghost use Rattle.modem_texts.specs.Writing.{IsBegun};
-ghost use Rattle.modemctl.specs.Drives.{AreDataPaths, data_path_text};
+ghost use Rattle.modemctl.specs.Drives.{AreDataPaths, data_path_text, drive_rules};
 ghost use Rattle.modemctl.specs.Words.{arm_rule, data_path_rule, is_set};
 
 use crate::words::showing::{NoChannels, channel_of};
+use at_text::{Dialect, DialectError, Form};
 use clap::{Arg, ArgAction, ArgMatches};
 use modem_drive::DataPath;
 use modem_runs::{Stop, give_up};
@@ -44,7 +45,7 @@ pub fn arm_option<'a>(alloc: Global) -> Arg<'a>
 }
 
 /// Whether data begins behind a CONNECT line.
-fn arm_of(matches: &ArgMatches<'_>) -> bool
+pub fn arm_of(matches: &ArgMatches<'_>) -> bool
     ensures { result ≡ is_set (first_value (found_of matches.now) (codes "arm")) }
 {
     matches!(matches.get_str("arm"), Some("true"))
@@ -124,6 +125,29 @@ pub fn refuse_data<E: Write>(faults: &mut E, fault: NoChannels) -> u8
                 ", with a connection from 1 to 61, each once, and 8 of them at most",
             );
             2
+        }
+    }
+}
+
+/// Has a line that begins with CONNECT end a command too. Where the dialect has no room for that rule, or another that contradicts it, it
+/// says so, and gives the status.
+pub fn with_connect<E: Write>(dialect: Dialect, faults: &mut E) -> Result<Dialect, u8>
+    ensures rules { IfOk result (λ rules. rules ≡ drive_rules true dialect) }
+    ensures silent { OnOk result (faults.new ≡ faults.old) }
+    ensures bad { IfErr result (λ status. (0 < status) × (status ≤ 2)) }
+{
+    let mut dialect = dialect;
+    match dialect.add_final(Form::Prefix, b"CONNECT") {
+        Ok(()) => Ok(dialect),
+        Err(DialectError::NoMemory) => Err(give_up(faults, Stop::NoMemory)),
+        Err(_) => {
+            say_line(
+                faults,
+                "error: with --arm the dialect has the rule ",
+                "final prefix CONNECT",
+                " too, for which it has no room, or which another rule contradicts",
+            );
+            Err(2)
         }
     }
 }

@@ -1,19 +1,22 @@
 //! The words of a drive.
-ghost use Rattle.std.specs.Prelude.{◌≡◌, ◌<◌, ◌≤◌, ◌⊎◌, IfOk, codes, false, is_some, true};
+ghost use Rattle.std.specs.Prelude.{◌≡◌, ◌<◌, ◌≤◌, ◌⊎◌, IfErr, IfOk, IsErr, OnOk, codes, false, is_some, true};
 ghost use Rattle.clap.specs.Words.{app_of, first_value, found_of, rule_of, with_subcommand, AddsSubcommand};
 ghost use Rattle.modem_drive.specs.Entry.{entry_for, given_text};
 ghost use Rattle.modemctl.specs.Dialects.{IsShut};
-ghost use Rattle.modemctl.specs.Drives.{DrivesWith, RanWith};
-ghost use Rattle.modemctl.specs.Files.{NamesCause};
-ghost use Rattle.modemctl.specs.Words.{device_rule, drive_app, entry_rule, quiet_rule, tick_rule};
+ghost use Rattle.modemctl.specs.Drives.{DrivesWith, IsDriveDialect, RanWith};
+ghost use Rattle.modemctl.specs.Files.{IsNoText, NamesCause};
+ghost use Rattle.modemctl.specs.Words.{device_rule, drive_app, entry_rule, is_set, quiet_rule, tick_rule};
 
-use crate::words::data_paths::{arm_option, data_path_option, data_paths_of, refuse_data};
+use crate::words::data_paths::{
+    arm_of, arm_option, data_path_option, data_paths_of, refuse_data, with_connect,
+};
 use crate::words::dialects::{dialect_option, given_dialect};
 use crate::words::files::capture_option;
 use crate::words::numbers::{number_of, seconds_of};
 use crate::words::options::n1_option;
 use crate::words::text_files::TextFiles;
 use crate::words::{help, refuse};
+use at_text::Dialect;
 use clap::{Arg, ArgAction, ArgMatches, Command, value_parser};
 use modem_drive::{Settings, drive_data_run, drive_run};
 use std::alloc::{AllocError, AllocGlobal, Global};
@@ -120,6 +123,31 @@ fn times_of(matches: &ArgMatches<'_>) -> Result<Times, &'static str> {
     })
 }
 
+/// The codes of the drive that the words give: where data begins behind a CONNECT line, a line that begins so ends a command too. Where
+/// they can't be had it says why, and gives the status.
+fn drive_dialect<R: TextFiles, E: Write>(
+    rt: &R,
+    alloc: Global,
+    matches: &ArgMatches<'_>,
+    faults: &mut E,
+) -> Result<Dialect, u8>
+    ensures given { IfOk result (IsDriveDialect (R.text_of rt.now) (first_value (found_of matches.now) (codes "dialect"))
+        (is_set (first_value (found_of matches.now) (codes "arm")))) }
+    ensures silent { OnOk result (faults.new ≡ faults.old) }
+    ensures bad { IfErr result (λ status. (0 < status) × (status ≤ 2)) }
+    ensures shut { IsShut (R.is_shut rt.now) (first_value (found_of matches.now) (codes "dialect")) → IsErr result }
+    ensures refused { IsShut (R.is_shut rt.now) (first_value (found_of matches.now) (codes "dialect")) → IfErr result
+        (IsNoText true (codes "dialect") (first_value (found_of matches.now) (codes "dialect")) (E.contents faults.old)
+        (E.contents faults.new)) }
+{
+    let dialect = given_dialect(rt, alloc, matches, faults, true)?;
+    if arm_of(matches) {
+        with_connect(dialect, faults)
+    } else {
+        Ok(dialect)
+    }
+}
+
 /// Drives a modem on the device of this path, with the files that the words name beside connections. Texts that give none are refused
 /// before the device is opened.
 fn drive_on<R, I, W, E>(
@@ -198,7 +226,7 @@ where
         Ok(times) => times,
         Err(option) => return refuse(faults, option),
     };
-    match given_dialect(rt, rt.alloc(), matches, faults, true) {
+    match drive_dialect(rt, rt.alloc(), matches, faults) {
         Ok(dialect) => {
             let settings = Settings {
                 n1,

@@ -11,7 +11,7 @@ use Rattle.modemctl.specs.Benches.{AreGiven, AreMatched, AreOwn, AreScripted, Is
 use Rattle.modemctl.specs.Sims.{FailsClient, HasBadMatched, IsNotBegun, LeavesClient, LeavesWith, RefusesClient, SaysBadAnswer, SaysBadStep, SimFiles, files_given, files_matched}
 use Rattle.modem_drive.specs.Entry.{entry_for}
 use Rattle.modemctl.specs.Dialects.{IsGivenDialect, IsShut, PrintsActs}
-use Rattle.modemctl.specs.Drives.{DrivesWith, PrintsDrive, RanGiven}
+use Rattle.modemctl.specs.Drives.{DrivesWith, IsDriveDialect, PrintsDrive, RanGiven}
 use Rattle.modemctl.specs.Files.{NamesCause}
 use Rattle.modemctl.specs.Shows.{AreChannels, AreWanted, AreWantedBy, IsShutFile, PrintsShow, SaysUnshown, ShowsFiles, ShowsWith, all_in}
 use Rattle.show_texts.specs.declared.run.ShowOptions.{ShowOptions}
@@ -169,7 +169,9 @@ prints_drive texts top m n1 before after silent said was_bad e is drives = recor
   n1 = n1;
   given = number_in top m (codes "n1") 31 n1 e is;
   rules = drives.rules;
-  named = subst (λ (t : Option Text). IsGivenDialect texts t drives.rules) (word_given top m (codes "dialect") e) drives.named;
+  named =
+      subst (λ (t : Option Text × Option Text). IsDriveDialect texts t.0 (is_set t.1) drives.rules)
+      (λ i. (word_given top m (codes "dialect") e i, word_given top m (codes "arm") e i)) drives.named;
   drove =
       subst
       (λ (t : Option Text × Option Text × Option (List Text) × Option Text). RanGiven t.2 (is_set t.3) (is_some t.0) drives.rules (entry_for t.1 n1) n1 before after silent said was_bad)

@@ -4,8 +4,8 @@ use Rattle.clap.specs.Words.{Text, first_value, found_of}
 use Rattle.clap.specs.declared.ArgMatches.{ArgMatches}
 use Rattle.at_text.specs.Rules.{Rules}
 use Rattle.modem_drive.specs.Entry.{entry_for}
-use Rattle.modemctl.specs.Dialects.{IsGivenDialect}
-use Rattle.modemctl.specs.Drives.{DrivesWith, RanWith}
+use Rattle.modemctl.specs.Drives.{DrivesWith, IsDriveDialect, RanWith}
+use Rattle.modemctl.specs.Words.{is_set}
 use Rattle.modemctl.proofs.FileFaults.{names_cause}
 use Rattle.modemctl.proofs.words.driving.drive_words.Goals as goal
 
@@ -15,7 +15,7 @@ pub record AreOf (texts : Text → Option (List ℕ)) (m : ArgMatches) (n1 n : �
   pub same_rules : own ≡ rules
   pub same_entry : entry ≡ first_value (found_of m) (codes "entry")
   pub same_capture : capture ≡ first_value (found_of m) (codes "capture")
-  pub named : IsGivenDialect texts (first_value (found_of m) (codes "dialect")) rules
+  pub named : IsDriveDialect texts (first_value (found_of m) (codes "dialect")) (is_set (first_value (found_of m) (codes "arm"))) rules
 
 drives_with : (texts : Text → Option (List ℕ)) (m : ArgMatches) (n1 n : ℕ) (rules own : Rules) (entry capture before after silent said : Option (List ℕ)) (was_bad : Bool) → AreOf texts m n1 n rules own entry capture
     → RanWith m (is_some capture) own (entry_for entry n) n before after silent said was_bad → DrivesWith texts n1 m before after silent said was_bad
@@ -33,37 +33,37 @@ behind : (texts : Text → Option (List ℕ)) (n1 : ℕ) (m : ArgMatches) (befor
 behind texts n1 m before after first silent said was_bad same drives =
     subst (λ (s : Option (List ℕ)). DrivesWith texts n1 m before after s said was_bad) same drives
 
-pub returns-in-Ok-given_dialect-clause-done : goal.returns-in-Ok-given_dialect-clause-done
-returns-in-Ok-given_dialect-clause-done g c zero =
-    behind (g.R.TextFiles.text_of c.args.rt.now) _ _ _ _ _ _ _ false (ap g.E.Write.contents c.in-Ok-given_dialect.ensures.silent)
+pub returns-in-Ok-drive_dialect-clause-done : goal.returns-in-Ok-drive_dialect-clause-done
+returns-in-Ok-drive_dialect-clause-done g c zero =
+    behind (g.R.TextFiles.text_of c.args.rt.now) _ _ _ _ _ _ _ false (ap g.E.Write.contents c.in-Ok-drive_dialect.ensures.silent)
     (drives_with (g.R.TextFiles.text_of c.args.rt.now) _ _ _ _ _ _ _ _ _ _ _ false
     (record {
       same_n1 = refl;
       same_rules = refl;
-      same_entry = c.get_str-in-Ok-given_dialect.ensures;
-      same_capture = c.get_str-in-Ok-given_dialect-2.ensures;
-      named = c.in-Ok-given_dialect.ensures.given;
+      same_entry = c.get_str-in-Ok-drive_dialect.ensures;
+      same_capture = c.get_str-in-Ok-drive_dialect-2.ensures;
+      named = c.in-Ok-drive_dialect.ensures.given;
     })
     (c.drive_on.ensures.done zero))
 
-pub returns-in-Ok-given_dialect-clause-bad : goal.returns-in-Ok-given_dialect-clause-bad
-returns-in-Ok-given_dialect-clause-bad g c two =
+pub returns-in-Ok-drive_dialect-clause-bad : goal.returns-in-Ok-drive_dialect-clause-bad
+returns-in-Ok-drive_dialect-clause-bad g c two =
     ⊎_elim (λ same. inl same)
     (λ ran. inr
-    (behind (g.R.TextFiles.text_of c.args.rt.now) _ _ _ _ _ _ _ true (ap g.E.Write.contents c.in-Ok-given_dialect.ensures.silent)
+    (behind (g.R.TextFiles.text_of c.args.rt.now) _ _ _ _ _ _ _ true (ap g.E.Write.contents c.in-Ok-drive_dialect.ensures.silent)
     (drives_with (g.R.TextFiles.text_of c.args.rt.now) _ _ _ _ _ _ _ _ _ _ _ true
     (record {
       same_n1 = refl;
       same_rules = refl;
-      same_entry = c.get_str-in-Ok-given_dialect.ensures;
-      same_capture = c.get_str-in-Ok-given_dialect-2.ensures;
-      named = c.in-Ok-given_dialect.ensures.given;
+      same_entry = c.get_str-in-Ok-drive_dialect.ensures;
+      same_capture = c.get_str-in-Ok-drive_dialect-2.ensures;
+      named = c.in-Ok-drive_dialect.ensures.given;
     })
     ran)))
     (c.drive_on.ensures.bad two)
 
-pub returns-in-Err-given_dialect-clause-done : goal.returns-in-Err-given_dialect-clause-done
-returns-in-Err-given_dialect-clause-done g c zero = let some = c.in-Err-given_dialect.ensures.bad.0 in absurd (omega (arith, some, zero))
+pub returns-in-Err-drive_dialect-clause-done : goal.returns-in-Err-drive_dialect-clause-done
+returns-in-Err-drive_dialect-clause-done g c zero = let some = c.in-Err-drive_dialect.ensures.bad.0 in absurd (omega (arith, some, zero))
 
-pub returns-in-Err-given_dialect-clause-unread : goal.returns-in-Err-given_dialect-clause-unread
-returns-in-Err-given_dialect-clause-unread g c shut one = names_cause true _ c.args.output.now _ _ _ c.in-Err-given_dialect.ensures.refused
+pub returns-in-Err-drive_dialect-clause-unread : goal.returns-in-Err-drive_dialect-clause-unread
+returns-in-Err-drive_dialect-clause-unread g c shut one = names_cause true _ c.args.output.now _ _ _ (c.in-Err-drive_dialect.ensures.refused shut)
