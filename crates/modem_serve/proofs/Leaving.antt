@@ -9,11 +9,10 @@ use Rattle.modem_serve.specs.declared.server.Setup.{Setup}
 use Rattle.modem_texts.specs.Writing.{IsBegun}
 use Rattle.modem_serve.specs.declared.fault.ServeFault.{ServeFault}
 use Rattle.modem_serve.specs.Leaving.{BeginsAnswer, IsLeftAt, IsLeftBy, IsOfModem, IsOfReader, LeftSoFar, NextBegins}
-use Rattle.modem_serve.specs.Plain.{plain_begun}
-use Rattle.modem_serve.specs.Serving.{Setting}
-use Rattle.modem_serve.specs.Standing.{IsAtLines, ServedSoFar, Stands, StepsBy, setting_by}
+use Rattle.modem_serve.specs.Serving.{Entry, Setting}
+use Rattle.modem_serve.specs.Standing.{IsAtLines, Stands, setting_by}
 use Rattle.modem_texts.proofs.Written.{appends_more}
-use Rattle.modem_serve.proofs.Served.{answers_by, begun_at, consumed_more}
+use Rattle.modem_serve.proofs.Served.{answers_by, begun_mode, consumed_more}
 
 -- ## By whatever answers
 
@@ -60,7 +59,7 @@ fault_given : {A : Type 0} (given : Result A ServeFault) (fault : ServeFault) �
 fault_given (Ok x) fault h = absurd h
 fault_given (Err f) fault h = ap Some h
 
-pub left_given : {X A : Type 0} (Holds : Setting → List ℕ → List ℕ → X → Type 0) (s : Setting) (given : Result A ServeFault) (fault : ServeFault) (input rest x y : Option (List ℕ))
+pub left_given : {X A : Type 0} (Holds : Setting → List ℕ → List ℕ → List Entry → X → List ℕ → Type 0) (s : Setting) (given : Result A ServeFault) (fault : ServeFault) (input rest x y : Option (List ℕ))
     → IsErrAnd given (λ f. f ≡ fault) → LeftSoFar Holds s (Some fault) input rest x y → LeftSoFar Holds s (result_err given) input rest x y
 left_given Holds s given fault input rest x y is left =
     subst (λ (o : Option ServeFault). LeftSoFar Holds s o input rest x y) (sym (fault_given given fault is)) left
@@ -69,43 +68,56 @@ pub given_no_capture : {A : Type 0} (given : Result A ServeFault) (fault : Serve
 given_no_capture (Ok x) fault is other = tt
 given_no_capture (Err f) fault is other = λ same. other (sym is ∙ same)
 
+-- so far it was served
+pub record ServedSoFar {X : Type 0} (Holds : Setting → List ℕ → List ℕ → List Entry → X → List ℕ → Type 0) (s : Setting) (input rest before after : Option (List ℕ)) (now : X) : Type 0 where
+  pub came : List ℕ
+  pub went : List ℕ
+  pub entries : List Entry
+  pub read : Consumes input rest came
+  pub written : Appends before after went
+  pub holds : Holds s came went entries now []
+
 -- at a piece that isn't answered
-pub left_unanswered : {X : Type 0} (Holds : Setting → List ℕ → List ℕ → X → Type 0) (s : Setting) (fault : Option ServeFault) (a b c x y : Option (List ℕ)) (now : X) (piece : List ℕ)
+pub left_unanswered : {X : Type 0} (Holds : Setting → List ℕ → List ℕ → List Entry → X → List ℕ → Type 0) (s : Setting) (fault : Option ServeFault) (a b c x y : Option (List ℕ)) (now : X) (piece : List ℕ)
     → ServedSoFar Holds s a b x y now → Consumes b c piece → length piece ≤ 4096 → ((Begun : Type 0) → IsLeftBy fault piece [] Begun) → LeftSoFar Holds s fault a c x y
 left_unanswered Holds s fault a b c x y now piece so_far read few begun = record {
   came = so_far.came;
   went = so_far.went;
   piece = piece;
   part = [];
+  entries = so_far.entries;
   now = now;
   read = consumed_more a b c so_far.came piece so_far.read read;
   few = few;
-  stands = so_far.stands;
+  stands = so_far.holds;
   begun = begun (NextBegins Holds s so_far.came so_far.went piece []);
   written = subst (λ (l : List ℕ). Appends x y l) (sym (append-nil so_far.went)) so_far.written;
 }
 
 -- at a piece whose answer isn't written whole
-pub left_unwritten : {X : Type 0} (Holds : Setting → List ℕ → List ℕ → X → Type 0) (s : Setting) (fault : ServeFault) (a b c x y z : Option (List ℕ)) (old new : X) (piece before out : List ℕ)
-    → fault ≡ ServeFault.Output → ServedSoFar Holds s a b x y old → Consumes b c piece → length piece ≤ 4096 → piece ≢ [] → StepsBy Holds s old new piece before out → before ≡ [] → IsBegun y z out → LeftSoFar Holds s (Some fault) a c x z
-left_unwritten Holds s fault a b c x y z old new piece before out is so_far read few some steps none begun =
-    let says : steps.more ≡ begun.part ++ begun.left = sym (steps.written ∙ ap (λ l. l ++ steps.more) none) ∙ begun.split in
+pub left_unwritten : {X : Type 0} (Holds : Setting → List ℕ → List ℕ → List Entry → X → List ℕ → Type 0) (s : Setting) (fault : ServeFault) (a b c x y z : Option (List ℕ)) (old new : X) (piece before out more : List ℕ) (entries : List Entry)
+    → fault ≡ ServeFault.Output → (so_far : ServedSoFar Holds s a b x y old) → Consumes b c piece → length piece ≤ 4096 → piece ≢ [] → Holds s (so_far.came ++ piece) (so_far.went ++ more) entries new [] → out ≡ before ++ more → before ≡ [] → IsBegun y z out
+    → LeftSoFar Holds s (Some fault) a c x z
+left_unwritten Holds s fault a b c x y z old new piece before out more entries is so_far read few some holds says none begun =
+    let same : more ≡ begun.part ++ begun.left = sym (says ∙ ap (λ l. l ++ more) none) ∙ begun.split in
     record {
       came = so_far.came;
       went = so_far.went;
       piece = piece;
       part = begun.part;
+      entries = so_far.entries;
       now = old;
       read = consumed_more a b c so_far.came piece so_far.read read;
       few = few;
-      stands = so_far.stands;
+      stands = so_far.holds;
       begun =
           subst (λ (f : ServeFault). IsLeftBy (Some f) piece begun.part (NextBegins Holds s so_far.came so_far.went piece begun.part)) (sym is) (
             some,
             record {
               left = begun.left;
+              entries = entries;
               next = new;
-              stands = subst (λ (l : List ℕ). Holds s (so_far.came ++ piece) (so_far.went ++ l) new) says (steps.stands so_far.came so_far.went so_far.stands);
+              stands = subst (λ (l : List ℕ). Holds s (so_far.came ++ piece) (so_far.went ++ l) entries new []) same holds;
             },
           );
       written = appends_more x y z so_far.went begun.part so_far.written begun.appended;
@@ -121,7 +133,7 @@ begins_by s (Some ServeFault.Capture) came went piece part h = h
 begins_by s (Some ServeFault.NoMemory) came went piece part h = h
 begins_by s (Some ServeFault.EndlessModem) came went piece part h = h
 begins_by s (Some ServeFault.Output) came went piece part h =
-    (h.0, record { left = h.1.left; answers = answers_by s (came ++ piece) (went ++ (part ++ h.1.left)) h.1.next h.1.stands })
+    (h.0, record { left = h.1.left; answers = answers_by s (came ++ piece) (went ++ (part ++ h.1.left)) h.1.entries h.1.next h.1.stands })
 
 left_at : (s : Setting) (fault : Option ServeFault) (input rest x y : Option (List ℕ)) → LeftSoFar Stands s fault input rest x y → IsLeftAt s fault input rest x y
 left_at s fault None rest x y h = tt
@@ -132,14 +144,12 @@ left_at s fault (Some all) rest x y h = record {
   part = h.part;
   read = h.read;
   few = h.few;
-  answers = answers_by s h.came h.went h.now h.stands;
+  answers = answers_by s h.came h.went h.entries h.now h.stands;
   begun = begins_by s fault h.came h.went h.piece h.part h.begun;
   written = h.written;
 }
 
 pub left_client : (setup : Setup) (m : ModemState) (mode : Mode) (fault : Option ServeFault) (input rest x y : Option (List ℕ)) → IsAtLines setup m mode
-    → ((n : ModemState) → Stands (setting_by setup n) [] [] mode → LeftSoFar Stands (setting_by setup n) fault input rest x y)
+    → ((n : ModemState) → Stands (setting_by setup n) [] [] [] mode [] → LeftSoFar Stands (setting_by setup n) fault input rest x y)
     → IsLeftAt (setting_by setup m) fault input rest x y
-left_client setup m mode fault input rest x y is leaves =
-    left_at (setting_by setup m) fault input rest x y
-    (leaves m (subst (λ (o : Mode). Stands (setting_by setup m) [] [] o) (sym is) (begun_at (setting_by setup m) (plain_begun setup.n1.octets m) refl)))
+left_client setup m mode fault input rest x y is leaves = left_at (setting_by setup m) fault input rest x y (leaves m (begun_mode setup m mode is))

@@ -1,5 +1,6 @@
 pub mod Answering
 pub mod Ending
+pub mod Entries
 pub mod Feeding
 pub mod Leaving
 pub mod Muxes

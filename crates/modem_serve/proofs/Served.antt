@@ -2,8 +2,7 @@
 use Rattle.std.specs.Prelude.{◌≡◌, ℕ, List, [], ◌∷◌, ◌++◌, fold, Option, Some, None, refl}
 use Rattle.std.proofs.Common.{ap, sym, ◌∙◌, append_assoc, append-nil, subst}
 use Rattle.std.proofs.lemmas.List.Sums.{fold-append}
-use Rattle.std.specs.Io.KnownBytes.{Appends, Consumes, IsAtEnd, Keeps}
-use Rattle.modem_texts.proofs.Written.{appends_more, appends_none}
+use Rattle.std.specs.Io.KnownBytes.{Consumes, Keeps}
 use Rattle.modem_serve.specs.Plain.{Plain, plain_after, plain_by, plain_octet}
 use Rattle.modem_sim.specs.declared.state.ModemState.{ModemState}
 use Rattle.modem_serve.specs.declared.server.Mode.{Mode}
@@ -11,8 +10,9 @@ use Rattle.modem_serve.specs.declared.server.Mode.TheVariants.{Lines, Mux}
 use Rattle.modem_serve.specs.Plain.{plain_begun}
 use Rattle.modem_serve.specs.InMux.{mux_end}
 use Rattle.modem_serve.specs.Serving as stage
-use Rattle.modem_serve.specs.Serving.{Answers, AnswersFrom, IsAnswered, Setting, WritesAnswers, plain_by_now}
-use Rattle.modem_serve.specs.Standing.{AtLines, IsAtLines, ServedSoFar, ServedWhole, Stands, StepsBy, setting_by, unsaid, with_said}
+use Rattle.modem_serve.specs.Serving.{Answers, AnswersEntering, AnswersFrom, Entry, Setting, plain_by_now, with_more}
+use Rattle.modem_serve.specs.Standing.{AtLines, IsAtLines, Stands, setting_by, undecided, unsaid, with_said}
+use Rattle.modem_serve.proofs.Entries.{none_more}
 use Rattle.modem_serve.specs.declared.server.Setup.{Setup}
 
 -- ## Known octets
@@ -64,69 +64,28 @@ pub keeps_same : (a : Option (List ℕ)) → Keeps a a
 keeps_same None = tt
 keeps_same (Some x) = refl
 
-unfoldable pub served_none : {X : Type 0} (Holds : Setting → List ℕ → List ℕ → X → Type 0) (s : Setting) (input before : Option (List ℕ)) (now : X) → Holds s [] [] now → ServedSoFar Holds s input input before before now
-served_none Holds s input before now holds = record {
-  came = [];
-  went = [];
-  read = consumed_none input input (keeps_same input);
-  written = appends_none before;
-  stands = holds;
-}
-
--- and more
-unfoldable pub served_more : {X : Type 0} (Holds : Setting → List ℕ → List ℕ → X → Type 0) (s : Setting) (a b c x y z : Option (List ℕ)) (old new : X) (piece before out : List ℕ) → ServedSoFar Holds s a b x y old → Consumes b c piece → StepsBy Holds s old new piece before out → before ≡ [] → Appends y z out → ServedSoFar Holds s a c x z new
-served_more Holds s a b c x y z old new piece before out so_far read steps none written =
-    let says : out ≡ steps.more = steps.written ∙ ap (λ l. l ++ steps.more) none in
-    record {
-      came = so_far.came ++ piece;
-      went = so_far.went ++ steps.more;
-      read = consumed_more a b c so_far.came piece so_far.read read;
-      written = subst (λ (l : List ℕ). Appends x z (so_far.went ++ l)) says (appends_more x y z so_far.went out so_far.written written);
-      stands = steps.stands so_far.came so_far.went so_far.stands;
-    }
-
--- and no more
-unfoldable pub served_end : {X : Type 0} (Holds : Setting → List ℕ → List ℕ → X → Type 0) (s : Setting) (a b c x y : Option (List ℕ)) (now : X) → ServedSoFar Holds s a b x y now → Consumes b c [] → IsAtEnd c → ServedWhole Holds s a x y
-served_end Holds s a b c x y now so_far read end = record {
-  last = now;
-  rest = c;
-  end = end;
-  so_far = record {
-    came = so_far.came;
-    went = so_far.went;
-    read = subst (λ (o : List ℕ). Consumes a c o) (append-nil so_far.came) (consumed_more a b c so_far.came [] so_far.read read);
-    written = so_far.written;
-    stands = so_far.stands;
-  };
-}
-
-answered_all : (s : Setting) (came went : List ℕ) → AnswersFrom s (stage.Lines s.modem) (came ++ []) (went ++ []) → Answers s came went
-answered_all s came went answers =
-    subst (λ (l : List ℕ). AnswersFrom s (stage.Lines s.modem) l went) (append-nil came) (subst (λ (l : List ℕ). AnswersFrom s (stage.Lines s.modem) (came ++ []) l) (append-nil went) answers)
+answered_all : (s : Setting) (came went : List ℕ) (entries : List Entry) → AnswersFrom s (stage.Lines s.modem) (came ++ []) (went ++ []) (with_more [] [] entries ++ []) → AnswersEntering s came went entries
+answered_all s came went entries answers =
+    subst (λ (l : List ℕ). AnswersFrom s (stage.Lines s.modem) l went entries) (append-nil came)
+    (subst (λ (l : List ℕ). AnswersFrom s (stage.Lines s.modem) (came ++ []) l entries) (append-nil went)
+    (subst (λ (l : List Entry). AnswersFrom s (stage.Lines s.modem) (came ++ []) (went ++ []) l) (append-nil (with_more [] [] entries) ∙ none_more entries) answers))
 
 -- what it came to, where all octets are taken
-pub answers_by : (s : Setting) (came went : List ℕ) (mode : Mode) → Stands s came went mode → Answers s came went
-answers_by s came went (Lines p) at =
-    answered_all s came went
-    (at.leads [] [] (subst (λ (l : List ℕ). AnswersFrom s (stage.Lines at.modem) (at.lines ++ []) l) (sym (append-nil (plain_by_now s at.modem at.lines).said))
-    (subst (λ (l : List ℕ). AnswersFrom s (stage.Lines at.modem) l (plain_by_now s at.modem at.lines).said) (sym (append-nil at.lines))
+pub answers_entering : (s : Setting) (came went : List ℕ) (entries : List Entry) (mode : Mode) → Stands s came went entries mode [] → AnswersEntering s came went entries
+answers_entering s came went entries (Lines p) at =
+    answered_all s came went entries
+    (at.leads [] [] [] (subst (λ (l : List ℕ). AnswersFrom s (stage.Lines at.modem) (at.lines ++ []) l []) (sym (append-nil (plain_by_now s at.modem at.lines).said))
+    (subst (λ (l : List ℕ). AnswersFrom s (stage.Lines at.modem) l (plain_by_now s at.modem at.lines).said []) (sym (append-nil at.lines))
     (stage.at_lines at.modem at.lines at.none))))
-answers_by s came went (Mux mux) at =
-    answered_all s came went
-    (at.leads [] [] (subst (λ (l : List ℕ). AnswersFrom s (stage.Mux (mux_end mux.n1 at.modem s.steps) at.past) l []) (sym (append-nil mux.kept))
+answers_entering s came went entries (Mux mux) at =
+    answered_all s came went entries
+    (at.leads [] [] [] (subst (λ (l : List ℕ). AnswersFrom s (stage.Mux (mux_end mux.n1 at.modem s.steps) at.past) l [] []) (sym (append-nil mux.kept))
     (stage.no_frame (mux_end mux.n1 at.modem s.steps) at.past mux.kept mux.kept at.kept)))
 
-whole_by : (s : Setting) (all : List ℕ) (rest x y : Option (List ℕ)) (mode : Mode) → ServedSoFar Stands s (Some all) rest x y mode → IsAtEnd rest → WritesAnswers s x y all
-whole_by s all None x y mode so_far end = absurd so_far.read
-whole_by s all (Some rest) x y mode so_far end =
-    let whole : all ≡ so_far.came = so_far.read ∙ ap (λ l. so_far.came ++ l) end ∙ append-nil so_far.came in
-    record {
-      went = so_far.went;
-      answers = subst (λ (l : List ℕ). Answers s l so_far.went) (sym whole) (answers_by s so_far.came so_far.went mode so_far.stands);
-      written = so_far.written;
-    }
+pub answers_by : (s : Setting) (came went : List ℕ) (entries : List Entry) (mode : Mode) → Stands s came went entries mode [] → Answers s came went
+answers_by s came went entries mode at = record { entries = entries; entering = answers_entering s came went entries mode at }
 
-pub begun_at : (s : Setting) (p : Plain) → p ≡ plain_begun s.n1 s.modem → AtLines s [] [] p []
+pub begun_at : (s : Setting) (p : Plain) → p ≡ plain_begun s.n1 s.modem → AtLines s [] [] [] p []
 begun_at s p is =
     let none = after_none (plain_begun s.n1 s.modem) in
     record {
@@ -134,15 +93,12 @@ begun_at s p is =
       lines = [];
       none = ap (λ (q : Plain). q.entered) none;
       plain_is = is ∙ ap unsaid (sym none);
-      leads = λ later more answers. subst (λ (l : List ℕ). AnswersFrom s (stage.Lines s.modem) later l) (ap (λ (q : Plain). q.said ++ more) none) answers;
+      leads = λ later more es answers. subst (λ (l : List ℕ). AnswersFrom s (stage.Lines s.modem) later l es) (ap (λ (q : Plain). q.said ++ more) none) answers;
     }
 
-answered : (s : Setting) (input x y : Option (List ℕ)) → ServedWhole Stands s input x y → IsAnswered s input x y
-answered s None x y whole = tt
-answered s (Some all) x y whole = whole_by s all whole.rest x y whole.last whole.so_far whole.end
+-- plain lines that were begun so
+pub begun_mode : (setup : Setup) (m : ModemState) (mode : Mode) → IsAtLines setup m mode → Stands (setting_by setup m) [] [] [] mode []
+begun_mode setup m mode is = subst (λ (o : Mode). Stands (setting_by setup m) [] [] [] o []) (sym is) (begun_at (setting_by setup m) (plain_begun setup.n1.octets m) refl)
 
--- plain lines that were begun so, and then all of the input
-pub served_whole : (setup : Setup) (m : ModemState) (mode : Mode) (input x y : Option (List ℕ)) → IsAtLines setup m mode → ((n : ModemState) → Stands (setting_by setup n) [] [] mode → ServedWhole Stands (setting_by setup n) input x y) → IsAnswered (setting_by setup m) input x y
-served_whole setup m mode input x y is serves =
-    answered (setting_by setup m) input x y
-    (serves m (subst (λ (o : Mode). Stands (setting_by setup m) [] [] o) (sym is) (begun_at (setting_by setup m) (plain_begun setup.n1.octets m) refl)))
+pub none_undecided : (setup : Setup) (m : ModemState) (mode : Mode) → IsAtLines setup m mode → undecided mode ≡ []
+none_undecided setup m mode is = ap undecided is

@@ -1,6 +1,7 @@
 -- What a modem for a client does with octets: at plain lines, and in the multiplexer.
-use Rattle.std.specs.Prelude.{◌≡◌, ℕ, ◌+◌, ◌<◌, ◌≤◌, min, Bool, true, false, List, [], ◌∷◌, ◌++◌, Option, Some, None, take, drop, length, refl}
-use Rattle.std.proofs.Common.{arith, ap, sym, ◌∙◌, append_assoc, append-nil, length-append, length-drop, subst}
+use Rattle.std.specs.Prelude.{◌≡◌, ℕ, ◌==◌, ◌+◌, ◌-◌, ◌<◌, ◌≤◌, min, Bool, true, false, List, [], ◌∷◌, ◌++◌, Option, Some, None, is_some, option_map, take, drop, length, refl}
+use Rattle.std.proofs.Common.{suc, zero, arith, ap, sym, ◌∙◌, append_assoc, append-nil, length-append, length-drop, subst}
+use Rattle.std.proofs.lemmas.Bool.{false≢true}
 use Rattle.std.proofs.lemmas.List.{take-append-drop, take-append-le, take_all}
 use Rattle.mux_frame.specs.Frames.{Frame}
 use Rattle.mux_frame.specs.Laws.{AreOctets, GoesOn}
@@ -28,46 +29,57 @@ use Rattle.modem_serve.specs.Muxes as muxes
 use Rattle.modem_serve.specs.Muxes.{FedTo, FitsMux, IsDown, IsEndedBy, IsFed, IsOverFed, Rests}
 use Rattle.modem_serve.specs.Plain.{Plain, plain_after, plain_begun}
 use Rattle.modem_serve.specs.Serving as stage
-use Rattle.modem_serve.specs.Serving.{AnswersFrom, EntersAfter, Setting, plain_by_now}
-use Rattle.modem_serve.specs.Standing.{AtLines, AtMux, HandlesText, IsEntered, StandsBefore, Stands, StepsBy, StepsOn, at_lines, enters, held, in_mux, once_entered, unsaid, weight, with_said}
+use Rattle.modem_serve.specs.Serving.{AnswersFrom, EntersAfter, Entry, Setting, plain_by_now, with_more}
+use Rattle.modem_serve.specs.Standing.{AtLines, AtMux, EndsWith, HandlesText, IsEntered, Stands, StepsOn, at_lines, enters, held, in_mux, once_entered, undecided, unsaid, weight, with_entry, with_said}
+use Rattle.modem_serve.specs.Coming.{more_twice}
+use Rattle.modem_serve.proofs.Entries.{entry_more, none_more}
 use Rattle.modem_serve.proofs.Served.{after_none, both_served}
+
+-- what is said first goes in front of what goes to more that comes
+says : (s : Setting) (came went said later more : List ℕ) (entries es : List Entry)
+    → AnswersFrom s (stage.Lines s.modem) (came ++ later) (went ++ (said ++ more)) (with_more later (said ++ more) entries ++ es)
+    → AnswersFrom s (stage.Lines s.modem) (came ++ later) ((went ++ said) ++ more) (with_more later more (with_more [] said entries) ++ es)
+says s came went said later more entries es answers =
+    subst (λ (l : List ℕ). AnswersFrom s (stage.Lines s.modem) (came ++ later) l (with_more later more (with_more [] said entries) ++ es)) (sym (append_assoc went said more))
+    (subst (λ (l : List Entry). AnswersFrom s (stage.Lines s.modem) (came ++ later) (went ++ (said ++ more)) (l ++ es)) (sym (more_twice [] said later more entries)) answers)
 
 -- ## At plain lines
 
 -- these octets are taken behind others
-lines_on : (s : Setting) (came went left : List ℕ) (p : Plain) (piece : List ℕ) → (at : AtLines s came went p left) → plain_by_now s at.modem (at.lines ++ piece) ≡ with_said (plain_by_now s at.modem at.lines).said (plain_after p piece)
-lines_on s came went left p piece at =
+lines_on : (s : Setting) (came went : List ℕ) (entries : List Entry) (left : List ℕ) (p : Plain) (piece : List ℕ) → (at : AtLines s came went entries p left) → plain_by_now s at.modem (at.lines ++ piece) ≡ with_said (plain_by_now s at.modem at.lines).said (plain_after p piece)
+lines_on s came went entries left p piece at =
     both_served (plain_begun s.n1 at.modem) at.lines piece ∙ ap (λ q. with_said (plain_by_now s at.modem at.lines).said (plain_after q piece)) (sym at.plain_is)
 
 -- what goes to the octets behind them goes behind what they are told
-leads_on : (s : Setting) (came went piece behind : List ℕ) (p : Plain) → (at : AtLines s came went p (piece ++ behind)) → (later more : List ℕ)
-    → AnswersFrom s (stage.Lines at.modem) ((at.lines ++ piece) ++ (behind ++ later)) ((plain_by_now s at.modem (at.lines ++ piece)).said ++ more)
-    → AnswersFrom s (stage.Lines s.modem) (came ++ later) ((went ++ (plain_after p piece).said) ++ more)
-leads_on s came went piece behind p at later more answers =
+leads_on : (s : Setting) (came went piece behind : List ℕ) (entries : List Entry) (p : Plain) → (at : AtLines s came went entries p (piece ++ behind)) → (later more : List ℕ) (es : List Entry)
+    → AnswersFrom s (stage.Lines at.modem) ((at.lines ++ piece) ++ (behind ++ later)) ((plain_by_now s at.modem (at.lines ++ piece)).said ++ more) es
+    → AnswersFrom s (stage.Lines s.modem) (came ++ later) ((went ++ (plain_after p piece).said) ++ more) (with_more later more (with_more [] (plain_after p piece).said entries) ++ es)
+leads_on s came went piece behind entries p at later more es answers =
     let came_is : (at.lines ++ piece) ++ (behind ++ later) ≡ at.lines ++ ((piece ++ behind) ++ later) =
     append_assoc at.lines piece (behind ++ later) ∙ ap (λ (l : List ℕ). at.lines ++ l) (sym (append_assoc piece behind later)) in
     let went_is : (plain_by_now s at.modem (at.lines ++ piece)).said ++ more ≡ (plain_by_now s at.modem at.lines).said ++ ((plain_after p piece).said ++ more) =
-    ap (λ (q : Plain). q.said ++ more) (lines_on s came went (piece ++ behind) p piece at) ∙ append_assoc (plain_by_now s at.modem at.lines).said (plain_after p piece).said more in
-    subst (λ (l : List ℕ). AnswersFrom s (stage.Lines s.modem) (came ++ later) l) (sym (append_assoc went (plain_after p piece).said more))
-    (at.leads later ((plain_after p piece).said ++ more)
-    (subst (λ (l : List ℕ). AnswersFrom s (stage.Lines at.modem) l ((plain_by_now s at.modem at.lines).said ++ ((plain_after p piece).said ++ more))) came_is
-    (subst (λ (l : List ℕ). AnswersFrom s (stage.Lines at.modem) ((at.lines ++ piece) ++ (behind ++ later)) l) went_is answers)))
+    ap (λ (q : Plain). q.said ++ more) (lines_on s came went entries (piece ++ behind) p piece at) ∙ append_assoc (plain_by_now s at.modem at.lines).said (plain_after p piece).said more in
+    says s came went (plain_after p piece).said later more entries es
+    (at.leads later ((plain_after p piece).said ++ more) es
+    (subst (λ (l : List ℕ). AnswersFrom s (stage.Lines at.modem) l ((plain_by_now s at.modem at.lines).said ++ ((plain_after p piece).said ++ more)) es) came_is
+    (subst (λ (l : List ℕ). AnswersFrom s (stage.Lines at.modem) ((at.lines ++ piece) ++ (behind ++ later)) l es) went_is answers)))
 
 -- they stay at plain lines
-stays_at : (s : Setting) (came went piece behind : List ℕ) (p new : Plain) → new ≡ unsaid (plain_after p piece) → (plain_after p piece).entered ≡ None → AtLines s came went p (piece ++ behind) → AtLines s came (went ++ (plain_after p piece).said) new behind
-stays_at s came went piece behind p new is none at = record {
+stays_at : (s : Setting) (came went piece behind : List ℕ) (entries : List Entry) (p new : Plain) → new ≡ unsaid (plain_after p piece) → (plain_after p piece).entered ≡ None → AtLines s came went entries p (piece ++ behind)
+    → AtLines s came (went ++ (plain_after p piece).said) (with_more [] (plain_after p piece).said entries) new behind
+stays_at s came went piece behind entries p new is none at = record {
   modem = at.modem;
   lines = at.lines ++ piece;
-  none = ap (λ (q : Plain). q.entered) (lines_on s came went (piece ++ behind) p piece at) ∙ none;
-  plain_is = is ∙ ap unsaid (sym (lines_on s came went (piece ++ behind) p piece at));
-  leads = leads_on s came went piece behind p at;
+  none = ap (λ (q : Plain). q.entered) (lines_on s came went entries (piece ++ behind) p piece at) ∙ none;
+  plain_is = is ∙ ap unsaid (sym (lines_on s came went entries (piece ++ behind) p piece at));
+  leads = leads_on s came went piece behind entries p at;
 }
 
-pub stays : (s : Setting) (p new : Plain) (piece behind before out : List ℕ) → new ≡ unsaid (plain_after p piece) → (plain_after p piece).entered ≡ None → out ≡ before ++ (plain_after p piece).said → StepsOn s (Lines p) (Lines new) (piece ++ behind) behind before out
+pub stays : (s : Setting) (p new : Plain) (piece behind before out : List ℕ) → new ≡ unsaid (plain_after p piece) → (plain_after p piece).entered ≡ None → out ≡ before ++ (plain_after p piece).said → StepsOn Stands undecided s (Lines p) (Lines new) None (piece ++ behind) behind before out
 stays s p new piece behind before out is none written = record {
   more = (plain_after p piece).said;
   written = written;
-  stands = λ came went at. stays_at s came went piece behind p new is none at;
+  stands = λ came went es at. stays_at s came went piece behind es p new is none at;
 }
 
 -- a text of a frame behind no other octets
@@ -75,9 +87,10 @@ reads_first_text : (n1 : ℕ) (b : List ℕ) (f : Frame) → Spells n1 b f → R
 reads_first_text n1 b f spells = reads_written n1 b [] f [] (flag ∷ []) spells (cut_short (flag ∷ []) [] refl (cut_none n1))
 
 -- or a line enters the multiplexer
-entered_at : (s : Setting) (came went piece behind : List ℕ) (p : Plain) (n1 : ℕ) (sim : SimState HeldState) → (plain_after p piece).entered ≡ Some n1 → (plain_after p piece).behind ≡ [] → FitsMux (mux_end n1 (plain_after p piece).modem s.steps) [] [] sim [] → AtLines s came went p (piece ++ behind) → AtMux s came (went ++ (plain_after p piece).said) (record { sim = sim; n1 = n1; kept = [] }) behind
-entered_at s came went piece behind p n1 sim is none fits at =
-    let same = lines_on s came went (piece ++ behind) p piece at in
+entered_at : (s : Setting) (came went piece behind : List ℕ) (entries : List Entry) (p : Plain) (n1 : ℕ) (sim : SimState HeldState) → (plain_after p piece).entered ≡ Some n1 → (plain_after p piece).behind ≡ [] → FitsMux (mux_end n1 (plain_after p piece).modem s.steps) [] [] sim []
+    → AtLines s came went entries p (piece ++ behind) → AtMux s came (went ++ (plain_after p piece).said) (with_entry (with_more [] (plain_after p piece).said entries) (Some n1) behind) (record { sim = sim; n1 = n1; kept = [] }) behind
+entered_at s came went piece behind entries p n1 sim is none fits at =
+    let same = lines_on s came went entries (piece ++ behind) p piece at in
     let modem_is : (plain_by_now s at.modem (at.lines ++ piece)).modem ≡ (plain_after p piece).modem = ap (λ (q : Plain). q.modem) same in
     let ends : EntersAfter s at.modem (at.lines ++ piece) n1 = record { entered = ap (λ (q : Plain). q.entered) same ∙ is; none_behind = ap (λ (q : Plain). q.behind) same ∙ none } in
     record {
@@ -88,43 +101,46 @@ entered_at s came went piece behind p n1 sim is none fits at =
       octets_are = λ i. omega arith;
       next = λ b f spells. reads_first_text n1 b f spells;
       kept = no_flag [] refl;
-      leads = λ later more answers.
-          leads_on s came went piece behind p at later more
-          (stage.enters at.modem (at.lines ++ piece) (behind ++ later) more n1 ends
-          (subst (λ (m : ModemState). AnswersFrom s (stage.Mux (mux_end n1 m s.steps) []) (behind ++ later) more) (sym modem_is) answers));
+      leads = λ later more es answers.
+          subst (λ (l : List Entry). AnswersFrom s (stage.Lines s.modem) (came ++ later) ((went ++ (plain_after p piece).said) ++ more) l) (sym (entry_more n1 behind later more (with_more [] (plain_after p piece).said entries) es))
+          (leads_on s came went piece behind entries p at later more (record { n1 = n1; came = behind ++ later; went = more } ∷ es)
+          (stage.enters at.modem (at.lines ++ piece) (behind ++ later) more n1 es ends
+          (subst (λ (m : ModemState). AnswersFrom s (stage.Mux (mux_end n1 m s.steps) []) (behind ++ later) more es) (sym modem_is) answers)));
     }
 
-pub entered : (setup : Setup) (s : Setting) (p : Plain) (n1 : ℕ) (m : ModemState) (new : Mode) (piece behind before out : List ℕ) → s.steps ≡ setup.steps → (plain_after p piece).entered ≡ Some n1 → (plain_after p piece).behind ≡ [] → m ≡ (plain_after p piece).modem → out ≡ before ++ (plain_after p piece).said → IsEntered setup m n1 new → StepsOn s (Lines p) new (piece ++ behind) behind before out
+pub entered : (setup : Setup) (s : Setting) (p : Plain) (n1 : ℕ) (m : ModemState) (new : Mode) (piece behind before out : List ℕ) → s.steps ≡ setup.steps → (plain_after p piece).entered ≡ Some n1 → (plain_after p piece).behind ≡ [] → m ≡ (plain_after p piece).modem → out ≡ before ++ (plain_after p piece).said → IsEntered setup m n1 new
+    → StepsOn Stands undecided s (Lines p) new (Some n1) (piece ++ behind) behind before out
 entered setup s p n1 m _ piece behind before out steps is none same written (enters sim fits) = record {
   more = (plain_after p piece).said;
   written = written;
-  stands = λ came went at.
-      entered_at s came went piece behind p n1 sim is none
+  stands = λ came went es at.
+      entered_at s came went piece behind es p n1 sim is none
       (subst (λ (x : ModemState). FitsMux (mux_end n1 x s.steps) [] [] sim []) same (subst (λ (x : List Step). FitsMux (mux_end n1 m x) [] [] sim []) (sym steps) fits)) at;
 }
 
 -- ## In the multiplexer
 
 -- what is answered behind octets that begin no frame
-passed_on : (s : Setting) (e : End) (past : List Act) (x y z went : List ℕ) → PassesOver e.n1 x y → AnswersFrom s (stage.Mux e past) (y ++ z) went → AnswersFrom s (stage.Mux e past) (x ++ z) went
-passed_on s e past x y z went passes answers = by_kind (y ++ z) (passes.none z) (passes.first z) answers
+passed_on : (s : Setting) (e : End) (past : List Act) (x y z went : List ℕ) (es : List Entry) → PassesOver e.n1 x y → AnswersFrom s (stage.Mux e past) (y ++ z) went es → AnswersFrom s (stage.Mux e past) (x ++ z) went es
+passed_on s e past x y z went es passes answers = by_kind (y ++ z) (passes.none z) (passes.first z) answers
   where
-    by_kind : (came : List ℕ) {went : List ℕ} → ((rest : List ℕ) → Reads e.n1 came [] rest → Reads e.n1 (x ++ z) [] rest) → ((behind : List ℕ) (f : Frame) → ReadsFirst e.n1 came f behind → ReadsFirst e.n1 (x ++ z) f behind) → AnswersFrom s (stage.Mux e past) came went → AnswersFrom s (stage.Mux e past) (x ++ z) went
+    by_kind : (came : List ℕ) {went : List ℕ} {fs : List Entry} → ((rest : List ℕ) → Reads e.n1 came [] rest → Reads e.n1 (x ++ z) [] rest) → ((behind : List ℕ) (f : Frame) → ReadsFirst e.n1 came f behind → ReadsFirst e.n1 (x ++ z) f behind) → AnswersFrom s (stage.Mux e past) came went fs → AnswersFrom s (stage.Mux e past) (x ++ z) went fs
     by_kind came none one (stage.no_frame _ _ _ rest reads) = stage.no_frame e past (x ++ z) rest (none rest reads)
-    by_kind came none one (stage.goes_on _ _ _ behind more went f now reads handles still answers) = stage.goes_on e past (x ++ z) behind more went f now (one behind f reads) handles still answers
-    by_kind came none one (stage.closes _ _ _ behind more went f now reads closes answers) = stage.closes e past (x ++ z) behind more went f now (one behind f reads) closes answers
+    by_kind came none one (stage.goes_on _ _ _ behind more went f now fs reads handles still answers) = stage.goes_on e past (x ++ z) behind more went f now fs (one behind f reads) handles still answers
+    by_kind came none one (stage.closes _ _ _ behind more went f now fs reads closes answers) = stage.closes e past (x ++ z) behind more went f now fs (one behind f reads) closes answers
 
 -- what stands before the octets left is passed over
-leads_past : (s : Setting) (came went octets left : List ℕ) (mux : MuxState) → (at : AtMux s came went mux octets) → PassesOver mux.n1 (mux.kept ++ octets) left → (later more : List ℕ)
-    → AnswersFrom s (stage.Mux (mux_end mux.n1 at.modem s.steps) at.past) (left ++ later) more → AnswersFrom s (stage.Lines s.modem) (came ++ later) (went ++ more)
-leads_past s came went octets left mux at passes later more answers =
-    at.leads later more
-    (subst (λ (l : List ℕ). AnswersFrom s (stage.Mux (mux_end mux.n1 at.modem s.steps) at.past) l more) (append_assoc mux.kept octets later)
-    (passed_on s (mux_end mux.n1 at.modem s.steps) at.past (mux.kept ++ octets) left later more passes answers))
+leads_past : (s : Setting) (came went octets left : List ℕ) (entries : List Entry) (mux : MuxState) → (at : AtMux s came went entries mux octets) → PassesOver mux.n1 (mux.kept ++ octets) left → (later more : List ℕ) (es : List Entry)
+    → AnswersFrom s (stage.Mux (mux_end mux.n1 at.modem s.steps) at.past) (left ++ later) more es → AnswersFrom s (stage.Lines s.modem) (came ++ later) (went ++ more) (with_more later more entries ++ es)
+leads_past s came went octets left entries mux at passes later more es answers =
+    at.leads later more es
+    (subst (λ (l : List ℕ). AnswersFrom s (stage.Mux (mux_end mux.n1 at.modem s.steps) at.past) l more es) (append_assoc mux.kept octets later)
+    (passed_on s (mux_end mux.n1 at.modem s.steps) at.past (mux.kept ++ octets) left later more es passes answers))
 
 -- no frame is whole yet
-kept_at : (s : Setting) (came went octets kept : List ℕ) (mux : MuxState) → PassesOver mux.n1 (mux.kept ++ octets) kept → Reads mux.n1 kept [] kept → AtMux s came went mux octets → AtMux s came (went ++ []) (record mux { kept = kept }) []
-kept_at s came went octets kept mux passes reads at = record {
+kept_at : (s : Setting) (came went octets kept : List ℕ) (entries : List Entry) (mux : MuxState) → PassesOver mux.n1 (mux.kept ++ octets) kept → Reads mux.n1 kept [] kept → AtMux s came went entries mux octets
+    → AtMux s came (went ++ []) (with_more [] [] entries) (record mux { kept = kept }) []
+kept_at s came went octets kept entries mux passes reads at = record {
   modem = at.modem;
   past = at.past;
   handed = at.handed;
@@ -132,15 +148,14 @@ kept_at s came went octets kept mux passes reads at = record {
   octets_are = at.octets_are;
   next = at.next;
   kept = reads;
-  leads = λ later more answers.
-      subst (λ (l : List ℕ). AnswersFrom s (stage.Lines s.modem) (came ++ later) (l ++ more)) (sym (append-nil went)) (leads_past s came went octets kept mux at passes later more answers);
+  leads = λ later more es answers. says s came went [] later more entries es (leads_past s came went octets kept entries mux at passes later more es answers);
 }
 
-pub keeps : (s : Setting) (mux : MuxState) (octets kept out : List ℕ) → PassesOver mux.n1 (mux.kept ++ octets) kept → Reads mux.n1 kept [] kept → StepsOn s (Mux mux) (Mux (record mux { kept = kept })) octets [] out out
+pub keeps : (s : Setting) (mux : MuxState) (octets kept out : List ℕ) → PassesOver mux.n1 (mux.kept ++ octets) kept → Reads mux.n1 kept [] kept → StepsOn Stands undecided s (Mux mux) (Mux (record mux { kept = kept })) None octets [] out out
 keeps s mux octets kept out passes reads = record {
   more = [];
   written = sym (append-nil out);
-  stands = λ came went at. kept_at s came went octets kept mux passes reads at;
+  stands = λ came went es at. kept_at s came went octets kept es mux passes reads at;
 }
 
 -- ## A frame
@@ -153,8 +168,8 @@ text_first n1 text behind is =
     subst (λ (l : List ℕ). ReadsFirst n1 l is.frame behind) (sym joins) (first (flag ∷ (is.octets ++ flag ∷ behind)) is.octets behind is.frame refl is.spells)
 
 -- the frame is read behind those before
-text_next : (s : Setting) (came went octets text : List ℕ) (mux : MuxState) → (at : AtMux s came went mux octets) → (is : IsFrameText mux.n1 text) → Reads mux.n1 (at.handed ++ text) (got at.past ++ is.frame ∷ []) (flag ∷ [])
-text_next s came went octets text mux at is =
+text_next : (s : Setting) (came went octets text : List ℕ) (entries : List Entry) (mux : MuxState) → (at : AtMux s came went entries mux octets) → (is : IsFrameText mux.n1 text) → Reads mux.n1 (at.handed ++ text) (got at.past ++ is.frame ∷ []) (flag ∷ [])
+text_next s came went octets text entries mux at is =
     subst (λ (l : List ℕ). Reads mux.n1 (at.handed ++ l) (got at.past ++ is.frame ∷ []) (flag ∷ [])) (sym is.text_is) (at.next is.octets is.frame is.spells)
 
 -- and the next one behind it
@@ -196,12 +211,13 @@ closes_by e handed text more f past now octets reads later (muxes.at_rest rests 
 closes_by e handed text more f past now octets reads later (muxes.is_down down) = closes_down (down_by e handed text more f past now octets reads later down)
 
 -- the multiplexer goes on behind a frame
-frame_at : (s : Setting) (came went octets text behind before out : List ℕ) (mux : MuxState) (new : SimState HeldState) → PassesOver mux.n1 (mux.kept ++ octets) (text ++ behind) → (is : IsFrameText mux.n1 text) → (fed : IsFed mux.sim new text before out false) → AtMux s came went mux octets → AtMux s came (went ++ fed.more) (record { sim = new; n1 = mux.n1; kept = flag ∷ [] }) behind
-frame_at s came went octets text behind before out mux new passes is fed at =
+frame_at : (s : Setting) (came went octets text behind before out : List ℕ) (entries : List Entry) (mux : MuxState) (new : SimState HeldState) → PassesOver mux.n1 (mux.kept ++ octets) (text ++ behind) → (is : IsFrameText mux.n1 text) → (fed : IsFed mux.sim new text before out false) → AtMux s came went entries mux octets
+    → AtMux s came (went ++ fed.more) (with_more [] fed.more entries) (record { sim = new; n1 = mux.n1; kept = flag ∷ [] }) behind
+frame_at s came went octets text behind before out entries mux new passes is fed at =
     let e = mux_end mux.n1 at.modem s.steps in
     let to = fed.fed e at.handed (octets_sent at.past) at.past at.fits in
     let on = to.goes_on refl in
-    let reads = text_next s came went octets text mux at is in
+    let reads = text_next s came went octets text entries mux at is in
     let handles : Handles e at.past is.frame fed.more to.now = handles_by e at.handed text [] fed.more is.frame at.past to.now reads to.later on.rests in
     record {
       modem = at.modem;
@@ -211,20 +227,21 @@ frame_at s came went octets text behind before out mux new passes is fed at =
       octets_are = octets_both at.handed text at.octets_are is.octets_are;
       next = next_on mux.n1 (at.handed ++ text) (got to.now) (subst (λ (fs : List Frame). Reads mux.n1 (at.handed ++ text) fs (flag ∷ [])) (sym handles.came) reads);
       kept = cut_short (flag ∷ []) [] refl (cut_none mux.n1);
-      leads = λ later more answers.
-          subst (λ (l : List ℕ). AnswersFrom s (stage.Lines s.modem) (came ++ later) l) (sym (append_assoc went fed.more more))
-          (leads_past s came went octets (text ++ behind) mux at passes later (fed.more ++ more)
-          (subst (λ (l : List ℕ). AnswersFrom s (stage.Mux e at.past) l (fed.more ++ more)) (sym (append_assoc text behind later))
-          (stage.goes_on e at.past (text ++ (behind ++ later)) (behind ++ later) fed.more more is.frame to.now (text_first mux.n1 text (behind ++ later) is) handles on.open_still answers)));
+      leads = λ later more es answers.
+          says s came went fed.more later more entries es
+          (leads_past s came went octets (text ++ behind) entries mux at passes later (fed.more ++ more) es
+          (subst (λ (l : List ℕ). AnswersFrom s (stage.Mux e at.past) l (fed.more ++ more) es) (sym (append_assoc text behind later))
+          (stage.goes_on e at.past (text ++ (behind ++ later)) (behind ++ later) fed.more more is.frame to.now es (text_first mux.n1 text (behind ++ later) is) handles on.open_still answers)));
     }
 
 -- plain lines follow a frame that ends the multiplexer
-end_at : (s : Setting) (came went octets text behind before out : List ℕ) (mux : MuxState) (new : SimState HeldState) → PassesOver mux.n1 (mux.kept ++ octets) (text ++ behind) → (is : IsFrameText mux.n1 text) → (fed : IsFed mux.sim new text before out true) → AtMux s came went mux octets → AtLines s came (went ++ fed.more) (plain_begun s.n1 (modem_of new)) behind
-end_at s came went octets text behind before out mux new passes is fed at =
+end_at : (s : Setting) (came went octets text behind before out : List ℕ) (entries : List Entry) (mux : MuxState) (new : SimState HeldState) → PassesOver mux.n1 (mux.kept ++ octets) (text ++ behind) → (is : IsFrameText mux.n1 text) → (fed : IsFed mux.sim new text before out true) → AtMux s came went entries mux octets
+    → AtLines s came (went ++ fed.more) (with_more [] fed.more entries) (plain_begun s.n1 (modem_of new)) behind
+end_at s came went octets text behind before out entries mux new passes is fed at =
     let e = mux_end mux.n1 at.modem s.steps in
     let to = fed.fed e at.handed (octets_sent at.past) at.past at.fits in
     let over = to.is_over refl in
-    let reads = text_next s came went octets text mux at is in
+    let reads = text_next s came went octets text entries mux at is in
     let closes : Closes e at.past is.frame fed.more to.now = closes_by e at.handed text fed.more is.frame at.past to.now (octets_both at.handed text at.octets_are is.octets_are) reads to.later over.ended in
     let none : plain_by_now s (modem_after e to.now) [] ≡ plain_begun s.n1 (modem_after e to.now) = after_none (plain_begun s.n1 (modem_after e to.now)) in
     record {
@@ -232,77 +249,113 @@ end_at s came went octets text behind before out mux new passes is fed at =
       lines = [];
       none = ap (λ (q : Plain). q.entered) none;
       plain_is = ap (plain_begun s.n1) over.modem_is ∙ ap unsaid (sym none);
-      leads = λ later more answers.
-          subst (λ (l : List ℕ). AnswersFrom s (stage.Lines s.modem) (came ++ later) l) (sym (append_assoc went fed.more more))
-          (leads_past s came went octets (text ++ behind) mux at passes later (fed.more ++ more)
-          (subst (λ (l : List ℕ). AnswersFrom s (stage.Mux e at.past) l (fed.more ++ more)) (sym (append_assoc text behind later))
-          (stage.closes e at.past (text ++ (behind ++ later)) (behind ++ later) fed.more more is.frame to.now (text_first mux.n1 text (behind ++ later) is) closes
-          (subst (λ (l : List ℕ). AnswersFrom s (stage.Lines (modem_after e to.now)) (behind ++ later) l) (ap (λ (q : Plain). q.said ++ more) none) answers))));
+      leads = λ later more es answers.
+          says s came went fed.more later more entries es
+          (leads_past s came went octets (text ++ behind) entries mux at passes later (fed.more ++ more) es
+          (subst (λ (l : List ℕ). AnswersFrom s (stage.Mux e at.past) l (fed.more ++ more) es) (sym (append_assoc text behind later))
+          (stage.closes e at.past (text ++ (behind ++ later)) (behind ++ later) fed.more more is.frame to.now es (text_first mux.n1 text (behind ++ later) is) closes
+          (subst (λ (l : List ℕ). AnswersFrom s (stage.Lines (modem_after e to.now)) (behind ++ later) l es) (ap (λ (q : Plain). q.said ++ more) none) answers))));
     }
 
-pub handles_text : (setup : Setup) (s : Setting) (mux : MuxState) (new : Mode) (octets text behind before out : List ℕ) → s.n1 ≡ setup.n1.octets → PassesOver mux.n1 (mux.kept ++ octets) (text ++ behind) → IsFrameText mux.n1 text → HandlesText setup mux.sim mux.n1 text new before out → StepsOn s (Mux mux) new octets behind before out
+pub handles_text : (setup : Setup) (s : Setting) (mux : MuxState) (new : Mode) (octets text behind before out : List ℕ) → s.n1 ≡ setup.n1.octets → PassesOver mux.n1 (mux.kept ++ octets) (text ++ behind) → IsFrameText mux.n1 text → HandlesText setup mux.sim mux.n1 text new before out → StepsOn Stands undecided s (Mux mux) new None octets behind before out
 handles_text setup s mux _ octets text behind _ _ n1 passes is (in_mux new before out fed) = record {
   more = fed.more;
   written = fed.written;
-  stands = λ came went at. frame_at s came went octets text behind before out mux new passes is fed at;
+  stands = λ came went es at. frame_at s came went octets text behind before out es mux new passes is fed at;
 }
 handles_text setup s mux _ octets text behind _ _ n1 passes is (at_lines new before out fed) = record {
   more = fed.more;
   written = fed.written;
-  stands = λ came went at.
-      subst (λ (n : ℕ). AtLines s came (went ++ fed.more) (plain_begun n (modem_of new)) behind) n1 (end_at s came went octets text behind before out mux new passes is fed at);
+  stands = λ came went es at.
+      subst (λ (n : ℕ). AtLines s came (went ++ fed.more) (with_more [] fed.more es) (plain_begun n (modem_of new)) behind) n1 (end_at s came went octets text behind before out es mux new passes is fed at);
 }
 
 -- ## All of them
 
-pub takes_none : (s : Setting) (mode : Mode) (octets out : List ℕ) → StepsOn s mode mode octets octets out out
+pub takes_none : (s : Setting) (mode : Mode) (octets out : List ℕ) → StepsOn Stands undecided s mode mode None octets octets out out
 takes_none s mode octets out = record {
   more = [];
   written = sym (append-nil out);
-  stands = λ came went at. subst (λ (l : List ℕ). StandsBefore s came l mode octets) (sym (append-nil went)) at;
+  stands = λ came went es at.
+      subst (λ (l : List ℕ). Stands s came l (with_more [] [] es) mode octets) (sym (append-nil went))
+      (subst (λ (l : List Entry). Stands s came went l mode octets) (sym (none_more es)) at);
 }
 
-pub takes_more : (s : Setting) (a b c : Mode) (octets left rest x y z : List ℕ) → StepsOn s a b octets left x y → StepsOn s b c left rest y z → StepsOn s a c octets rest x z
-takes_more s a b c octets left rest x y z p q = record {
+entry_said : (entered : Option ℕ) (x y left : List ℕ) (es : List Entry) → with_entry (with_more [] y (with_more [] x es)) entered left ≡ with_entry (with_more [] (x ++ y) es) entered left
+entry_said entered x y left es = ap (λ (l : List Entry). with_entry l entered left) (more_twice [] x [] y es)
+
+pub takes_more : (s : Setting) (a b c : Mode) (entered : Option ℕ) (octets left rest x y z : List ℕ) → StepsOn Stands undecided s a b None octets left x y → StepsOn Stands undecided s b c entered left rest y z → StepsOn Stands undecided s a c entered octets rest x z
+takes_more s a b c entered octets left rest x y z p q = record {
   more = p.more ++ q.more;
   written = q.written ∙ ap (λ l. l ++ q.more) p.written ∙ append_assoc x p.more q.more;
-  stands = λ came went at.
-      subst (λ (l : List ℕ). StandsBefore s came l c rest) (append_assoc went p.more q.more) (q.stands came (went ++ p.more) (p.stands came went at));
+  stands = λ came went es at.
+      subst (λ (l : List ℕ). Stands s came l (with_entry (with_more [] (p.more ++ q.more) es) entered (undecided c ++ rest)) c rest) (append_assoc went p.more q.more)
+      (subst (λ (l : List Entry). Stands s came ((went ++ p.more) ++ q.more) l c rest) (entry_said entered p.more q.more (undecided c ++ rest) es)
+      (q.stands came (went ++ p.more) (with_more [] p.more es) (p.stands came went es at)));
 }
 
--- octets come
-joined : (a b c : List ℕ) → a ++ (b ++ c) ≡ (a ++ b) ++ c
-joined a b c = sym (append_assoc a b c)
+pub not_zero : (n : ℕ) → (n == 0) ≡ false → 0 < n
+not_zero zero is = absurd (false≢true (sym is))
+not_zero (suc n) is = omega arith
 
-brought : (s : Setting) (came went octets : List ℕ) (mode : Mode) → StandsBefore s came went mode [] → StandsBefore s (came ++ octets) went mode octets
-brought s came went octets (Lines p) at = record {
-  modem = at.modem;
-  lines = at.lines;
-  none = at.none;
-  plain_is = at.plain_is;
-  leads = λ later more answers.
-      subst (λ (l : List ℕ). AnswersFrom s (stage.Lines s.modem) l (went ++ more)) (joined came octets later) (at.leads (octets ++ later) more answers);
-}
-brought s came went octets (Mux mux) at = record {
-  modem = at.modem;
-  past = at.past;
-  handed = at.handed;
-  fits = at.fits;
-  octets_are = at.octets_are;
-  next = at.next;
-  kept = at.kept;
-  leads = λ later more answers.
-      subst (λ (l : List ℕ). AnswersFrom s (stage.Lines s.modem) l (went ++ more)) (joined came octets later) (at.leads (octets ++ later) more answers);
+pub mapped_none : {A B : Type 0} (f : A → B) (o : Option A) → option_map f o ≡ None → o ≡ None
+mapped_none f None none = refl
+mapped_none f (Some x) none = cc
+
+pub none_mapped : {A B : Type 0} (f : A → B) (o : Option A) → is_some o ≡ false → option_map f o ≡ None
+none_mapped f None none = refl
+none_mapped f (Some x) none = absurd (false≢true (sym none))
+
+-- ## What is left stands at the end
+
+pub ends_none : (all : List ℕ) → EndsWith all all
+ends_none all = record { front = []; is = refl }
+
+pub ends_more : (a b c : List ℕ) → EndsWith a b → EndsWith b c → EndsWith a c
+ends_more a b c p q = record { front = p.front ++ q.front; is = p.is ∙ ap (λ (l : List ℕ). p.front ++ l) q.is ∙ sym (append_assoc p.front q.front c) }
+
+-- behind so many
+pub ends_dropped : (n : ℕ) (octets behind : List ℕ) → behind ≡ drop n octets → EndsWith octets behind
+ends_dropped n octets behind is = record { front = take n octets; is = sym (take-append-drop n octets) ∙ ap (λ (l : List ℕ). take n octets ++ l) (sym is) }
+
+pub ends_entered : (setup : Setup) (m : ModemState) (n1 : ℕ) (octets behind : List ℕ) (mode : Mode) → IsEntered setup m n1 mode → EndsWith octets behind → EndsWith octets (undecided mode ++ behind)
+ends_entered setup m n1 octets behind _ (enters sim fits) ends = ends
+
+ends_later : (octets front last : List ℕ) → octets ≡ front ++ last → EndsWith octets (drop 1 last)
+ends_later octets front last is = record {
+  front = front ++ take 1 last;
+  is = is ∙ ap (λ (l : List ℕ). front ++ l) (sym (take-append-drop 1 last)) ∙ sym (append_assoc front (take 1 last) (drop 1 last));
 }
 
--- steps that take all of them
-pub takes_all : (s : Setting) (old new : Mode) (octets left before out : List ℕ) → left ≡ [] → StepsOn s old new octets left before out → StepsBy Stands s old new octets before out
-takes_all s old new octets left before out none steps = record {
-  more = steps.more;
-  written = steps.written;
-  stands = λ came went at.
-      subst (λ (l : List ℕ). StandsBefore s (came ++ octets) (went ++ steps.more) new l) none (steps.stands (came ++ octets) went (brought s came went octets old at));
-}
+-- without the flag in front, which is decided
+ends_behind : (kept octets front last : List ℕ) → kept ++ octets ≡ front ++ last → EndsWith (drop 1 kept ++ octets) (drop 1 last)
+ends_behind [] octets front last is = ends_later octets front last is
+ends_behind (k ∷ kept) octets [] last is = record { front = []; is = ap (drop 1) is }
+ends_behind (k ∷ kept) octets (f ∷ front) last is = ends_later (kept ++ octets) front last (ap (drop 1) is)
+
+pub keeps_ends : (mux : MuxState) (sim : SimState HeldState) (n1 : ℕ) (kept octets text front rest new_kept left : List ℕ) → mux ≡ record { sim = sim; n1 = n1; kept = kept } → text ≡ kept ++ octets → new_kept ≡ rest → left ≡ []
+    → text ≡ front ++ rest → EndsWith (drop 1 mux.kept ++ octets) (drop 1 new_kept ++ left)
+keeps_ends mux sim n1 kept octets text front rest new_kept left is text_is kept_is none found =
+    subst (λ (x : MuxState). EndsWith (drop 1 x.kept ++ octets) (drop 1 new_kept ++ left)) (sym is)
+    (subst (λ (l : List ℕ). EndsWith (drop 1 kept ++ octets) (drop 1 new_kept ++ l)) (sym none)
+    (subst (λ (l : List ℕ). EndsWith (drop 1 kept ++ octets) l) (sym (append-nil (drop 1 new_kept)))
+    (subst (λ (l : List ℕ). EndsWith (drop 1 kept ++ octets) (drop 1 l)) (sym kept_is) (ends_behind kept octets front rest (sym text_is ∙ found)))))
+
+ends_handled : (setup : Setup) (sim : SimState HeldState) (n1 : ℕ) (octets text behind before out : List ℕ) (mode : Mode) → HandlesText setup sim n1 text mode before out → EndsWith octets behind → EndsWith octets (undecided mode ++ behind)
+ends_handled setup sim n1 octets text behind _ _ _ (in_mux new before out fed) ends = ends
+ends_handled setup sim n1 octets text behind _ _ _ (at_lines new before out fed) ends = ends
+
+frame_behind : (n1 : ℕ) (kept octets front text behind : List ℕ) → IsFrameText n1 text → kept ++ octets ≡ front ++ (text ++ behind) → EndsWith (drop 1 kept ++ octets) behind
+frame_behind n1 kept octets front text behind is found =
+    ends_more _ (drop 1 (text ++ behind)) behind (ends_behind kept octets front (text ++ behind) found)
+    (record { front = is.octets ++ flag ∷ []; is = ap (λ (l : List ℕ). drop 1 (l ++ behind)) is.text_is })
+
+pub frame_ends : (setup : Setup) (mux : MuxState) (sim : SimState HeldState) (n1 : ℕ) (kept octets all front text behind left before out : List ℕ) (new : Mode) → mux ≡ record { sim = sim; n1 = n1; kept = kept } → all ≡ kept ++ octets → left ≡ behind
+    → all ≡ front ++ (text ++ behind) → IsFrameText n1 text → HandlesText setup sim n1 text new before out → EndsWith (drop 1 mux.kept ++ octets) (undecided new ++ left)
+frame_ends setup mux sim n1 kept octets all front text behind left before out new is all_is left_is found frame handles =
+    subst (λ (x : MuxState). EndsWith (drop 1 x.kept ++ octets) (undecided new ++ left)) (sym is)
+    (subst (λ (l : List ℕ). EndsWith (drop 1 kept ++ octets) (undecided new ++ l)) (sym left_is)
+    (ends_handled setup sim n1 (drop 1 kept ++ octets) text behind before out new handles (frame_behind n1 kept octets front text behind frame (sym all_is ∙ found))))
 
 -- ## Each step leaves less
 
@@ -355,6 +408,14 @@ pub front_kept : (n : ℕ) (kept octets text : List ℕ) → n ≡ length kept �
 front_kept n kept octets text count is =
     ap (take n) is ∙ ap (λ k. take k (kept ++ octets)) count ∙ take-append-le (length kept) kept octets (omega arith) ∙ take_all (length kept) kept (omega arith)
 
+-- the octets in front of those behind
+pub front_taken : (all held behind : List ℕ) (a b h : ℕ) → EndsWith all (held ++ behind) → a ≡ length all → b ≡ length behind → h ≡ length held → all ≡ take (a - b - h) all ++ (held ++ behind)
+front_taken all held behind a b h ends all_is behind_is held_is =
+    let whole : length all ≡ length ends.front + length (held ++ behind) = ap length ends.is ∙ length-append ends.front (held ++ behind) in
+    let both = length-append held behind in
+    let count : a - b - h ≡ length ends.front = omega (arith, all_is, behind_is, held_is, whole, both) in
+    ends.is ∙ ap (λ (l : List ℕ). l ++ (held ++ behind)) (sym (front_kept (a - b - h) ends.front (held ++ behind) all count ends.is))
+
 pub none_kept : (n1 : ℕ) (kept : List ℕ) → kept ≡ [] → Reads n1 kept [] kept
 none_kept n1 kept none = subst (λ (l : List ℕ). Reads n1 l [] l) (sym none) (no_flag [] refl)
 
@@ -362,11 +423,11 @@ pub flag_kept : (n1 : ℕ) (kept : List ℕ) → kept ≡ flag ∷ [] → Reads 
 flag_kept n1 kept one = subst (λ (l : List ℕ). Reads n1 l [] l) (sym one) (cut_short (flag ∷ []) [] refl (cut_none n1))
 
 pub keeps_by : (s : Setting) (mux : MuxState) (sim : SimState HeldState) (n1 : ℕ) (kept octets text rest new_kept left out : List ℕ) → mux ≡ record { sim = sim; n1 = n1; kept = kept } → text ≡ kept ++ octets → new_kept ≡ rest → left ≡ []
-    → PassesOver n1 text rest × Reads n1 rest [] rest → StepsOn s (Mux mux) (Mux (record { sim = sim; n1 = n1; kept = new_kept })) octets left out out
+    → PassesOver n1 text rest × Reads n1 rest [] rest → StepsOn Stands undecided s (Mux mux) (Mux (record { sim = sim; n1 = n1; kept = new_kept })) None octets left out out
 keeps_by s mux sim n1 kept octets text rest new_kept left out is text_is kept_is none found =
-    subst (λ (x : MuxState). StepsOn s (Mux x) (Mux (record { sim = sim; n1 = n1; kept = new_kept })) octets left out out) (sym is)
-    (subst (λ (l : List ℕ). StepsOn s (Mux (record { sim = sim; n1 = n1; kept = kept })) (Mux (record { sim = sim; n1 = n1; kept = l })) octets left out out) (sym kept_is)
-    (subst (λ (l : List ℕ). StepsOn s (Mux (record { sim = sim; n1 = n1; kept = kept })) (Mux (record { sim = sim; n1 = n1; kept = rest })) octets l out out) (sym none)
+    subst (λ (x : MuxState). StepsOn Stands undecided s (Mux x) (Mux (record { sim = sim; n1 = n1; kept = new_kept })) None octets left out out) (sym is)
+    (subst (λ (l : List ℕ). StepsOn Stands undecided s (Mux (record { sim = sim; n1 = n1; kept = kept })) (Mux (record { sim = sim; n1 = n1; kept = l })) None octets left out out) (sym kept_is)
+    (subst (λ (l : List ℕ). StepsOn Stands undecided s (Mux (record { sim = sim; n1 = n1; kept = kept })) (Mux (record { sim = sim; n1 = n1; kept = rest })) None octets l out out) (sym none)
     (keeps s (record { sim = sim; n1 = n1; kept = kept }) octets rest out (subst (λ (l : List ℕ). PassesOver n1 l rest) text_is found.0) found.1)))
 
 pub keeps_less : (n1 : ℕ) (mux : MuxState) (sim : SimState HeldState) (kept octets text rest new_kept left : List ℕ) → mux ≡ record { sim = sim; n1 = n1; kept = kept } → text ≡ kept ++ octets → new_kept ≡ rest → left ≡ []
@@ -404,14 +465,14 @@ frame_less setup mux sim n1 kept octets all text behind left before out new is a
     falls (Mux mux) new (length octets) (length left) (omega (arith, one, two, most, both, all_size, left_size, mux_size))
 
 pub frame_by : (setup : Setup) (s : Setting) (mux : MuxState) (sim : SimState HeldState) (n1 : ℕ) (kept octets all text behind left before out : List ℕ) (new : Mode) → s.n1 ≡ setup.n1.octets → mux ≡ record { sim = sim; n1 = n1; kept = kept } → all ≡ kept ++ octets → left ≡ behind
-    → PassesOver n1 all (text ++ behind) × IsFrameText n1 text → HandlesText setup sim n1 text new before out → StepsOn s (Mux mux) new octets left before out
+    → PassesOver n1 all (text ++ behind) × IsFrameText n1 text → HandlesText setup sim n1 text new before out → StepsOn Stands undecided s (Mux mux) new None octets left before out
 frame_by setup s mux sim n1 kept octets all text behind left before out new same is all_is left_is found handles =
-    subst (λ (x : MuxState). StepsOn s (Mux x) new octets left before out) (sym is)
-    (subst (λ (l : List ℕ). StepsOn s (Mux (record { sim = sim; n1 = n1; kept = kept })) new octets l before out) (sym left_is)
+    subst (λ (x : MuxState). StepsOn Stands undecided s (Mux x) new None octets left before out) (sym is)
+    (subst (λ (l : List ℕ). StepsOn Stands undecided s (Mux (record { sim = sim; n1 = n1; kept = kept })) new None octets l before out) (sym left_is)
     (handles_text setup s (record { sim = sim; n1 = n1; kept = kept }) new octets text behind before out same
     (subst (λ (l : List ℕ). PassesOver n1 l (text ++ behind)) all_is found.0) found.1 handles))
 
 -- the octets behind so many
-pub split_steps : (s : Setting) (old new : Mode) (octets behind before out : List ℕ) (n : ℕ) → behind ≡ drop n octets → StepsOn s old new (take n octets ++ behind) behind before out → StepsOn s old new octets behind before out
-split_steps s old new octets behind before out n is steps =
-    subst (λ (l : List ℕ). StepsOn s old new l behind before out) (ap (λ (l : List ℕ). take n octets ++ l) is ∙ take-append-drop n octets) steps
+pub split_steps : (s : Setting) (old new : Mode) (entered : Option ℕ) (octets behind before out : List ℕ) (n : ℕ) → behind ≡ drop n octets → StepsOn Stands undecided s old new entered (take n octets ++ behind) behind before out → StepsOn Stands undecided s old new entered octets behind before out
+split_steps s old new entered octets behind before out n is steps =
+    subst (λ (l : List ℕ). StepsOn Stands undecided s old new entered l behind before out) (ap (λ (l : List ℕ). take n octets ++ l) is ∙ take-append-drop n octets) steps

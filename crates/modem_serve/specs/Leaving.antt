@@ -6,7 +6,7 @@ use Rattle.modem_serve.specs.declared.fault.BadOption.{BadOption}
 use Rattle.modem_serve.specs.declared.fault.ServeFault.{ServeFault}
 use Rattle.modem_serve.specs.declared.serving.SimOptions.{SimOptions}
 use Rattle.modem_serve.specs.Saying.{fault_line, option_line}
-use Rattle.modem_serve.specs.Serving.{Answers, IsBadBy, Setting, setting_of}
+use Rattle.modem_serve.specs.Serving.{Answers, Entry, IsBadBy, Setting, setting_of}
 
 -- ## Faults
 
@@ -88,20 +88,22 @@ pub record SaysBad (options : SimOptions) (told_before told_after : Option (List
 -- ## By whatever answers
 
 -- what answers the last piece is begun
-pub record NextBegins {X : Type 0} (Holds : Setting → (came went : List ℕ) → X → Type 0) (s : Setting) (came went piece part : List ℕ) : Type 0 where
+pub record NextBegins {X : Type 0} (Holds : Setting → (came went : List ℕ) → List Entry → X → (left : List ℕ) → Type 0) (s : Setting) (came went piece part : List ℕ) : Type 0 where
   pub left : List ℕ
+  pub entries : List Entry
   pub next : X
-  pub stands : Holds s (came ++ piece) (went ++ (part ++ left)) next
+  pub stands : Holds s (came ++ piece) (went ++ (part ++ left)) entries next []
 
 -- some was read, and answered as far as that
-pub record LeftSoFar {X : Type 0} (Holds : Setting → (came went : List ℕ) → X → Type 0) (s : Setting) (fault : Option ServeFault) (input rest before after : Option (List ℕ)) : Type 0 where
+pub record LeftSoFar {X : Type 0} (Holds : Setting → (came went : List ℕ) → List Entry → X → (left : List ℕ) → Type 0) (s : Setting) (fault : Option ServeFault) (input rest before after : Option (List ℕ)) : Type 0 where
   pub came : List ℕ
   pub went : List ℕ
   pub piece : List ℕ
   pub part : List ℕ
+  pub entries : List Entry
   pub now : X
   pub read : Consumes input rest (came ++ piece)
   pub few : length piece ≤ 4096
-  pub stands : Holds s came went now
+  pub stands : Holds s came went entries now []
   pub begun : IsLeftBy fault piece part (NextBegins Holds s came went piece part)
   pub written : Appends before after (went ++ part)

@@ -1,3 +1,4 @@
+pub mod Coming
 pub mod Entry
 pub mod HeldLine
 pub mod InMux

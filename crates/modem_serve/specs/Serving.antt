@@ -37,31 +37,47 @@ pub data Stage : Type 0 where
   Lines : ModemState → Stage
   Mux : End → List Act → Stage
 
--- What goes to octets that come from there on. Plain lines are answered, up to one that enters the multiplexer. There frame after frame
--- is handled; the closing flag of one can be the first of the next. What follows the closing flag of a frame that ends the multiplexer
--- are plain lines again, on the modem as it is then.
-pub data AnswersFrom (s : Setting) : (at : Stage) (came went : List ℕ) → Type 0 where
+-- a line that enters the multiplexer: with which N1, and what came behind it and went behind what is said to it
+pub record Entry : Type 0 where
+  pub n1 : ℕ
+  pub came : List ℕ
+  pub went : List ℕ
+
+-- the same entries, once so much more came and went
+abbrev pub with_more : (came went : List ℕ) → List Entry → List Entry
+with_more came went [] = []
+with_more came went (e ∷ more) = record { n1 = e.n1; came = e.came ++ came; went = e.went ++ went } ∷ with_more came went more
+
+-- What goes to octets that come from there on, and which of them enter the multiplexer. Plain lines are answered, up to one that enters
+-- it. There frame after frame is handled; the closing flag of one can be the first of the next. What follows the closing flag of a
+-- frame that ends the multiplexer are plain lines again, on the modem as it is then.
+pub data AnswersFrom (s : Setting) : (at : Stage) (came went : List ℕ) → List Entry → Type 0 where
   at_lines :
       (m : ModemState) (lines : List ℕ) → (plain_by_now s m lines).entered ≡ None
-      → AnswersFrom s (Lines m) lines (plain_by_now s m lines).said
+      → AnswersFrom s (Lines m) lines (plain_by_now s m lines).said []
   enters :
-      (m : ModemState) (lines came went : List ℕ) (n1 : ℕ) → EntersAfter s m lines n1
-      → AnswersFrom s (Mux (mux_end n1 (plain_by_now s m lines).modem s.steps) []) came went
-      → AnswersFrom s (Lines m) (lines ++ came) ((plain_by_now s m lines).said ++ went)
+      (m : ModemState) (lines came went : List ℕ) (n1 : ℕ) (es : List Entry) → EntersAfter s m lines n1
+      → AnswersFrom s (Mux (mux_end n1 (plain_by_now s m lines).modem s.steps) []) came went es
+      → AnswersFrom s (Lines m) (lines ++ came) ((plain_by_now s m lines).said ++ went) (record { n1 = n1; came = came; went = went } ∷ es)
   no_frame :
-      (e : End) (past : List Act) (came rest : List ℕ) → Reads e.n1 came [] rest → AnswersFrom s (Mux e past) came []
+      (e : End) (past : List Act) (came rest : List ℕ) → Reads e.n1 came [] rest → AnswersFrom s (Mux e past) came [] []
   goes_on :
-      (e : End) (past : List Act) (came behind more went : List ℕ) (f : Frame) (now : List Act)
+      (e : End) (past : List Act) (came behind more went : List ℕ) (f : Frame) (now : List Act) (es : List Entry)
       → ReadsFirst e.n1 came f behind → Handles e past f more now → is_closed_by past now ≡ false
-      → AnswersFrom s (Mux e now) (flag ∷ behind) went → AnswersFrom s (Mux e past) came (more ++ went)
+      → AnswersFrom s (Mux e now) (flag ∷ behind) went es → AnswersFrom s (Mux e past) came (more ++ went) es
   closes :
-      (e : End) (past : List Act) (came behind more went : List ℕ) (f : Frame) (now : List Act)
+      (e : End) (past : List Act) (came behind more went : List ℕ) (f : Frame) (now : List Act) (es : List Entry)
       → ReadsFirst e.n1 came f behind → Closes e past f more now
-      → AnswersFrom s (Lines (modem_after e now)) behind went → AnswersFrom s (Mux e past) came (more ++ went)
+      → AnswersFrom s (Lines (modem_after e now)) behind went es → AnswersFrom s (Mux e past) came (more ++ went) es
 
--- all octets that came were answered by all that went
-abbrev pub Answers : Setting → (came went : List ℕ) → Type 0
-Answers s came went = AnswersFrom s (Lines s.modem) came went
+-- all octets that came were answered by all that went, and these lines entered the multiplexer
+abbrev pub AnswersEntering : Setting → (came went : List ℕ) → List Entry → Type 0
+AnswersEntering s came went entries = AnswersFrom s (Lines s.modem) came went entries
+
+-- whichever did
+pub record Answers (s : Setting) (came went : List ℕ) : Type 0 where
+  pub entries : List Entry
+  pub entering : AnswersEntering s came went entries
 
 -- what answers all octets that a reader had was written, and nothing else
 pub record WritesAnswers (s : Setting) (before after : Option (List ℕ)) (all : List ℕ) : Type 0 where

@@ -1,6 +1,5 @@
 -- How a modem for a client stands after octets that came.
-use Rattle.std.specs.Prelude.{◌≡◌, ℕ, ◌+◌, ◌*◌, min, true, false, List, [], ◌∷◌, ◌++◌, length, Option, Some, None}
-use Rattle.std.specs.Io.KnownBytes.{Appends, Consumes, IsAtEnd}
+use Rattle.std.specs.Prelude.{◌≡◌, ℕ, ◌+◌, ◌*◌, min, true, false, List, [], ◌∷◌, ◌++◌, drop, length, Option, Some, None}
 use Rattle.mux_frame.specs.Frames.{Frame}
 use Rattle.mux_frame.specs.Laws.{AreOctets}
 use Rattle.mux_frame.specs.Reading.{Reads}
@@ -17,7 +16,7 @@ use Rattle.modem_serve.specs.InMux.{mux_end, octets_sent}
 use Rattle.modem_serve.specs.MuxStates.{MuxState}
 use Rattle.modem_serve.specs.Muxes.{FitsMux, IsFed}
 use Rattle.modem_serve.specs.Plain.{Plain, plain_begun}
-use Rattle.modem_serve.specs.Serving.{AnswersFrom, Setting, plain_by_now}
+use Rattle.modem_serve.specs.Serving.{AnswersFrom, Entry, Setting, plain_by_now, with_more}
 use Rattle.modem_serve.specs.Serving as stage
 
 -- all that was said is handed out
@@ -28,20 +27,20 @@ unsaid p = record p { said = [] }
 abbrev pub with_said : List ℕ → Plain → Plain
 with_said said p = record p { said = said ++ p.said }
 
--- At plain lines. These octets came, of which those of `left` aren't taken yet, and these went. With what goes to the octets left and to
--- more that comes, all that comes is answered.
-pub record AtLines (s : Setting) (came went : List ℕ) (p : Plain) (left : List ℕ) : Type 0 where
+-- At plain lines. These octets came, of which those of `left` aren't taken yet, and these went; so far these lines entered the
+-- multiplexer. With what goes to the octets left and to more that comes, all that comes is answered.
+pub record AtLines (s : Setting) (came went : List ℕ) (entries : List Entry) (p : Plain) (left : List ℕ) : Type 0 where
   pub modem : ModemState
   pub lines : List ℕ
   pub none : (plain_by_now s modem lines).entered ≡ None
   pub plain_is : p ≡ unsaid (plain_by_now s modem lines)
   pub leads :
-      (later more : List ℕ)
-      → AnswersFrom s (stage.Lines modem) (lines ++ (left ++ later)) ((plain_by_now s modem lines).said ++ more)
-      → AnswersFrom s (stage.Lines s.modem) (came ++ later) (went ++ more)
+      (later more : List ℕ) (es : List Entry)
+      → AnswersFrom s (stage.Lines modem) (lines ++ (left ++ later)) ((plain_by_now s modem lines).said ++ more) es
+      → AnswersFrom s (stage.Lines s.modem) (came ++ later) (went ++ more) (with_more later more entries ++ es)
 
 -- In a multiplexer, the same. `handed` are the texts of the frames that came.
-pub record AtMux (s : Setting) (came went : List ℕ) (mux : MuxState) (left : List ℕ) : Type 0 where
+pub record AtMux (s : Setting) (came went : List ℕ) (entries : List Entry) (mux : MuxState) (left : List ℕ) : Type 0 where
   pub modem : ModemState
   pub past : List Act
   pub handed : List ℕ
@@ -52,28 +51,45 @@ pub record AtMux (s : Setting) (came went : List ℕ) (mux : MuxState) (left : L
       → Reads mux.n1 (handed ++ (flag ∷ b ++ flag ∷ [])) (got past ++ f ∷ []) (flag ∷ [])
   pub kept : Reads mux.n1 mux.kept [] mux.kept
   pub leads :
-      (later more : List ℕ) → AnswersFrom s (stage.Mux (mux_end mux.n1 modem s.steps) past) (mux.kept ++ (left ++ later)) more
-      → AnswersFrom s (stage.Lines s.modem) (came ++ later) (went ++ more)
+      (later more : List ℕ) (es : List Entry)
+      → AnswersFrom s (stage.Mux (mux_end mux.n1 modem s.steps) past) (mux.kept ++ (left ++ later)) more es
+      → AnswersFrom s (stage.Lines s.modem) (came ++ later) (went ++ more) (with_more later more entries ++ es)
 
-abbrev pub StandsBefore : Setting → (came went : List ℕ) → Mode → (left : List ℕ) → Type 0
-StandsBefore s came went (Lines p) left = AtLines s came went p left
-StandsBefore s came went (Mux mux) left = AtMux s came went mux left
+abbrev pub Stands : Setting → (came went : List ℕ) → List Entry → Mode → (left : List ℕ) → Type 0
+Stands s came went entries (Lines p) left = AtLines s came went entries p left
+Stands s came went entries (Mux mux) left = AtMux s came went entries mux left
 
--- all octets that came are taken
-abbrev pub Stands : Setting → (came went : List ℕ) → Mode → Type 0
-Stands s came went mode = StandsBefore s came went mode []
+-- The octets of which it isn't decided yet whether they are of a frame: they stand behind a flag and can become one with it. What stands
+-- in them can still turn out to be a line.
+abbrev pub undecided : Mode → List ℕ
+undecided (Lines p) = []
+undecided (Mux mux) = drop 1 mux.kept
 
--- of octets that aren't taken yet some are, and more goes
-pub record StepsOn (s : Setting) (old new : Mode) (octets left out_before out : List ℕ) : Type 0 where
+-- the octets may become a frame with a flag in front of them
+pub record MayBeFrame (octets : List ℕ) : Type 0 where
+  pub n1 : ℕ
+  pub text : List ℕ
+  pub can : Reads n1 text [] text
+  pub is : octets ≡ drop 1 text
+
+-- the octets end with these
+pub record EndsWith (all last : List ℕ) : Type 0 where
+  pub front : List ℕ
+  pub is : all ≡ front ++ last
+
+-- one more entry, if a line enters, behind which these octets are left
+abbrev pub with_entry : List Entry → Option ℕ → (left : List ℕ) → List Entry
+with_entry entries None left = entries
+with_entry entries (Some n1) left = entries ++ record { n1 = n1; came = left; went = [] } ∷ []
+
+-- Of octets that aren't taken yet some are, and more goes. The last that was taken is the end of a line that enters the multiplexer with
+-- this N1, or none of them is.
+pub record StepsOn {X : Type 0} (Holds : Setting → (came went : List ℕ) → List Entry → X → (left : List ℕ) → Type 0) (Undecided : X → List ℕ) (s : Setting) (old new : X) (entered : Option ℕ) (octets left out_before out : List ℕ) : Type 0 where
   pub more : List ℕ
   pub written : out ≡ out_before ++ more
-  pub stands : (came went : List ℕ) → StandsBefore s came went old octets → StandsBefore s came (went ++ more) new left
-
--- it takes octets, and more goes
-pub record StepsBy {X : Type 0} (Holds : Setting → (came went : List ℕ) → X → Type 0) (s : Setting) (old new : X) (octets out_before out : List ℕ) : Type 0 where
-  pub more : List ℕ
-  pub written : out ≡ out_before ++ more
-  pub stands : (came went : List ℕ) → Holds s came went old → Holds s (came ++ octets) (went ++ more) new
+  pub stands :
+      (came went : List ℕ) (es : List Entry) → Holds s came went es old octets
+      → Holds s came (went ++ more) (with_entry (with_more [] more es) entered (Undecided new ++ left)) new left
 
 -- the setting of a modem that was handed in so
 abbrev pub setting_by : Setup → ModemState → Setting
@@ -106,21 +122,6 @@ pub data HandlesText (setup : Setup) (sim : SimState HeldState) (n1 : ℕ) (text
   at_lines :
       (new : SimState HeldState) (before out : List ℕ) → IsFed sim new text before out true
       → HandlesText setup sim n1 text (Lines (plain_begun setup.n1.octets (modem_of new))) before out
-
--- so far
-pub record ServedSoFar {X : Type 0} (Holds : Setting → (came went : List ℕ) → X → Type 0) (s : Setting) (input rest before after : Option (List ℕ)) (now : X) : Type 0 where
-  pub came : List ℕ
-  pub went : List ℕ
-  pub read : Consumes input rest came
-  pub written : Appends before after went
-  pub stands : Holds s came went now
-
--- to the end of the input
-pub record ServedWhole {X : Type 0} (Holds : Setting → (came went : List ℕ) → X → Type 0) (s : Setting) (input before after : Option (List ℕ)) : Type 0 where
-  pub last : X
-  pub rest : Option (List ℕ)
-  pub end : IsAtEnd rest
-  pub so_far : ServedSoFar Holds s input rest before after last
 
 -- at plain lines, to which nothing came
 abbrev pub IsAtLines : Setup → ModemState → Mode → Type 0

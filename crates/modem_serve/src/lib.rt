@@ -5,7 +5,7 @@
 //!
 //! - `serving`, `writing`, `fault`: a modem on a reader and a writer. `server`: the same, octets in and octets out.
 //! - `plain`, `entry`: plain lines. `mux`, `held_line`, `history`: in the multiplexer. `first_frame`: where one ends. `steps`: scripts.
-//! - `watching`: captures.
+//! - `watching`, `parts`: captures.
 //! - `laws`.
 #![tactic(auto)]
 
@@ -14,6 +14,7 @@ mod fault;
 mod held_line;
 mod history;
 mod mux;
+mod parts;
 mod plain;
 mod server;
 mod serving;

@@ -1,9 +1,11 @@
 //! A modem for a client whose octets are handed in and out: at plain lines or in the multiplexer.
-ghost use Rattle.std.specs.Prelude.{◌≡◌, ◌<◌, ℕ, List, [], length, IfErr, IfOk};
-ghost use Rattle.modem_serve.specs.Serving.{Setting};
+ghost use Rattle.std.specs.Prelude.{◌≡◌, ◌≢◌, ◌<◌, ◌++◌, ℕ, List, [], None, length, option_map, IfErr, IfOk};
+ghost use Rattle.modem_serve.specs.Entry.{octets_of};
+ghost use Rattle.modem_serve.specs.Serving.{Entry, Setting, with_more};
 ghost use Rattle.modem_sim.specs.declared.state.ModemState.{ModemState};
 ghost use Rattle.modem_serve.specs.Leaving.{IsOfModem};
-ghost use Rattle.modem_serve.specs.Standing.{HandlesText, IsEntered, Stands, StepsBy, StepsOn, setting_by, weight};
+ghost use Rattle.modem_serve.specs.Standing.{EndsWith, HandlesText, IsEntered, MayBeFrame, Stands, StepsOn, setting_by, undecided, weight};
+ghost use Rattle.modem_serve.specs.Coming.{may_be_frame, stands_before};
 ghost use Rattle.modem_serve.specs.declared.server.Mode.TheVariants.{Lines, Mux};
 
 use crate::fault::ServeFault;
@@ -52,16 +54,43 @@ pub(crate) enum Mode {
 
 /// What answers octets.
 pub(crate) trait Answering: Drop {
-    /// How it stands after octets that came and went.
-    ghost holds: { Setting → List ℕ → List ℕ → Self → Type 0 };
+    /// How it stands after octets that came, of which some are left, and that went, with these entries into the multiplexer.
+    ghost holds: { Setting → List ℕ → List ℕ → List Entry → Self → List ℕ → Type 0 };
 
-    /// Takes all of these octets, and writes what is said to them behind other octets.
-    fn take_all(self, setup: &Setup, octets: &[u8], out: &mut Vec<u8>) -> Result<Self, ServeFault>
+    /// The octets that it has taken of which it isn't decided yet what they are.
+    ghost undecided: { Self → List ℕ };
+
+    /// What falls with each line that enters the multiplexer, by how many octets are left.
+    ghost weight: { Self → ℕ → ℕ };
+
+    /// Takes octets, to the end of a line that enters the multiplexer at most, and writes what is said to them behind other octets. Gives
+    /// the octets behind that line, and the N1 of the multiplexer; none are left where no line enters it.
+    fn take_part(
+        self,
+        setup: &Setup,
+        octets: &[u8],
+        out: &mut Vec<u8>,
+    ) -> Result<(Self, Vec<u8>, Option<N1>), ServeFault>
     where
         Self: Sized,
-        ensures steps { IfOk result (λ new. (m : ModemState)
-            → StepsBy holds (setting_by setup.now m) self new octets.now out.old.items out.new.items) }
+        ensures all { IfOk result (λ r. r.2 ≡ None → r.1.items ≡ []) }
+        ensures fewer { IfOk result (λ r. r.2 ≢ None → weight r.0 (length r.1.items) < weight self (length octets.now)) }
+        ensures ends { IfOk result (λ r. EndsWith (undecided self ++ octets.now) (undecided r.0 ++ r.1.items)) }
+        ensures steps { IfOk result (λ r. (m : ModemState)
+            → StepsOn holds undecided (setting_by setup.now m) self r.0 (option_map octets_of r.2) octets.now r.1.items out.old.items out.new.items) }
         ensures fault { IfErr result IsOfModem };
+
+    /// How many octets aren't decided.
+    fn undecided_len(&self) -> usize
+        ensures { result ≡ length (undecided self.now) };
+
+    /// What isn't decided may become a frame.
+    ghost waits: { (s : Setting) (came went : List ℕ) (entries : List Entry) (x : Self) (left : List ℕ)
+        → holds s came went entries x left → MayBeFrame (undecided x) };
+
+    /// More octets come.
+    ghost brings: { (s : Setting) (came went : List ℕ) (entries : List Entry) (octets : List ℕ) (x : Self)
+        → holds s came went entries x [] → holds s (came ++ octets) went (with_more octets [] entries) x octets };
 }
 
 /// What is the same all along: N1 where a line doesn't name it, and what the modem does of its own accord in each multiplexer.
@@ -87,15 +116,17 @@ fn enter(setup: &Setup, modem: Modem, n1: N1) -> Result<Mode, AllocError>
     }))
 }
 
-/// Takes octets at plain lines, to the end of a line that enters the multiplexer at most, and gives those behind it.
+/// Takes octets at plain lines, to the end of a line that enters the multiplexer at most. Gives those behind it, and the N1.
 fn take_lines(
     setup: &Setup,
     plain: PlainMode,
     octets: &[u8],
     out: &mut Vec<u8>,
-) -> Result<(Mode, Vec<u8>), AllocError>
+) -> Result<(Mode, Vec<u8>, Option<N1>), AllocError>
     ensures fewer { IfOk result (λ r. 0 < length octets.now → weight r.0 (length r.1.items) < weight (Lines plain) (length octets.now)) }
-    ensures steps { IfOk result (λ r. (m : ModemState) → StepsOn (setting_by setup.now m) (Lines plain) r.0 octets.now r.1.items out.old.items out.new.items) }
+    ensures ends { IfOk result (λ r. EndsWith octets.now (undecided r.0 ++ r.1.items)) }
+    ensures steps { IfOk result (λ r. (m : ModemState)
+        → StepsOn Stands undecided (setting_by setup.now m) (Lines plain) r.0 (option_map octets_of r.2) octets.now r.1.items out.old.items out.new.items) }
 {
     let mut lines = plain;
     let count = lines.feed(octets)?;
@@ -103,8 +134,8 @@ fn take_lines(
     lines.clear_said();
     let behind = Vec::from_slice(setup.alloc, &octets[count..])?;
     match lines.entered() {
-        Some(n1) => Ok((enter(setup, lines.finish(), n1)?, behind)),
-        None => Ok((Mode::Lines(lines), behind)),
+        Some(n1) => Ok((enter(setup, lines.finish(), n1)?, behind, Some(n1))),
+        None => Ok((Mode::Lines(lines), behind, None)),
     }
 }
 
@@ -141,7 +172,9 @@ fn take_frame(
 ) -> Result<(Mode, Vec<u8>), ServeFault>
     ensures fewer { IfOk result (λ r. 0 < length octets.now → weight r.0 (length r.1.items) < weight (Mux mux) (length octets.now)) }
     ensures fault { IfErr result IsOfModem }
-    ensures steps { IfOk result (λ r. (m : ModemState) → StepsOn (setting_by setup.now m) (Mux mux) r.0 octets.now r.1.items out.old.items out.new.items) }
+    ensures ends { IfOk result (λ r. EndsWith (undecided (Mux mux) ++ octets.now) (undecided r.0 ++ r.1.items)) }
+    ensures steps { IfOk result (λ r. (m : ModemState)
+        → StepsOn Stands undecided (setting_by setup.now m) (Mux mux) r.0 None octets.now r.1.items out.old.items out.new.items) }
 {
     let Muxed {
         sim,
@@ -162,47 +195,81 @@ fn take_frame(
     }
 }
 
-/// Takes octets from the front, and gives those that are to be taken next: those behind, or behind a frame that was whole only now.
+/// Takes octets from the front, and gives those that are to be taken next: those behind, or behind a frame that was whole only now. Gives
+/// the N1 where a line enters the multiplexer.
 fn step(
     setup: &Setup,
     mode: Mode,
     octets: &[u8],
     out: &mut Vec<u8>,
-) -> Result<(Mode, Vec<u8>), ServeFault>
+) -> Result<(Mode, Vec<u8>, Option<N1>), ServeFault>
     ensures fewer { IfOk result (λ r. 0 < length octets.now → weight r.0 (length r.1.items) < weight mode (length octets.now)) }
     ensures fault { IfErr result IsOfModem }
-    ensures steps { IfOk result (λ r. (m : ModemState) → StepsOn (setting_by setup.now m) mode r.0 octets.now r.1.items out.old.items out.new.items) }
+    ensures ends { IfOk result (λ r. EndsWith (undecided mode ++ octets.now) (undecided r.0 ++ r.1.items)) }
+    ensures steps { IfOk result (λ r. (m : ModemState)
+        → StepsOn Stands undecided (setting_by setup.now m) mode r.0 (option_map octets_of r.2) octets.now r.1.items out.old.items out.new.items) }
 {
     match mode {
         Mode::Lines(plain) => Ok(take_lines(setup, plain, octets, out)?),
-        Mode::Mux(mux) => take_frame(setup, mux, octets, out),
+        Mode::Mux(mux) => {
+            let (next, behind) = take_frame(setup, mux, octets, out)?;
+            Ok((next, behind, None))
+        }
     }
 }
 
-/// Takes all of these octets, and writes what is said to them behind other octets.
+/// Takes octets, to the end of a line that enters the multiplexer at most, and writes what is said to them behind other octets. Gives the
+/// octets behind that line, and the N1.
 fn take_each(
     setup: &Setup,
     mode: Mode,
     octets: &[u8],
     out: &mut Vec<u8>,
-) -> Result<Mode, ServeFault>
-    ensures steps { IfOk result (λ new. (m : ModemState) → StepsOn (setting_by setup.now m) mode new octets.now [] out.old.items out.new.items) }
+) -> Result<(Mode, Vec<u8>, Option<N1>), ServeFault>
+    ensures all { IfOk result (λ r. r.2 ≡ None → r.1.items ≡ []) }
+    ensures fewer { IfOk result (λ r. r.2 ≢ None → weight r.0 (length r.1.items) < weight mode (length octets.now)) }
+    ensures ends { IfOk result (λ r. EndsWith (undecided mode ++ octets.now) (undecided r.0 ++ r.1.items)) }
+    ensures steps { IfOk result (λ r. (m : ModemState)
+        → StepsOn Stands undecided (setting_by setup.now m) mode r.0 (option_map octets_of r.2) octets.now r.1.items out.old.items out.new.items) }
     ensures fault { IfErr result IsOfModem }
 {
     let mut now = mode;
     let mut rest = Vec::from_slice(setup.alloc, octets)?;
     while !rest.is_empty() {
-        let (next, behind) = step(setup, now, rest.as_slice(), out)?;
+        let (next, behind, entered) = step(setup, now, rest.as_slice(), out)?;
+        if entered.is_some() {
+            return Ok((next, behind, entered));
+        }
         now = next;
         rest = behind;
     }
-    Ok(now)
+    Ok((now, rest, None))
 }
 
 impl Answering for Mode {
     ghost holds = { Stands };
 
-    fn take_all(self, setup: &Setup, octets: &[u8], out: &mut Vec<u8>) -> Result<Mode, ServeFault> {
+    ghost undecided = { undecided };
+
+    ghost weight = { weight };
+
+    ghost waits = { may_be_frame };
+
+    ghost brings = { stands_before };
+
+    fn take_part(
+        self,
+        setup: &Setup,
+        octets: &[u8],
+        out: &mut Vec<u8>,
+    ) -> Result<(Mode, Vec<u8>, Option<N1>), ServeFault> {
         take_each(setup, self, octets, out)
+    }
+
+    fn undecided_len(&self) -> usize {
+        match self {
+            Mode::Lines(_) => 0,
+            Mode::Mux(mux) => mux.kept.len().saturating_sub(1),
+        }
     }
 }

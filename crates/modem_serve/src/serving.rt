@@ -15,6 +15,7 @@ ghost use Rattle.modem_serve.specs.declared.fault.ServeFault.TheVariants as Serv
 ghost use Rattle.modem_sim.specs.declared.state.ModemState.{ModemState};
 
 use crate::fault::{BadOption, ServeFault};
+use crate::parts::{pass, tell};
 use crate::plain::PlainMode;
 use crate::server::{Answering, Mode, Setup};
 use crate::watching::{Nobody, Recorder, Watcher};
@@ -22,7 +23,7 @@ use crate::writing::put;
 use at_cmds::Pin;
 use modem_sim::{Modem, ModemStart, OwnAnswers, Steps};
 use modem_texts::say_line;
-use mux_capture::{Capture, Direction};
+use mux_capture::Capture;
 use mux_frame::N1;
 use std::alloc::Global;
 use std::io::{ErrorKind, Read, Write};
@@ -75,26 +76,27 @@ fn serve<M: Answering, V: Watcher, I: Read, W: Write>(
     input: &mut I,
     output: &mut W,
 ) -> Result<(), ServeFault>
-    ensures whole { OnOk result ((m : ModemState) → M.holds (setting_by setup.now m) [] [] first
-        → WatchedWhole M.holds V.sees (setting_by setup.now m) (I.remaining input.old) (W.contents output.old)
+    requires { M.undecided first ≡ [] }
+    ensures whole { OnOk result ((m : ModemState) → M.holds (setting_by setup.now m) [] [] [] first []
+        → WatchedWhole M.holds V.sees V.begins (setting_by setup.now m) (I.remaining input.old) (W.contents output.old)
         (W.contents output.new) watcher.old watcher.new) }
-    ensures left { (m : ModemState) → M.holds (setting_by setup.now m) [] [] first
+    ensures left { (m : ModemState) → M.holds (setting_by setup.now m) [] [] [] first []
         → LeftSoFar M.holds (setting_by setup.now m) (result_err result) (I.remaining input.old) (I.remaining input.new)
         (W.contents output.old) (W.contents output.new) }
     ensures fault { IfErr result (λ fault. fault ≢ ServeFault.Capture) }
 {
     let mut now = first;
     let mut piece = [0u8; PIECE];
+    let mut pending = Vec::new(setup.alloc);
     let mut out = Vec::new(setup.alloc);
     for _ in 0..u64::MAX {
         let count = read_some(input, &mut piece)?;
         if count == 0 {
+            tell(watcher, pending.as_slice(), out.as_slice(), None);
             return Ok(());
         }
-        watcher.see(Direction::ToModem, &piece[..count]);
-        now = now.take_all(setup, &piece[..count], &mut out)?;
+        now = pass(setup, now, watcher, &piece[..count], &mut pending, &mut out)?;
         put(output, out.as_slice())?;
-        watcher.see(Direction::FromModem, out.as_slice());
         out.clear();
     }
     Err(ServeFault::EndlessInput)
@@ -117,7 +119,7 @@ fn serve_client<V: Watcher, I: Read, W: Write>(
 ) -> Result<(), ServeFault>
     ensures answered { OnOk result (IsAnswered (setting_by setup.now modem) (I.remaining input.old)
         (W.contents output.old) (W.contents output.new)) }
-    ensures watched { OnOk result (IsWatched V.sees (setting_by setup.now modem) (I.remaining input.old)
+    ensures watched { OnOk result (IsWatched V.sees V.begins (setting_by setup.now modem) (I.remaining input.old)
         (W.contents output.old) (W.contents output.new) watcher.old watcher.new) }
     ensures left { IsLeftAt (setting_by setup.now modem) (result_err result) (I.remaining input.old) (I.remaining input.new)
         (W.contents output.old) (W.contents output.new) }
@@ -258,7 +260,10 @@ fn captured(served: Result<(), ServeFault>, failed: bool) -> Result<(), ServeFau
 }
 
 /// As `sim_run`, and captures the frames of all that is read and written, each way, in the order in which they pass and with their
-/// times. It gives the capture back. Where the capture can't be written, the client is served to the end, and the status is 1.
+/// times. A line that enters the multiplexer names the N1 of what follows it and its answer. What the client sent is captured once it
+/// is decided what it is, and what is said to it before that is written. At the end what could still become a frame is captured as damage,
+/// so that nothing but flags is missing. It gives the capture back. Where the capture can't be written, the client is served to the
+/// end, and the status is 1.
 pub fn sim_captured<K: Clock, I: Read, W: Write, E: Write, C: Write>(
     clock: &K,
     alloc: Global,
@@ -290,7 +295,7 @@ pub fn sim_captured<K: Clock, I: Read, W: Write, E: Write, C: Write>(
         Ok((setup, modem)) => {
             let mut recorder = Recorder::new(clock, capture);
             let served = serve_client(&setup, modem, &mut recorder, input, output);
-            let capture = recorder.into_capture();
+            let capture = recorder.finish();
             let ended = captured(served, capture.has_failed());
             (end(faults, ended), capture)
         }

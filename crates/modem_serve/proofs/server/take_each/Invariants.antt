@@ -1,11 +1,15 @@
--- What is left is to be taken.
-use Rattle.std.specs.Prelude.{length}
+-- What is left is to be taken, and no line has entered the multiplexer.
+use Rattle.std.specs.Prelude.{None, ◌≤◌, ◌++◌, length}
 use Rattle.modem_sim.specs.declared.state.ModemState.{ModemState}
-use Rattle.modem_serve.specs.Standing.{StepsOn, setting_by, weight}
+use Rattle.modem_serve.specs.Standing.{EndsWith, Stands, StepsOn, setting_by, undecided, weight}
 use Rattle.modem_serve.proofs.server.take_each.Given as goal
 
 abbrev pub invariant-loop-now : goal.invariant-loop-now
-invariant-loop-now l = (m : ModemState) → StepsOn (setting_by l.setup m) l.fn.mode l.now l.octets l.rest.items l.initial.out.items l.out.items
+invariant-loop-now l = record {
+  steps : (m : ModemState) → StepsOn Stands undecided (setting_by l.setup m) l.fn.mode l.now None l.octets l.rest.items l.initial.out.items l.out.items;
+  ends : EndsWith (undecided l.fn.mode ++ l.octets) (undecided l.now ++ l.rest.items);
+  fewer : weight l.now (length l.rest.items) ≤ weight l.fn.mode (length l.octets);
+}
 
 abbrev pub decreases-loop-now : goal.decreases-loop-now
 decreases-loop-now l = weight l.now (length l.rest.items)

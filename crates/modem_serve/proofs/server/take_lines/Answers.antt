@@ -1,11 +1,11 @@
 use Rattle.std.proofs.Common.{◌++◌, ◌≡◌, ap, sym, ◌∙◌, refl, take, drop}
 use Rattle.std.proofs.lemmas.List.{take_rest}
-use Rattle.std.specs.Prelude.{option_map}
+use Rattle.std.specs.Prelude.{None, Some, option_map}
 use Rattle.modem_serve.specs.declared.server.Mode.TheVariants.{Lines}
 use Rattle.modem_serve.specs.Entry.{octets_of}
 use Rattle.modem_serve.specs.Plain.{Plain}
 use Rattle.modem_serve.specs.Standing.{setting_by, unsaid}
-use Rattle.modem_serve.proofs.Stepping.{entered, moves_on, split_steps, stays}
+use Rattle.modem_serve.proofs.Stepping.{ends_dropped, ends_entered, entered, moves_on, split_steps, stays}
 use Rattle.modem_serve.proofs.server.take_lines.Goals as goal
 
 pub returns-in_ok-enter-in-Some-clause-steps : goal.returns-in_ok-enter-in-Some-clause-steps
@@ -13,7 +13,7 @@ returns-in_ok-enter-in-Some-clause-steps c = λ m.
     let taken = c.in_ok-count.ensures.taken in
     let same = sym (c.clear_said.ensures ∙ ap unsaid taken) in
     let behind : c.in_ok-behind.behind.items ≡ drop c.in_ok-count.count c.args.octets.now = c.in_ok-behind.ensures.items ∙ take_rest c.args.octets.now c.in_ok-count.count in
-    split_steps (setting_by c.args.setup.now m) (Lines c.args.plain) c.in_ok-enter-in-Some.field-0 c.args.octets.now c.in_ok-behind.behind.items c.args.out.now.items c.extend_from_slice.new.self.items c.in_ok-count.count behind
+    split_steps (setting_by c.args.setup.now m) (Lines c.args.plain) c.in_ok-enter-in-Some.field-0 (Some c.in-Some.n1.octets) c.args.octets.now c.in_ok-behind.behind.items c.args.out.now.items c.extend_from_slice.new.self.items c.in_ok-count.count behind
     (entered c.args.setup.now (setting_by c.args.setup.now m) c.args.plain c.in-Some.n1.octets c.finish.result c.in_ok-enter-in-Some.field-0
     (take c.in_ok-count.count c.args.octets.now) c.in_ok-behind.behind.items c.args.out.now.items c.extend_from_slice.new.self.items refl
     (ap (λ (q : Plain). q.entered) same ∙ sym c.entered.ensures.entered ∙ ap (option_map octets_of) c.in-Some.is)
@@ -27,7 +27,7 @@ returns-in-None-clause-steps c = λ m.
     let taken = c.in_ok-count.ensures.taken in
     let same = sym (c.clear_said.ensures ∙ ap unsaid taken) in
     let behind : c.in_ok-behind.behind.items ≡ drop c.in_ok-count.count c.args.octets.now = c.in_ok-behind.ensures.items ∙ take_rest c.args.octets.now c.in_ok-count.count in
-    split_steps (setting_by c.args.setup.now m) (Lines c.args.plain) (Lines c.clear_said.new.self) c.args.octets.now c.in_ok-behind.behind.items c.args.out.now.items c.extend_from_slice.new.self.items c.in_ok-count.count behind
+    split_steps (setting_by c.args.setup.now m) (Lines c.args.plain) (Lines c.clear_said.new.self) None c.args.octets.now c.in_ok-behind.behind.items c.args.out.now.items c.extend_from_slice.new.self.items c.in_ok-count.count behind
     (stays (setting_by c.args.setup.now m) c.args.plain c.clear_said.new.self (take c.in_ok-count.count c.args.octets.now) c.in_ok-behind.behind.items c.args.out.now.items
     c.extend_from_slice.new.self.items (sym same)
     (ap (λ (q : Plain). q.entered) same ∙ sym c.entered.ensures.entered ∙ ap (option_map octets_of) c.in-None.is)
@@ -38,3 +38,13 @@ returns-in_ok-enter-in-Some-clause-fewer c =
     let behind : c.in_ok-behind.behind.items ≡ drop c.in_ok-count.count c.args.octets.now = c.in_ok-behind.ensures.items ∙ take_rest c.args.octets.now c.in_ok-count.count in
     moves_on c.args.setup.now c.finish.result c.in-Some.n1.octets (Lines c.args.plain) c.in_ok-enter-in-Some.field-0 c.args.plain.entered c.in_ok-count.count
     c.args.octets.now c.in_ok-behind.behind.items refl c.in_ok-enter-in-Some.ensures c.in_ok-count.ensures.bound behind c.in_ok-count.ensures.some
+
+pub returns-in_ok-enter-in-Some-clause-ends : goal.returns-in_ok-enter-in-Some-clause-ends
+returns-in_ok-enter-in-Some-clause-ends c =
+    let behind : c.in_ok-behind.behind.items ≡ drop c.in_ok-count.count c.args.octets.now = c.in_ok-behind.ensures.items ∙ take_rest c.args.octets.now c.in_ok-count.count in
+    ends_entered c.args.setup.now c.finish.result c.in-Some.n1.octets c.args.octets.now c.in_ok-behind.behind.items c.in_ok-enter-in-Some.field-0 c.in_ok-enter-in-Some.ensures
+    (ends_dropped c.in_ok-count.count c.args.octets.now c.in_ok-behind.behind.items behind)
+
+pub returns-in-None-clause-ends : goal.returns-in-None-clause-ends
+returns-in-None-clause-ends c =
+    ends_dropped c.in_ok-count.count c.args.octets.now c.in_ok-behind.behind.items (c.in_ok-behind.ensures.items ∙ take_rest c.args.octets.now c.in_ok-count.count)

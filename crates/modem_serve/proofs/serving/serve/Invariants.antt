@@ -1,4 +1,4 @@
--- What came so far was answered by what was written, and all of it was seen.
+-- What came so far was answered by what was written, and all of it that is decided was seen.
 use Rattle.std.specs.Prelude.{◌≡◌, []}
 use Rattle.modem_sim.specs.declared.state.ModemState.{ModemState}
 use Rattle.modem_serve.specs.Standing.{setting_by}
@@ -8,8 +8,9 @@ use Rattle.modem_serve.proofs.serving.serve.Given as goal
 abbrev pub invariant-loop : goal.invariant-loop
 invariant-loop g l = record {
   so_far :
-      (m : ModemState) → g.M.Answering.holds (setting_by l.setup m) [] [] l.fn.first
-      → WatchedSoFar g.M.Answering.holds g.V.Watcher.sees (setting_by l.setup m) (g.I.Read.remaining l.initial.input)
+      (m : ModemState) → g.M.Answering.holds (setting_by l.setup m) [] [] [] l.fn.first []
+      → WatchedSoFar g.M.Answering.holds g.M.Answering.undecided g.V.Watcher.sees g.V.Watcher.begins (setting_by l.setup m) (g.I.Read.remaining l.initial.input)
       (g.I.Read.remaining l.input) (g.W.Write.contents l.initial.output) (g.W.Write.contents l.output) l.now l.initial.watcher l.watcher;
+  pending : l.pending.items ≡ g.M.Answering.undecided l.now;
   none_left : l.out.items ≡ [];
 }

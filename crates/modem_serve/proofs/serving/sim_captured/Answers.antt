@@ -1,9 +1,7 @@
 use Rattle.std.specs.Prelude.{Result, Ok, Err, IsOk, OnOk}
-use Rattle.std.proofs.Common.{ap, sym, subst, ◌∙◌}
+use Rattle.std.proofs.Common.{sym, ◌∙◌}
 use Rattle.std.proofs.lemmas.Bool.{false≢true}
-use Rattle.mux_capture.specs.Passing.{CaptureState}
 use Rattle.modem_serve.specs.Standing.{setting_by}
-use Rattle.modem_serve.specs.Watching.{IsCaptured}
 use Rattle.modem_serve.proofs.Ending.{both_well, ends_captured, served_in_part}
 use Rattle.modem_serve.proofs.Watched.{is_captured}
 use Rattle.modem_serve.proofs.serving.sim_captured.Goals as goal
@@ -15,11 +13,8 @@ done (Err e) ok h = absurd (false≢true ok)
 pub returns-in-Ok-clause-captured : goal.returns-in-Ok-clause-captured
 returns-in-Ok-clause-captured g c zero =
     let both = both_well c.serve_client-served.result c.captured-ended.result c.has_failed.result c.end.result _ c.captured-ended.ensures.well c.captured-ended.ensures.fault c.end.ensures.said zero in
-    subst (λ (new : CaptureState). IsCaptured c.args.options (g.I.Read.remaining c.args.input.now) (g.W.Write.contents c.args.output.now) (g.W.Write.contents c.serve_client-served.new.output) c.args.capture new) (sym c.into_capture-capture.ensures)
-    (subst (λ (old : CaptureState). IsCaptured c.args.options (g.I.Read.remaining c.args.input.now) (g.W.Write.contents c.args.output.now) (g.W.Write.contents c.serve_client-served.new.output) old c.serve_client-served.new.watcher) c.new-recorder.ensures
-    (is_captured c.args.options (setting_by c.in-Ok.setup c.in-Ok.modem) (g.I.Read.remaining c.args.input.now) (g.W.Write.contents c.args.output.now) (g.W.Write.contents c.serve_client-served.new.output) c.new-recorder.result c.serve_client-served.new.watcher
-    c.in-Ok.ensures.1 (done c.serve_client-served.result both.0 c.serve_client-served.ensures.watched)
-    (ap (λ (s : CaptureState). s.failed) (sym c.into_capture-capture.ensures) ∙ sym c.has_failed.ensures ∙ both.1)))
+    is_captured c.args.options (setting_by c.in-Ok.setup c.in-Ok.modem) (g.I.Read.remaining c.args.input.now) (g.W.Write.contents c.args.output.now) (g.W.Write.contents c.serve_client-served.new.output) c.args.capture c.new-recorder.result
+    c.serve_client-served.new.watcher c.finish-capture.result c.in-Ok.ensures.1 c.new-recorder.ensures (done c.serve_client-served.result both.0 c.serve_client-served.ensures.watched) c.finish-capture.ensures (sym c.has_failed.ensures ∙ both.1)
 
 pub returns-in-Ok-clause-sound : goal.returns-in-Ok-clause-sound
 returns-in-Ok-clause-sound g c zero =
@@ -29,7 +24,7 @@ returns-in-Ok-clause-sound g c zero =
 pub returns-in-Ok-clause-said : goal.returns-in-Ok-clause-said
 returns-in-Ok-clause-said g c one =
     ends_captured c.args.options (setting_by c.in-Ok.setup c.in-Ok.modem) c.serve_client-served.result c.captured-ended.result c.has_failed.result
-    c.into_capture-capture.result.failed c.end.result _ _ _ _ _ _ _ c.in-Ok.ensures.1 c.has_failed.ensures
+    c.finish-capture.result.failed c.end.result _ _ _ _ _ _ _ c.in-Ok.ensures.1 c.has_failed.ensures
     c.serve_client-served.ensures.fault c.serve_client-served.ensures.left c.serve_client-served.ensures.answered
     c.captured-ended.ensures.well c.captured-ended.ensures.fault c.end.ensures.well c.end.ensures.said one
 
@@ -37,7 +32,7 @@ pub returns-in-Ok-clause-left : goal.returns-in-Ok-clause-left
 returns-in-Ok-clause-left g c one =
     served_in_part c.args.options _ _ _ _ _ _
     (ends_captured c.args.options (setting_by c.in-Ok.setup c.in-Ok.modem) c.serve_client-served.result c.captured-ended.result c.has_failed.result
-    c.into_capture-capture.result.failed c.end.result _ (g.I.Read.remaining c.args.input.now) (g.I.Read.remaining c.serve_client-served.new.input)
+    c.finish-capture.result.failed c.end.result _ (g.I.Read.remaining c.args.input.now) (g.I.Read.remaining c.serve_client-served.new.input)
     (g.W.Write.contents c.args.output.now) (g.W.Write.contents c.serve_client-served.new.output) _ _ c.in-Ok.ensures.1 c.has_failed.ensures
     c.serve_client-served.ensures.fault c.serve_client-served.ensures.left c.serve_client-served.ensures.answered
     c.captured-ended.ensures.well c.captured-ended.ensures.fault c.end.ensures.well c.end.ensures.said one)
