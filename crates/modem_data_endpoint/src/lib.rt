@@ -1,4 +1,9 @@
 //! Data beside an endpoint: a relay between the line and a driver that its caller drives.
+//!
+//! # Layout
+//!
+//! - `data_endpoint`: a relay and an endpoint as one value; `both_ways`, `data_requests`, `data_lanes`: its calls.
+//! - `between`: octets between the two. `laws`.
 #![tactic(auto)]
 
 mod between;

@@ -1,5 +1,11 @@
 //! Prints what happened on the line between a driver and its modem, from a capture's frames: a line for each event in the order of time,
 //! a line for each complaint, and at the end what was counted of each connection.
+//!
+//! # Layout
+//!
+//! - `run`, `untimed`: over readers and writers. Under them `reading`, `packets`: packets one after the other; `fault`.
+//! - `teller`: item by item. Under it `event`, `line`, `complaint`, `tally`, `closing`, `words`: what is printed.
+//! - `laws`.
 #![tactic(auto)]
 
 mod closing;

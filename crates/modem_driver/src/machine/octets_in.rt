@@ -11,7 +11,7 @@ use crate::session::SessionFault;
 
 impl Machine {
     /// Handles the frames at hand, one after the other, until none is, or one lacks room for what it
-    /// calls for. Refusal: 1 NoMemory, at data of an open connection, which stays at hand.
+    /// calls for. Refusal: 1 NoMemory, for data of an open connection; that frame stays at hand.
     #[tactic(auto, using(crate::proofs::endpoints::TakenOctets::handles_none, crate::proofs::endpoints::TakenOctets::handles_one, crate::proofs::endpoints::TakenOctets::hand_lacks))]
     pub(crate) fn handle_frames(&mut self) -> Result<(), SessionFault>
         ensures handles { HandlesFrames self.old self.new }
