@@ -20,12 +20,15 @@ pub struct Line<'a> {
     pub text: &'a [u8],
 }
 
-/// How many octets stand before the first line end; all of them, where there is none.
+/// How many octets stand before the first line end; all of them, where there is none. Most often it stands at the front.
 pub fn run_len(octets: &[u8]) -> usize
     ensures within { result ≤ length octets.now }
     ensures before { list_any is_line_end (take result octets.now) ≡ false }
     ensures end { result < length octets.now → is_line_end (slice_index octets.now result) ≡ true }
 {
+    if matches!(octets.first(), Some(b'\r' | b'\n')) {
+        return 0;
+    }
     memchr2(b'\r', b'\n', octets).unwrap_or(octets.len())
 }
 
