@@ -223,9 +223,20 @@ def send_all(it, octets):
         pass  # the one who reads has seen it end
 
 
+def connected(until):
+    """The other end may not wait for connections yet."""
+    while True:
+        try:
+            return socket.create_connection((ADDRESSES["serve"], PORT), 10)
+        except OSError:
+            if time.monotonic() > until:
+                raise
+            time.sleep(0.1)
+
+
 def connection(end):
     if end == "fetch":
-        return socket.create_connection((ADDRESSES["serve"], PORT), 10)
+        return connected(time.monotonic() + 60)
     with socket.create_server((ADDRESSES["serve"], PORT)) as waiting:
         waiting.settimeout(60)
         return waiting.accept()[0]
