@@ -99,8 +99,9 @@ impl fmt::Display for Pdp {
 impl Command {
     ghost use Rattle.at_cmds.specs.Commands.{Writes, IsTextOf, Reads};
 
-    /// The command whose text this is, if there is one. The letters of `AT` and of the name may be in either case; what
-    /// follows the name is compared by octet. Refused only with 4 NoMemory, where the command has a text of its own.
+    /// The command whose text this is; `None` where no command has this text. The letters of `AT` and of the name may be in
+    /// either case. What follows the name has to be the same octet by octet. Refused only with 4 NoMemory, and only for a
+    /// command that holds a text: PinEnter, ContextSet, or OperChoose with an operator's number.
     pub fn read(alloc: Global, text: &[u8]) -> Result<Option<Command>, CmdError>
         ensures { Reads (IsTextOf text.now) result }
     {

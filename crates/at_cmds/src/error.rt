@@ -70,7 +70,7 @@ pub enum ReplyFault {
     /// 3: there is no final code at the end, or no line of the command's name.
     #[error("the answer has no reply")]
     Missing,
-    /// 4: the line with this index, counted from 0, begins with the command's name but isn't of its form.
+    /// 4: a line begins with the command's name but hasn't the form of its reply. This is the line's index, from 0.
     #[error("line {0} of the answer is malformed")]
     Malformed(usize),
     /// 5: memory was refused.

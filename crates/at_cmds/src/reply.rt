@@ -152,14 +152,17 @@ impl Reply {
 
     /// The reply in the lines of an answer, the final code among them.
     ///
-    /// The last line is looked at first. Unless it is a final code of the standard, the fault is 3 Missing, also where a
-    /// dialect's own code ended the answer; with an error it is 1 Cme or 2 PlainError. With `OK` a command that queries
-    /// nothing is Accepted. For other commands the first line that begins with the command's name and a colon is read,
-    /// for ContextQuery every such line; other lines are passed over. Where there is no such line the fault is 3 Missing;
-    /// for ContextQuery the list is empty. A line is divided at the commas outside quotes. A parameter is left out only
-    /// where nothing, not even blanks, stands between two commas. What follows the last parameter that a form knows is
-    /// passed over. A line that isn't of its form is 4 Malformed with its index. Last comes 5 NoMemory, where the reply
-    /// has a text or a list of its own.
+    /// The last line is looked at first. Where it is an error, the fault is 1 Cme or 2 PlainError. Where it is no final code
+    /// of the standard, the fault is 3 Missing, also where a dialect's own code ended the answer. With `OK` a command that
+    /// queries nothing is Accepted.
+    ///
+    /// For a query the first line that begins with the command's name and a colon is read; for ContextQuery every such line.
+    /// Other lines are passed over. Without such a line the fault is 3 Missing; for ContextQuery the list is empty. A line
+    /// that hasn't the form of the reply is 4 Malformed with its index.
+    ///
+    /// A line is divided at the commas outside quotes. A parameter is left out only where nothing stands between two commas,
+    /// not even blanks. What follows the last parameter that the form knows is passed over. 5 NoMemory comes last, and only
+    /// where the reply has a text or a list of its own.
     pub fn read(alloc: Global, command: &Command, lines: &AnswerLines) -> Result<Reply, ReplyFault>
         ensures { Answers result (reply_of command.now lines.now) }
     {

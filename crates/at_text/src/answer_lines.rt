@@ -60,7 +60,7 @@ impl AnswerLines {
         &self.octets.as_slice()[start..self.ends[place]]
     }
 
-    /// The octets of its last line, if there is one: of a whole answer the final code.
+    /// The octets of the last line; `None` where there are no lines. In a whole answer that is the final code.
     pub fn last(&self) -> Option<&[u8]>
         ensures { option_map (λ line. line_of line.now) result ≡ slice_get self.now (length self.now - 1) }
     {
@@ -199,7 +199,7 @@ impl Eq for AnswerLines {
     ghost laws = { Prim.search (comparing, rules) };
 }
 
-/// The octets of each line of an answer that is left, in order. Contracts see the list of these lines.
+/// Gives the lines of an answer in order, each as its octets. Contracts see the list of the lines not given yet.
 #[derive(Drop)]
 pub struct AnswerIter<'a> {
     octets: &'a [u8],

@@ -120,8 +120,8 @@ impl Dialect {
         })
     }
 
-    /// How many rules of its own it has: at most 64. No line is both a final code and unsolicited by it. None that begins
-    /// with `AT` or `at` is either.
+    /// How many rules of its own the dialect has: at most 64. No line is both a final code and unsolicited by it. A line that
+    /// begins with `AT` or `at` is neither.
     pub fn count(&self) -> usize
         ensures count { result ≡ count self.now }
         ensures sound { IsSound self.now }
@@ -129,8 +129,8 @@ impl Dialect {
         self.finals.len() + self.urcs.len()
     }
 
-    /// What a line says, if it is a final code: by the standard, else the place of the first of the dialect's final
-    /// rules that takes it.
+    /// What a line says as a final code: what it says by the standard, else Named, with the place of the dialect's first final
+    /// rule that takes it. `None` where the line is no final code.
     pub fn final_of(&self, line: &[u8]) -> Option<Final>
         ensures { result ≡ final_by self.now line.now }
     {
@@ -156,8 +156,9 @@ impl Dialect {
         self.final_of(line).is_some()
     }
 
-    /// The kind of a line that no command asked for: by the standard, else that of the first of the dialect's
-    /// unsolicited rules that takes it. It is never Other. The name of a kind of the dialect's own is that of the rule.
+    /// The kind of a line that no command asked for: its kind by the standard, else that of the dialect's first unsolicited
+    /// rule that takes it. `None` where no rule takes the line; never Other. A kind of the dialect's own has the name of the
+    /// rule that takes the line.
     pub fn unsolicited_of(&self, line: &[u8]) -> Option<UrcKind>
         ensures kind { result ≡ (dialect_of self.now).kind_of line.now }
         ensures name { (place : ℕ) → result ≡ Some (UrcKind.Own place) → name_at self.now place ≡ name_by self.now line.now }

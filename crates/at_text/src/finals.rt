@@ -11,7 +11,7 @@ pub enum Final {
     Good,
     /// `ERROR`.
     Error,
-    /// `+CME ERROR:`, with its number where after any blanks 1 to 9 digits follow and nothing else.
+    /// `+CME ERROR:`. It has its number where behind the colon stand any blanks, then 1 to 9 digits, and nothing else.
     Cme(Option<u32>),
     /// A final code of a dialect's own: the place of its rule among the dialect's final rules, from 0.
     Named(u8),

@@ -39,7 +39,8 @@ pub fn placing()
     ensures { (parts : List Part) → PlacesLines parts }
 {}
 
-/// A line is on a fork what it is on the window. The lines of the window come before those of the fork.
+/// A line is on a fork what it is on the window, but for the lines so far. With the window's lines so far before its own, a
+/// fork is the window that it was made of.
 pub fn forks()
     ensures apart { (dialect : Dialect) (ls : List AnswerLine) (w : Option OpenWindow) (line : List ℕ)
         → SeesApart dialect ls w line }

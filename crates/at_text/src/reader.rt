@@ -20,7 +20,7 @@ pub struct Line<'a> {
     pub text: &'a [u8],
 }
 
-/// How many octets stand before the first line end; all of them, where there is none. Most often it stands at the front.
+/// How many octets stand before the first line end; all of them, where there is none. A line end at the front is seen at once.
 pub fn run_len(octets: &[u8]) -> usize
     ensures within { result ≤ length octets.now }
     ensures before { list_any is_line_end (take result octets.now) ≡ false }
@@ -77,7 +77,7 @@ impl LineReader {
         ended_line(&self.run, self.has_ended)
     }
 
-    /// Reads octets none of which ends a line: those in front of the place that `run_len` tells.
+    /// Reads octets that end no line, such as those that `run_len` counts. Requires that none of them is a line end.
     pub fn keep(&mut self, octets: &[u8])
         requires { list_any is_line_end octets.now ≡ false }
         ensures kept { HasRead self.new (self.old ++ octets.now) }

@@ -69,7 +69,8 @@ impl Eq for UrcKind {
     ghost laws = { Prim.search (comparing, rules) };
 }
 
-/// The kind of a line that no command asked for, also inside a window. It is never Other.
+/// The kind of a line that no command asked for, by the standards; `None` for any other line. The kind is the same inside a
+/// window. It is never Other.
 pub fn unsolicited_of(line: &[u8]) -> Option<UrcKind>
     ensures { result ≡ unsolicited_of line.now }
 {

@@ -219,9 +219,10 @@ impl Window {
         })
     }
 
-    /// Makes `fork` a window of the same command without its lines so far. Lines can be seen on a fork and dropped again.
-    /// Where both have a command, it uses the memory that `fork` has. Later `follow` puts the lines so far before the
-    /// fork's own, and `lead` before those of an answer that became whole on the fork.
+    /// Makes `fork` a window of the same command, without the lines so far. Without a command here `fork` has none either.
+    /// Lines can be shown to a fork first, and the fork dropped. Where both windows have a command, `fork` keeps its memory.
+    /// `follow` later puts the lines so far before the fork's own. `lead` puts them before the lines of an answer that became
+    /// whole on the fork.
     pub fn fork_into(&self, fork: &mut Window)
         ensures { fork.new ≡ forked self.now }
     {
@@ -233,7 +234,7 @@ impl Window {
         }
     }
 
-    /// Moves the lines so far to the front of these. Refused with 4 NoMemory, which leaves both as they were.
+    /// Moves this window's lines so far to the front of `lines`. Refused with 4 NoMemory, which leaves both as they were.
     pub fn lead(&mut self, lines: &mut AnswerLines) -> Result<(), TextError>
         ensures lines { OnOk result (lines.new ≡ lines_so_far self.old ++ lines.old) }
         ensures left { OnOk result (self.new ≡ forked self.old) }
@@ -247,8 +248,8 @@ impl Window {
         Ok(())
     }
 
-    /// Moves the lines so far of `before`, the window before, to the front of its own. Without a command under way here
-    /// nothing changes. Refused with 4 NoMemory, which leaves both as they were.
+    /// Moves the lines so far of `before`, the earlier window, to the front of this window's own. Where this window has no
+    /// command under way, nothing changes. Refused with 4 NoMemory, which leaves both as they were.
     pub fn follow(&mut self, before: &mut Window) -> Result<(), TextError>
         ensures ok { OnOk result (self.new ≡ led_by (lines_so_far before.old) self.old) }
         ensures left { OnOk result (

@@ -17,9 +17,9 @@ use std::marker::Model;
 /// So many times all moves in one call at most: more often than 65,536 octets need by 512.
 const ROUNDS: u32 = 256;
 
-/// A line some of whose connections carry data, and a file beside each of these. A driver reads and writes it as its line. With each
-/// read octets move between connections and files first, both ways, until nothing moves: what a file gave goes to its connection, in order,
-/// as far as it takes them; what comes on the connection goes to the file, in order, as far as it takes them. What isn't taken waits.
+/// A line some of whose connections carry data, and a file beside each of these. A driver reads and writes it as its line.
+/// Before each read octets move between connections and files, as `move_all` does. What a file gave goes to its connection,
+/// and what came on the connection goes to the file, in order and as far as it is taken. What isn't taken waits.
 ///
 /// Contracts see the line with its relay, the files, N1, and what the line itself had given and taken before.
 #[derive(Drop)]
@@ -202,8 +202,8 @@ impl<L: SerialLine, P: SerialLine> FiledLine<L, P> {
         moved | went | came
     }
 
-    /// Moves octets between connections and files, both ways, and writes and reads the line, until nothing moves. Each file has a turn.
-    /// The driver sees nothing of it.
+    /// Moves octets between connections and files, both ways, and writes and reads the line, in rounds: until a round moves
+    /// nothing, at most 256. Each file has a turn. The driver sees nothing of it.
     #[tactic(auto, using(crate::proofs::Turns::turns_then))]
     pub fn move_all(&mut self)
         ensures turns { HadTurns L.received L.sent P.received P.sent P.empty_reads P.stalled_writes self.old self.new.files }

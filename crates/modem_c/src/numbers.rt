@@ -22,10 +22,10 @@ pub const NO_DRIVER: u8 = 16;
 /// There is a driver already.
 pub const HAS_DRIVER: u8 = 17;
 
-/// A connection is 0 to 61.
+/// A connection isn't 0 to 61.
 pub const BAD_DLCI: u8 = 18;
 
-/// A probe has at most 16 octets.
+/// A probe has more than 16 octets.
 pub const LONG_PROBE: u8 = 19;
 
 /// There is no such kind of unsolicited lines.

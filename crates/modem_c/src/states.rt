@@ -42,8 +42,8 @@ fn first_change(endpoint: &Endpoint, told: &mut [u8]) -> Option<Dlci>
     None
 }
 
-/// At each connection's number `told` has the state last told of it, where a 0 stands for shut. Hands out the first
-/// connection whose state is another, and puts that there.
+/// `told` has the state last told of each connection, at the connection's number; 0 stands for shut. Hands out the first
+/// connection that has another state now, and puts that state into `told`.
 #[unsafe(no_mangle)]
 pub extern "C" fn cimbaloty_poll_state_at(
     alloc: Global,

@@ -33,9 +33,9 @@ impl DataEndpoint {
         DataEndpoint { endpoint, relay }
     }
 
-    /// Takes octets from the front of these, which came from the line, and says how many. Where it isn't blocked, it took all, every
-    /// frame passed, and nothing waits for the endpoint. Where it is, it keeps what it took: call it again with the octets behind those,
-    /// or with none, after `poll_output` (OutputFirst) or once there is memory (NoMemory).
+    /// Takes octets of the line from the front of `octets`, and says how many. Where it isn't blocked, it took all, every
+    /// frame passed, and nothing waits for the endpoint. Blocked, it keeps what it took. Write by `poll_output` (OutputFirst)
+    /// or free memory (NoMemory), then call it with the octets not taken, or with none.
     pub fn handle_input(&mut self, octets: &[u8]) -> DataInput
         ensures takes { CarriesIn self.old self.new (take result.taken octets.now) }
         ensures few { result.taken ≤ length octets.now }
@@ -44,10 +44,10 @@ impl DataEndpoint {
         take_in(&mut self.relay, &mut self.endpoint, octets)
     }
 
-    /// Writes the next octets for the line to the front of `room`, those of one frame at most. Says how many, and whether it goes on:
-    /// then call it again. Where it writes none and doesn't go on, nothing waits that may go. The endpoint's octets go first, and data
-    /// goes only where nothing of the endpoint's waits. What is written counts as sent: a caller that can't write it to its line calls
-    /// `line_lost`.
+    /// Writes the next octets for the line to the front of `room`, those of one frame at most. Says how many, and whether it
+    /// goes on: then call it again. If it had room, wrote none and doesn't go on, nothing waits that may go. The endpoint's
+    /// octets go first. Data goes only where nothing of the endpoint's waits. What is written counts as sent: a caller that
+    /// can't write it to its line calls `line_lost`.
     pub fn poll_output(&mut self, room: &mut [u8]) -> Output
         ensures gives { CarriesOut self.old self.new (take result.count room.new) result.goes_on }
         ensures few { result.count ≤ length room.old }

@@ -85,8 +85,8 @@ impl<L: SerialLine> DataLine<L> {
         self.relay.to_go(dlci)
     }
 
-    /// Makes one write of what may go to the line, and says whether the line took octets. Once data was given while the driver rests,
-    /// call it until it says no. The driver sees nothing of it.
+    /// Makes one write of what may go to the line, and says whether the line took octets. Where data was given while the
+    /// driver rests, call it until it says no. The driver sees nothing of this write.
     pub fn flush(&mut self) -> bool
         ensures goes { LeadsBy L.received L.sent (may_go self.old.is_behind) self.old self.new }
         ensures beside { self.new ≡ record self.old { line = self.new.line; relay = self.new.relay; is_lost = self.new.is_lost } }
@@ -99,8 +99,9 @@ impl<L: SerialLine> DataLine<L> {
         self.write_one()
     }
 
-    /// Takes octets of the line in, where none wait for the driver: those that wait for the relay, or else those of one read. Says
-    /// whether some came by a read. Where the driver rests, call it until it says no: data comes on though nothing is the driver's.
+    /// Takes octets of the line in: those that already wait for the relay, or else those of one read. Says whether a read gave
+    /// some. It does nothing while octets wait for the driver. While the driver rests, call it until it says no: so data comes
+    /// on even where no frame is the driver's.
     pub fn fill(&mut self) -> bool
         ensures goes { LeadsBy L.received L.sent (may_pass self.old.is_behind) self.old self.new }
         ensures beside { self.new ≡ record self.old {

@@ -7,14 +7,14 @@ use serial_line::{History, ReadBuffer, SerialLine};
 use std::alloc::Global;
 use std::marker::Model;
 
-/// A line on which some connections carry data. A driver reads and writes it as its line (`SerialLine`); callers of data use the calls
-/// beside, such as `give` and `read`, for example by `Session::line_mut`.
+/// A line on which some connections carry data. A driver reads and writes it as its line (`SerialLine`). Callers of data use
+/// its other calls, such as `give` and `read`. Where a session has the line, they reach it by `Session::line_mut`.
 ///
-/// - What the line itself gives goes to the relay, and its frames but data go on to the driver.
-/// - What the driver writes goes to the relay, and its frames to the line, before data. Data leaves only where all that the driver
-///   offered last was taken.
-/// - Each call of the driver's writes the line too. Where the driver rests, call `flush` once data was given.
-/// - A fault of the line is told by the next call.
+/// - What the line itself gives goes to the relay. Of its frames all but data go on to the driver.
+/// - What the driver writes goes to the relay. Its frames go on to the line, before data. Data leaves only once the driver's
+///   last offer was taken whole.
+/// - Each call of the driver's writes the line too. While the driver rests, call `flush` after data was given.
+/// - After a fault of the line each write of the driver's fails. Its reads fail once all that waits for the driver is read.
 ///
 /// Contracts see the line itself, the relay, what waits between the two, and what the driver read and wrote here.
 #[derive(Drop)]

@@ -11,8 +11,8 @@ pub fn pasts<L: SerialLine>()
     ensures { HaveOnePast L.received L.sent }
 {}
 
-/// A session over such a line has the line's own frames but data. Those that it got are the first of those that came, and its own leave
-/// whole and in order.
+/// A session over such a line has the line's own frames, but for data. The frames that it got are the first of those that
+/// came. The frames that it sent leave whole and in order.
 #[tactic(auto, using(crate::proofs::LineLaws::tells_session))]
 pub fn sessions<L: SerialLine>()
     ensures { TellsSession L.received L.sent }

@@ -8,8 +8,8 @@ use std::io::Write;
 use std::marker::Model;
 use std::rt::Clock;
 
-/// A line, and a capture of the frames that it gives and takes. Until it fails the capture has a packet for each frame that all octets
-/// received, and all sent, are read as. Where it fails the line goes on.
+/// A line, and a capture of the frames that it gives and takes. Until the capture fails, it has a packet for each frame that
+/// all octets received are read as, and for each that all octets sent are read as. Where the capture fails, the line goes on.
 #[derive(Drop)]
 pub struct CapturedLine<L: SerialLine, K: Clock, C: Write> {
     line: L,

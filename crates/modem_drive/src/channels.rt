@@ -14,7 +14,7 @@ use std::time::{Duration, Instant};
 pub enum ChannelState {
     /// No opening of it was told anything yet.
     Untold,
-    /// The same, and it is to be opened though no command waits for it.
+    /// No opening of it was told anything yet, and it is to be opened even where no command waits for it.
     Wanted,
     /// It isn't open.
     Shut,

@@ -288,12 +288,13 @@ fn end_by(ended: Result<Driven, DriveFault>, is_written: bool) -> Result<Driven,
     })
 }
 
-/// Drives a modem on the device of this path as `drive_run` does, with a file beside each connection that carries data. The files are
-/// opened first, and each is read and written by a thread of its own. The settings' `data` isn't read.
+/// Drives a modem on the device of this path as `drive_run` does, with a file beside each connection that carries data.
+/// `data_paths` names these connections; the settings' `data` isn't read. The files are opened first. Two threads for each
+/// file read and write it.
 ///
-/// Once the drive has ended, what came on the connections is written to their files, for ten seconds at most, and as long again until the
-/// threads are through. Behind the bad lines it says on `faults` of each file whether it gives or takes no more, and what is left; and
-/// which thread has more to write. Where octets that came are left the status is 1.
+/// Once the drive has ended, what came on the connections is written to their files, for ten seconds at most. The threads then
+/// have ten more seconds to be through. Behind the bad lines `faults` says of each file whether it gives or takes no more, and
+/// what is left. It also says which thread has more to write. The status is 1 where octets that came are left.
 pub fn drive_data_run<R, I, W, E>(
     rt: &R,
     path: &str,

@@ -56,13 +56,14 @@ fn with_files<L: SerialLine + Drop, P: SerialLine + Drop>(
     }
 }
 
-/// Drives a modem as `drive_over` does, on a line some of whose connections carry the data of these files. The settings name the
-/// connections, in the order of the files. The lane of each begins once the multiplexer is entered, and each connection is opened
-/// though no line of the input names it. With each round octets move between connections and files, both ways, as far as they are
-/// taken; what isn't taken waits, and isn't lost.
+/// Drives a modem as `drive_over` does, on a line some of whose connections carry the data of these files. The lane of each
+/// such connection begins once the multiplexer is entered. The connection is opened even where no line of the input names it.
+/// With each round octets move between connections and files, both ways, as far as they are taken. What isn't taken waits, and
+/// isn't lost.
 ///
-/// Refused as `drive_over` is, and with Data before anything is written where more than 8 connections are named, one of them is 0, or
-/// one is named twice. Requires that nothing has passed at the files.
+/// Refused as `drive_over` is. Refused with Data, before anything is written, where more than 8 connections are named, one of
+/// them is 0, or one is named twice. Requires that nothing has passed at the files, and that the settings' `data` names their
+/// connections in the order of the files.
 pub fn drive_data_over<L, P, R, I, W, E>(
     rt: &R,
     alloc: Global,

@@ -254,8 +254,8 @@ fn rest<L: SerialLine, R: Wait + Clock + Drop>(
     bell.wait(rt, ticks.time_left(rt, session.wants_tick(), most));
 }
 
-/// Goes on until the multiplexer has ended, or the drive ends by a fault. It prints all that came by then, and gives the fault, if there
-/// was one. Refused with NoMemory, Output or GaveUp. The condition is that T1 isn't 0.
+/// Goes on until the multiplexer has ended, or the drive ends by a fault. It prints all that came by then, and gives the
+/// fault, if there was one. Refused with NoMemory, Output or GaveUp. Requires that the period of `ticks` isn't 0.
 #[tactic(auto, using(crate::proofs::Lines::stays, crate::proofs::Lines::goes_then, crate::proofs::Drives::drives_none, crate::proofs::Drives::drives_then))]
 pub fn drive_on<L: SerialLine, R: Wait + Clock + Drop, I: Read, W: Write, E: Write>(
     rt: &R,

@@ -123,7 +123,7 @@ impl DriveFault {
         }
     }
 
-    /// How the line begins that is said of it with the path of a file, up to the path, where it concerns one.
+    /// Of NoDevice, NotSetUp and NoCapture the beginning of the line that says it, up to the path. `None` of any other fault.
     pub fn head(self) -> Option<&'static str>
         ensures { option_map (λ head. head.now) result ≡ fault_head self }
     {

@@ -9,7 +9,7 @@ use std::rt::Clock;
 use std::thread;
 use std::time::Duration;
 
-/// So often it is looked whether all is written, and so many milliseconds lie between: ten seconds in all.
+/// How often a wait looks whether all is written. `PAUSE` milliseconds lie between two looks: ten seconds in all.
 pub const LOOKS: u32 = 1000;
 
 pub const PAUSE: u64 = 10;

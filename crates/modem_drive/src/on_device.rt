@@ -328,11 +328,12 @@ where
     drive_threaded(rt, device, capture, input, output, faults, settings)
 }
 
-/// Drives a modem on the device of this path, as `drive_over` does, with the lines of `input`, which a thread of its own reads. The
-/// device is a terminal that is set up so that a read waits a while and then gives nothing. Where the settings name a file, the frames
-/// that are read and written go there, with their times; where that file can't be written the drive goes on to its end. The status is 0
-/// where all is done, 2 where a line of the input was bad and all else is done, and 1 at a fault; at 1 and 2 it says on `faults` why:
-/// each bad line as it is read, then how many requests were left, if any were, and then the fault.
+/// Drives a modem on the device of this path, as `drive_over` does. A thread of its own reads the lines of `input`. The device
+/// is a terminal that is set up so that a read waits a while and then gives nothing. Where the settings name a file for a
+/// capture, the frames that are read and written go there, with their times. Where that file can't be written the drive goes
+/// on to its end. The status is 0 where all is done, 2 where a line of the input was bad and all else is done, and 1 at a
+/// fault. At 1 and 2 `faults` says why: each bad line as it is read, then how many requests were left, if any were, and then
+/// the fault.
 pub fn drive_run<R, I, W, E>(
     rt: &R,
     path: &str,

@@ -53,7 +53,7 @@ impl Queues {
         self.lines.iter().all(|lines| lines.is_empty())
     }
 
-    /// Whether so many of one connection wait that no line is read.
+    /// Whether 1024 commands of one connection wait, or more. Then no line is read.
     pub fn is_full(&self) -> bool
         ensures { result ≡ list_any (λ texts. nat_le 1024 (length texts)) self.now }
     {

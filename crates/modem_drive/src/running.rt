@@ -297,17 +297,22 @@ where
     )
 }
 
-/// Drives a modem on a line on which no call waits. It enters the multiplexer, opens connection 0, and opens each other connection when
-/// a line of the input first names it, or at once where it carries data. It submits the lines `D TEXT` of each connection in order, one at a time, and those of 15
-/// connections at most; while 1024 wait for one connection it reads none. It prints the outcome of each as `D i answer` and each announced
-/// line as `heard KIND D TEXT`, as they come; a kind of the dialect's own has its name. A connection
-/// whose command has had no answer for as long as the settings say is closed, and opened again for the next line; where the modem doesn't
-/// answer that closing either, the drive ends with Silent. At the end of the input it waits for what is under way, and ends the multiplexer. `bell` is rung where octets of the line or of the input may have
+/// Drives a modem on a line on which no call waits. `bell` has to be rung where octets of the line or of the input may have
 /// come.
 ///
-/// It gives the line, and what the drive came to. Where the line is lost, or the modem ends the multiplexer, each request that waits is
-/// told so, and the answer has the fault. However it ends, each bad line that was read is named on `faults`, and nothing else is said
-/// there. Refused where the multiplexer isn't entered, and with NoMemory, Output or GaveUp; then something is left undone.
+/// It enters the multiplexer and opens connection 0. It opens each other connection when a line of the input first names it,
+/// or at once where it carries data. It submits the lines `D TEXT` of each connection in order, one at a time, and those of 15
+/// connections at most. While 1024 lines wait for one connection it reads none. It prints the outcome of each line as
+/// `D i answer`, and each announced line as `heard KIND D TEXT`, as they come. A kind of the dialect's own has its name.
+///
+/// A connection whose command has had no answer for as long as the settings say is closed, and opened again for the next line.
+/// Where the modem doesn't answer that closing either, the drive ends with Silent. At the end of the input it waits for what
+/// is under way, and ends the multiplexer.
+///
+/// It gives the line, and what the drive came to. Where the line is lost, or the modem ends the multiplexer, each request that
+/// waits is told so, and the answer has the fault. However it ends, `faults` names each bad line that was read, and nothing
+/// else. Refused where the multiplexer isn't entered, and with NoMemory, Output or GaveUp. After a refusal something is left
+/// undone.
 pub fn drive_over<L, R, I, W, E>(
     rt: &R,
     alloc: Global,

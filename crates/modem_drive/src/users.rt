@@ -89,8 +89,8 @@ impl Users {
             .any(|line| line.dlci.number() == number)
     }
 
-    /// Submits a line, on a connection whose opening was told something and of which no line is under way. Refused with NoMemory and
-    /// GaveUp.
+    /// Submits a line on a connection. Requires that an opening of the connection was told something, and that no line of it
+    /// is under way. Refused with NoMemory and GaveUp.
     #[tactic(auto, using(crate::proofs::Lines::stays))]
     pub fn submit<R: Wait + Clock>(
         &mut self,
@@ -123,8 +123,8 @@ impl Users {
         Ok(())
     }
 
-    /// Asks this beside commands, where nothing such waits for its outcome, and says whether it asked. A Stop is asked only with no line
-    /// under way. Refused with GaveUp.
+    /// Asks for an opening, a close or a Stop, and says whether it asked. It asks nothing while an earlier one of these waits
+    /// for its outcome. Requires for a Stop that no line is under way. Refused with GaveUp.
     #[tactic(auto, using(crate::proofs::Lines::stays))]
     pub fn ask<R: Wait>(&mut self, rt: &R, control: Control) -> Result<bool, DriveFault>
         requires { control ≡ Stop → self.old.under_way.items ≡ [] }

@@ -48,9 +48,9 @@ pub fn histories()
     ensures call { (s : Setting) (past : List Act) (a : Act) → CallGoesOn s past a }
 {}
 
-/// A history of whole calls comes about by three rules: nothing; a call, with all that it calls for; what goes out next.
-/// What the rules make is lawful and complete, each of its calls is complete, no request is taken where 128 are in hand,
-/// and each data frame is sent in turn. What is so the rules make.
+/// A history of whole calls comes about by three rules: nothing; a call, with all that it calls for; what goes out next. What
+/// the rules make is lawful and complete, each of its calls is complete, no request is taken where 128 are in hand, and each
+/// data frame is sent in turn. Where N1 is at least 1, the rules make every history of which this is so.
 #[tactic(auto, using(crate::proofs::rules::MadeLaws::made_keeps_laws, crate::proofs::rules::LawfulHistories::lawful_is_made))]
 pub fn three_rules()
     ensures keeps { (s : Setting) (past : List Act) → MadeKeepsLaws s past }

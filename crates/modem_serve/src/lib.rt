@@ -4,9 +4,8 @@
 //! # Layout
 //!
 //! - `serving`, `writing`, `fault`: a modem on a reader and a writer. `server`: the same, octets in and octets out.
-//! - `plain`, `entry`: plain lines. `mux`, `held_line`, `history`: in the multiplexer. `first_frame`: where one ends. `steps`: scripts.
+//! - `plain`, `entry`: plain lines. `mux`, `held_line`, `history`: in the multiplexer. `steps`: scripts.
 //! - `watching`, `parts`: captures.
-//! - `laws`.
 #![tactic(auto)]
 
 mod entry;

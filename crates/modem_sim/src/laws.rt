@@ -66,9 +66,9 @@ pub fn worked_examples()
     ensures network_left { NetworkLeft }
 {}
 
-/// To a command of the first table, but `AT+CGDCONT?`, a modem with words answers as one without them, while it tells the operator by
-/// its number and all its functions are on, has no answer of its own, and no line of an earlier one waits. Behind the answer it
-/// announces a change of registration.
+/// A modem with words answers a command of the first table, but for `AT+CGDCONT?`, as a modem without words does. Behind the
+/// answer it announces a change of registration. This holds while it tells the operator by its number, all its functions are
+/// on, and no line of an earlier answer waits. It holds for a line of fewer than 512 octets that no answer of its own takes.
 #[tactic(auto, using(crate::proofs::law_proofs::WordedModems::answers_as_standard))]
 pub fn words()
     ensures { AnswersAsStandard }
@@ -104,10 +104,10 @@ pub fn worked_settings()
     ensures later { OwnLater }
 {}
 
-/// The octets that left a simulated modem on a connection since it opened are the beginning of what is said there, piece
-/// by piece. But for lines that no command asked for, what is said and held back there are the replies to the lines that
-/// came on it since it opened, each from the one modem after all lines before it. The steps of a script are done in
-/// their order, each once.
+/// The octets that left a simulated modem on a connection since it opened are the beginning of what is said there, piece by
+/// piece. Leave out the lines that no command asked for: then what is said and held back there are the replies to the lines
+/// that came on it since it opened. Each reply is from the one modem after all lines before it. The steps of a script are done
+/// in their order, each once.
 #[tactic(auto, using(crate::proofs::law_proofs::Histories::leaves_in_pieces, crate::proofs::law_proofs::Histories::keeps_order, crate::proofs::connections::Outboxes::says_replies))]
 pub fn histories()
     ensures leaves { (e : End) (past : List Act) → SimLawful e past → LeavesInPieces e past }

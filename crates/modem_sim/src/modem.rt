@@ -104,10 +104,11 @@ impl Modem {
         Modem { alloc, state }
     }
 
-    /// A modem with words that was just started: beside the commands of a modem it takes those that clients send as they begin,
-    /// several in a line, with blanks and behind whatever stands before `AT` (V.250, 5.2.1). It announces changes of registration
-    /// where reports are on (27.007, 7.2), activates packet contexts (10.1.10), and takes a PUK after three wrong PINs (8.3). `echo`
-    /// says whether its commands are repeated until an `ATE` says otherwise. It takes no memory.
+    /// A modem with words that was just started. It takes more than the commands of a modem without words: those that clients
+    /// send as they begin, several in a line, with blanks, and behind whatever stands before `AT` (V.250, 5.2.1). It announces
+    /// changes of registration where reports are on (27.007, 7.2). It activates packet contexts (27.007, 10.1.10). After three
+    /// wrong PINs it takes a PUK (27.007, 8.3). `echo` says whether it repeats commands until an `ATE` says otherwise. It
+    /// takes no memory.
     pub fn with_words(alloc: Global, start: ModemStart, echo: bool) -> Modem
         ensures { result ≡ started_with_words start echo }
     {
@@ -127,10 +128,10 @@ impl Modem {
         modem
     }
 
-    /// From now on it gives these answers of its own, where it is a modem with words: of those that take a command line the first
-    /// is all that is said to it, and nothing is done. It looks into its tables for the lines that none takes. A line of 512 octets or
-    /// more is refused all the same. Lines of an answer that wait for more command lines are said behind the answer to the last of
-    /// these, on its connection.
+    /// Gives the modem these answers of its own, in place of those it had. Only a modem with words uses them. To a command
+    /// line it says the first of them that takes the line, and does nothing else. It looks into its tables for a line that
+    /// none takes. A line of 512 octets or more is refused all the same. Lines of an answer can wait for more command lines.
+    /// They are said behind the answer to the last of these, on the connection of that one.
     pub fn answer_by(&mut self, own: OwnAnswers)
         ensures { self.new ≡ record self.old { own = own } }
     {
@@ -161,10 +162,10 @@ impl Modem {
         })
     }
 
-    /// Carries out a command line, given without its CR, and answers it in lines, the last a final code. Behind that a
-    /// modem with words announces a change of registration. It gives no lines for a line without `AT`. Where an answer of its own takes
-    /// the line, it says that and does nothing. Behind all this come the lines of earlier answers that waited for this line.
-    /// Refused with 1 NoMemory, which leaves the modem as it was.
+    /// Carries out a command line, given without its CR, and answers it in lines, the last a final code. A modem with words
+    /// announces a change of registration behind the final code. To a line without `AT` it answers nothing. Where an answer of
+    /// its own takes the line, it says that one and does nothing else. Last it says the lines of its earlier answers that
+    /// waited for this line. Refused with 1 NoMemory, which leaves the modem as it was.
     #[tactic(auto, using(crate::proofs::modem_steps::StandardModems::step_standard, crate::proofs::modem_steps::StandardModems::step_with_words))]
     pub fn execute(&mut self, line: &[u8]) -> Result<Vec<AnswerLine>, SimError>
         ensures answer { IfOk result (λ answer. answer.items ≡ (step self.old line.now).answer) }

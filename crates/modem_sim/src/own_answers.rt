@@ -23,7 +23,8 @@ fn begins_as(command: &[u8], line: &[u8]) -> bool
 /// A line of an answer of one's own.
 #[derive(Drop)]
 pub struct OwnLine {
-    /// How many more command lines have to come. It is said behind the answer to the last of them: with 0, it is the answer itself.
+    /// How many more command lines have to come. The line is said behind the answer to the last of them; with 0 it is part of
+    /// the answer itself.
     pub after: u64,
     /// The line.
     pub line: AnswerLine,

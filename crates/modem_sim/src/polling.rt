@@ -48,10 +48,9 @@ impl<L: SerialLine> Sim<L> {
         }
     }
 
-    /// Makes a poll, and gives its end if it has one. Where an earlier poll gave an end, it gives that again and does
-    /// nothing. Else it makes at most 64 turns and gives the end that they lead to, which is kept unless it is 1
-    /// NoMemory. It is for a future of your own that hands the simulated modem on: of a future that is polled only the
-    /// output is known.
+    /// Makes a poll, and gives its end if it has one. After an earlier poll's end it gives that end again and does nothing.
+    /// Else it makes at most 64 turns and gives the end that they lead to. That end is kept, unless it is 1 NoMemory. Call it
+    /// in a future of your own that hands the simulated modem on: a simulated modem polled as a future shows only its output.
     pub fn advance(&mut self) -> Option<Result<SimTurn, SimError>>
         ensures polls { Polls (sight L.received L.sent L.calls L.failures L.empty_reads L.stalled_writes) self.old self.new result }
         ensures goes { SimGoes L.received L.sent self.old self.new }

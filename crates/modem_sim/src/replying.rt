@@ -40,9 +40,9 @@ fn push_answer(answer: &[AnswerLine], out: &mut Vec<u8>) -> Result<(), AllocErro
     Ok(())
 }
 
-/// Carries out a command line, given without its CR, and appends the reply: the line repeated, with `echo` or where a
-/// modem with words was told to, and the answer (V.250, 5.2.3, 5.7.1). Refused with 1 NoMemory. Nothing is said of
-/// modem and octets then: give copies if you want to go on.
+/// Carries out a command line, given without its CR, and appends the reply: the line repeated, where `echo` is set or a modem
+/// with words was told to repeat, and then the answer (V.250, 5.2.3, 5.7.1). Refused with 1 NoMemory. Nothing is said of
+/// `modem` and `out` then: to go on after a refusal, pass copies.
 pub fn reply(modem: &mut Modem, echo: bool, line: &[u8], out: &mut Vec<u8>) -> Result<(), SimError>
     ensures reply { OnOk result
         (out.new.items ≡ out.old.items ++ pieces_octets (reply echo modem.old line.now)) }

@@ -12,11 +12,12 @@ pub struct Script {
     pub steps: Steps,
 }
 
-/// A step of a script. It is due once that many command lines have come, on all connections together. Due steps are
-/// done in their order, each once the connections that it names are open and the station has room.
+/// A step of a script. It is due once `after` command lines have come, on all connections together. Steps are done in their
+/// order, each once it is due, the connections that it names are open and the station has room. CloseDown waits for connection
+/// 0 to be open.
 ///
-/// A step on connection 0 other than Flow and CloseDown is passed over, and so is one with a line that has no octet, more
-/// than 512, or a CR or LF.
+/// Some steps are passed over: an Announce, Hold or Disconnect that names connection 0, and an Announce of a line that has no
+/// octet, more than 512, or a CR or LF.
 #[derive(Drop)]
 pub struct Step {
     /// How many command lines have to have come.

@@ -98,10 +98,10 @@ impl<L: SerialLine> Sim<L> {
         }
     }
 
-    /// Makes one turn: does the steps that are due, offers the line what is to be written, takes the next outgoing
-    /// frame where all is written, takes the frame at hand, and reads. Refusals: 1 NoMemory, which drops nothing: what
-    /// takes memory is left to the next turn; 3 Line, where the line fails; 4 Failed, in every later turn, which does
-    /// nothing.
+    /// Makes one turn, in this order: does the steps that are due; offers the line what is to be written; takes the next
+    /// outgoing frame, where all is written; takes the frame at hand; reads. A turn after Ended gives Ended and does nothing.
+    /// Refusals: 1 NoMemory, which drops nothing and leaves what takes memory to the next turn; 3 Line, where the line fails;
+    /// 4 Failed, in every later turn, which does nothing.
     pub fn turn(&mut self) -> Result<SimTurn, SimError>
         ensures goes { SimGoes L.received L.sent self.old self.new }
         ensures turn { IfOk result (λ says. GoesTurn

@@ -207,9 +207,9 @@ impl<C: Write> Capture<C> {
         )
     }
 
-    /// Begins another stretch at this time, in which a frame may have N1 octets of information: the entry into a multiplexer names
-    /// one of its own. Each way, octets that could still become a frame come to none, and are written as damage. Once a packet can't
-    /// be written or memory is refused, the capture has failed, and nothing more is written.
+    /// Begins another stretch at this time, in which a frame may have N1 octets of information: an entry into a multiplexer
+    /// can name one of its own. Each way, octets that could still become a frame are written as damage. Once a packet can't be
+    /// written or memory is refused, the capture has failed, and nothing more is written.
     pub fn renew(&mut self, stamp: Stamp, n1: u16)
         ensures renews { self.new.failed ≡ false → Renews self.old self.new }
         ensures n1 { self.new.failed ≡ false → self.new.n1 ≡ n1 }

@@ -57,8 +57,8 @@ impl Model for Deframer {
 impl Deframer {
     ghost use Rattle.mux_frame.specs.contracts.deframer.Deframer.{the_row};
 
-    /// A deframer that has taken nothing. N1 is the most octets of information that a frame may have. Refused with 3 BadN1 where it
-    /// isn't 31 to 32767, checked first, and with 2 NoMemory.
+    /// A deframer that has taken nothing. N1, 31 to 32767, is the most octets of information that a frame may have. Refused
+    /// with 3 BadN1 for any other N1, checked first, and with 2 NoMemory.
     pub fn new(alloc: Global, n1: u16) -> Result<Deframer, FrameError>
         ensures ok { IfOk result (λ d. d ≡ record { n1 = n1; undecided = []; next = None }) }
         ensures past { IfOk result (λ d. Deframes [] [] d) }

@@ -50,9 +50,9 @@ impl Model for CutLine {
 }
 
 impl CutLine {
-    /// A line on which nothing has happened yet. Each call uses up one entry of its list, also a call with an empty
-    /// slice; with none left there is no limit. Input beyond `room` octets isn't kept: neither reading nor `take` frees
-    /// room. Refused with `NoMemory` where memory is refused.
+    /// A line on which nothing has happened yet. Each read or write uses up one entry of its list, even with an empty slice.
+    /// Once its list is used up, no entry limits a call. Neither reading nor `take` frees room, and input beyond `room` octets
+    /// isn't kept. Refused with `NoMemory` where memory is refused.
     pub fn new(
         alloc: Global,
         input: &[u8],

@@ -12,9 +12,9 @@ pub struct LineFault;
 
 /// A line of octets, such as a serial device. No call on it waits: 0 octets mean that nothing can be moved now.
 ///
-/// Contracts see all octets that the line gave and took, and counts: of its calls, of those that failed, and of those that moved
-/// nothing though they could. These are reads with room for an octet that gave none, and writes that were offered an octet and took
-/// none. Counts stop at `u64::MAX`; a line that failed so often gives no more faults.
+/// Contracts see all octets that the line gave and took, and four counts: calls; calls that failed; reads with room for an
+/// octet that gave none; writes that were offered an octet and took none. Counts stop at `u64::MAX`. A line that has failed
+/// `u64::MAX` times gives no more faults.
 pub trait SerialLine {
     /// All octets that it gave, in order.
     ghost received: { Self → List ℕ };
@@ -34,12 +34,13 @@ pub trait SerialLine {
     /// The writes so far that were offered at least one octet and took none.
     ghost stalled_writes: { Self → ℕ };
 
-    /// What was done on the line's other side: all octets that were put in to be read, read or not, and those of the taken octets
-    /// that were given on. No call of the line's user changes it. A line that doesn't know its other side shows two empty lists.
+    /// What happened on the line's other side, as two lists: all octets that were put in there to be read here, read or not;
+    /// and the octets taken here that were given on there. No call of the line's user changes them. A line that doesn't know
+    /// its other side shows two empty lists.
     ghost other_side: { Self → OtherSide };
 
-    /// Reads: puts the next octets at the front of the buffer, and says how many. What stands behind them in the buffer is left
-    /// open.
+    /// Reads: puts the next octets at the front of the buffer, and says how many. Nothing is said of the buffer behind them.
+    /// Fails with `LineFault` where the line fails: then it gave nothing.
     fn try_read(&mut self, buffer: &mut [u8]) -> Result<usize, LineFault>
         ensures bound { IfOk result (λ n. n ≤ length buffer.old) }
         ensures came { IfOk result (λ n. received self.new ≡ received self.old ++ take n buffer.new) }
@@ -60,7 +61,8 @@ pub trait SerialLine {
 
         ensures beyond { other_side self.new ≡ other_side self.old };
 
-    /// Writes: takes octets from the front of these, and says how many.
+    /// Writes: takes octets from the front of `octets`, and says how many. Fails with `LineFault` where the line fails: then
+    /// it took none.
     fn try_write(&mut self, octets: &[u8]) -> Result<usize, LineFault>
         ensures bound { IfOk result (λ n. n ≤ length octets.now) }
         ensures went { IfOk result (λ n. sent self.new ≡ sent self.old ++ take n octets.now) }

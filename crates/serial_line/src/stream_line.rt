@@ -1,9 +1,9 @@
 //! A line over a reader and a writer.
 //!
-//! `SerialLine` asks that no call waits; a call on this line waits where its reader or writer waits. Files and slices don't,
-//! nor do a reader and a writer that answer `WouldBlock` instead, such as those of `device_line`. A terminal set to `min 0 time
-//! 1` does: each read that finds nothing waits a tenth of a second, and a command was measured to take 400 ms. Use the line of
-//! `device_line` there.
+//! `SerialLine` asks that no call waits. A call on this line waits where its reader or writer waits. Files and slices never
+//! wait. A reader and a writer that answer `WouldBlock` instead, such as those of `device_line`, don't wait either. A terminal
+//! set to `min 0 time 1` does wait: each read that finds nothing takes a tenth of a second, and a command was measured to take
+//! 400 ms. For a terminal use the line of `device_line`.
 ghost use Rattle.std.specs.Prelude.{◌≡◌, ◌+◌, ◌<◌, ◌≤◌, ◌++◌, ◌⊎◌, [], true, false, take, length, IfOk, Ok, OnErr, MatchResult};
 ghost use Rattle.std.specs.IoError.{error_kind};
 ghost use Rattle.std.specs.Io.KnownBytes.{Keeps, Consumes, Appends, IsAtEnd};

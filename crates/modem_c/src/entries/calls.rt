@@ -117,7 +117,7 @@ pub extern "C" fn cimbaloty_enter_wait(alloc: Global, e: &mut CimbalotyEntry) ->
     wait
 }
 
-/// The time for the part under way is over, and the next part begins. After the last try the entry ends.
+/// Notes that the time for the part under way is over: the next part begins. After the last try the entry ends, with SILENT.
 #[unsafe(no_mangle)]
 pub extern "C" fn cimbaloty_enter_time_over(alloc: Global, e: &mut CimbalotyEntry) -> u8
     ensures goes { result ≡ OK → EntersOn e.old e.new (λ s t. t ≡ next_part s) }
