@@ -6,7 +6,7 @@ ghost use Rattle.at_text.specs.Unsolicited.{unsolicited_of, is_report, is_withou
 use crate::octets::skip_blanks;
 use memchr::memchr;
 
-/// The kinds of line that no command asked for, and Other for a line of no kind that belongs to no answer.
+/// The kinds of line that no command asked for. Other is for a line that is of no kind and belongs to no answer.
 #[derive(Clone, Copy, Debug)]
 pub enum UrcKind {
     /// `RING` (V.250, 6.3).

@@ -16,8 +16,8 @@ pub struct Limits {
 impl Limits {
     /// So many polls, of which 600 in a row may move nothing. Behind a poll that moved nothing the driver waits until it is rung, or
     /// for a tenth of a second. So a bench in which nothing moves any more is given up after a minute. A bench that works never gets
-    /// there: between two polls that move something callers and modem ring a few hundred times at most, since the room for what
-    /// they ring for is used up then.
+    /// there: between two polls that move something callers and modem ring a few hundred times at most. By then the room for what
+    /// they ring for is used up.
     pub fn of_polls(polls: u32) -> Limits
         ensures { result ≡ record { polls = polls; still = 600 } }
     {

@@ -19,8 +19,8 @@ use std::thread::{SpawnError, Threads};
 /// Octets that a ring has room for.
 const ROOM: usize = 65536;
 
-/// A bell by which a thread is told to end, and a thread that writes says that it is through. The thread is told once this is dropped, and
-/// ends as soon as the call in which it waits comes back.
+/// A bell between a drive and a thread. By it a thread that writes says that it is through. Once this is dropped, the thread is told to
+/// end; it does so as soon as the call in which it waits comes back.
 pub struct StopBell {
     own: Bell,
 }

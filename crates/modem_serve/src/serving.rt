@@ -260,10 +260,10 @@ fn captured(served: Result<(), ServeFault>, failed: bool) -> Result<(), ServeFau
 }
 
 /// As `sim_run`, and captures the frames of all that is read and written, each way, in the order in which they pass and with their
-/// times. A line that enters the multiplexer names the N1 of what follows it and its answer. What the client sent is captured once it
-/// is decided what it is, and what is said to it before that is written. At the end what could still become a frame is captured as damage,
-/// so that nothing but flags is missing. It gives the capture back. Where the capture can't be written, the client is served to the
-/// end, and the status is 1.
+/// times. What follows a line that enters the multiplexer, and the answer to it, is read with the N1 of that entry. Octets of the client
+/// are captured once it is known what they are. An answer is captured before it is written. At the end what could still become a frame
+/// is captured as damage, so that nothing but flags is missing. It gives the capture back. Where the capture can't be written, the client
+/// is served to the end, and the status is 1.
 pub fn sim_captured<K: Clock, I: Read, W: Write, E: Write, C: Write>(
     clock: &K,
     alloc: Global,

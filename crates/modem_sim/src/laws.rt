@@ -47,9 +47,9 @@ pub fn settings()
     ensures oper { (start : ModemStart) → IsStart start → KeepsOper start }
 {}
 
-/// Three wrong PINs lock a modem, whatever comes then. The right one before that makes it ready, and nothing else does.
-/// Until it is ready its network, contexts and attachment don't change. It is registered where it is ready and not
-/// deregistered; it may attach there, and is attached nowhere else.
+/// Three wrong PINs lock a modem, whatever comes then. Before that the right PIN makes it ready, and nothing else does. Until
+/// it is ready its network, contexts and attachment don't change. It is registered just where it is ready and not deregistered.
+/// It may attach just there, and is attached nowhere else.
 pub fn pins()
     ensures pin { (start : ModemStart) (pin : List ℕ) → IsStart start → start.pin ≡ Some pin
         → KeepsPin start pin }

@@ -351,9 +351,9 @@ where
     }
 }
 
-/// Runs the subcommand that the words name, the program's own name before them, and gives the exit
-/// status: 0 where it is done, 1 at a fault, 2 at bad words or a bad line, 3 at a complaint of a strict `show`. `lines` reads the same input from the thread that `drive` starts.
-/// `terminal` says whether what `faults` writes to is a terminal: then the reason is said of what goes wrong.
+/// Runs the subcommand that the words name; before them stands the program's own name. Gives the exit status: 0 where it is
+/// done, 1 at a fault, 2 at bad words or a bad line, 3 at a complaint of a strict `show`. `lines` reads the same input from the
+/// thread that `drive` starts. Where `terminal` says that `faults` writes to a terminal, the reason of a fault is said too.
 pub fn run<R, I: Read, J, W: Write, E: Write>(
     rt: &R,
     alloc: Global,

@@ -188,10 +188,10 @@ fn show_untimed<I: Read, J: Read, W: Write>(
 }
 
 /// Shows the octets of both ways where it isn't known when they passed: `to` has those to the modem, `from` those from there. It writes
-/// what `show_run` writes of a capture of the frames that each way's octets are read as, all with the time 0. Each way's frames keep
-/// their order. The driver's next comes before the modem's, unless it answers what isn't asked yet, the driver asked and waits for its
-/// answer, or a command is under way on the frame's connection. Octets that read as no frame are passed over. Both ways' octets and the
-/// whole text are held in memory.
+/// what `show_run` writes of a capture of the frames that these read as, all with the time 0. Each way's frames keep their order. Of two
+/// next frames the driver's comes first, with three exceptions: it answers what isn't asked yet; the driver waits for an answer; a
+/// command is under way on the frame's connection. Octets that read as no frame are passed over. Memory holds both ways' octets and the
+/// whole text.
 ///
 /// The status is 0, or 3 where there is a complaint and the options are strict. It is 1 where a reader or the writer fails, or memory is
 /// refused, and then it says on `faults` why.
