@@ -6,6 +6,7 @@ pub mod texts
 pub mod openings
 pub mod rows
 pub mod answered
+pub mod while_open
 pub mod stops
 pub mod sound
 pub mod talks

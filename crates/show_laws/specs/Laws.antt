@@ -15,7 +15,7 @@ use Rattle.modem_history.specs.Wholes.{taken_requests}
 use Rattle.modem_show.specs.declared.rule.Rule.TheVariants.{Unasked, Unopened, Unstopped, TooLong, Astray}
 use Rattle.modem_show.specs.Judging.{faults_from, is_text, unanswered}
 use Rattle.modem_show.specs.Rows.{sound}
-use Rattle.show_laws.specs.Lines.{IsDone, IsLawfulLine, LineAct, NoneBreaks, ReadsInTime, StopsAsking, captured, driver_past, modem_past}
+use Rattle.show_laws.specs.Lines.{IsDone, IsLawfulLine, LineAct, NoneBreaks, ReadsInTime, ReadsWhileOpen, StopsAsking, captured, driver_past, modem_past}
 
 -- each answer answers something that waits for it, whatever N1 the line is judged by
 unfoldable pub AnswersAsks : Setting → ℕ → List LineAct → Type 0
@@ -67,6 +67,13 @@ unfoldable pub AnswersAll : Setting → ℕ → List LineAct → Type 0
 AnswersAll s n1 line =
     IsLawfulLine s n1 line → IsDone s n1 line → AsksOnce (wire (driver_past line)) → ReadsInTime Initiator (wire (driver_past line))
     → ReadsInTime Responder (modem_past line) → StopsAsking (frames_sent (modem_past line)) → (stamps : ℕ → Stamp)
+    → (unanswered Initiator (captured stamps line) ≡ []) × (unanswered Responder (captured stamps line) ≡ [])
+
+-- so it is, however often a connection is asked for, where each control command came while 0 was open
+unfoldable pub AnswersWhileOpen : Setting → ℕ → List LineAct → Type 0
+AnswersWhileOpen s n1 line =
+    IsLawfulLine s n1 line → IsDone s n1 line → ReadsWhileOpen Initiator (wire (driver_past line)) → ReadsWhileOpen Responder (modem_past line)
+    → (stamps : ℕ → Stamp)
     → (unanswered Initiator (captured stamps line) ≡ []) × (unanswered Responder (captured stamps line) ≡ [])
 
 -- ## Stops

@@ -96,6 +96,12 @@ ReadsInTime r [] = Unit {0}
 ReadsInTime r (station.Got f ∷ past) = (message_asks (message_in f) ≡ true → is_in_time r f past ≡ true) × ReadsInTime r past
 ReadsInTime r (_ ∷ past) = ReadsInTime r past
 
+-- each comes while 0 is open there: neither end has closed down before it
+abbrev pub ReadsWhileOpen : Role → List station.Act → Type 0
+ReadsWhileOpen r [] = Unit {0}
+ReadsWhileOpen r (station.Got f ∷ past) = (message_asks (message_in f) ≡ true → is_open r 0 past ≡ true) × ReadsWhileOpen r past
+ReadsWhileOpen r (_ ∷ past) = ReadsWhileOpen r past
+
 -- a CLD, or the response to one
 abbrev pub closes : Frame → Bool
 closes f = brings_command cld f || brings_response cld f

@@ -8,7 +8,7 @@ ghost use Rattle.show_laws.specs.Talks.{FinishesTalk, TalksInTurn};
 ghost use Rattle.modem_sim.specs.Acts.{End};
 ghost use Rattle.modem_ends.specs.OneModem.{EndAct};
 ghost use Rattle.show_laws.specs.Simulated.{FinishesWithModem, Simulates, SoundToModem, TalksToModem};
-ghost use Rattle.show_laws.specs.Laws.{AllSound, AnswersAll, AnswersAsks, CarriesText, FitsN1, HeedsStops, NeverStopped, SendWhileOpen};
+ghost use Rattle.show_laws.specs.Laws.{AllSound, AnswersAll, AnswersAsks, AnswersWhileOpen, CarriesText, FitsN1, HeedsStops, NeverStopped, SendWhileOpen};
 
 /// No frame between a driver that keeps its laws and a modem that keeps the responder's tables is judged an answer that nothing waits
 /// for.
@@ -61,6 +61,12 @@ pub fn frames()
 #[tactic(auto, using(crate::proofs::answered::NoneWaits::answers_all))]
 pub fn answered()
     ensures { (s : Setting) (n1 : ℕ) (line : List LineAct) → AnswersAll s n1 line }
+{}
+
+/// So it is, however often a connection is asked for, where each control command came while 0 was open at the end to which it came.
+#[tactic(auto, using(crate::proofs::while_open::NoneWaits::answers_while_open))]
+pub fn answered_while_open()
+    ensures { (s : Setting) (n1 : ℕ) (line : List LineAct) → AnswersWhileOpen s n1 line }
 {}
 
 /// So it is where each connection is asked for once, the modem opens none, and does at once what each act calls for, 0 is closed by CLD alone,

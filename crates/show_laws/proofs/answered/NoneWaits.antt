@@ -38,10 +38,10 @@ use Rattle.show_laws.proofs.talks.TalkingLines.{down_is_answer}
 
 -- ## Three kinds of asks, and their answers
 
-abbrev any : Frame → Bool
+abbrev pub any : Frame → Bool
 any f = true
 
-all_asks : IsTriple any is_ask is_answer
+pub all_asks : IsTriple any is_ask is_answer
 all_asks = record {
   asked = λ f e. let u : unit (is_ask f) ≡ 1 = ap unit e in omega (arith, u);
   answer = λ g e. e;
@@ -114,11 +114,11 @@ all_called r (station.Given ∷ past) h got sent = all_called r past h got sent
 
 -- ## At the end
 
-none_left : (asks : List Ask) → many_asks any asks ≤ 0 → asks ≡ []
+pub none_left : (asks : List Ask) → many_asks any asks ≤ 0 → asks ≡ []
 none_left [] h = refl
 none_left (a ∷ asks) h = absurd (omega (arith, h))
 
-abbrev open_asks : List Ask → List Ask
+abbrev pub open_asks : List Ask → List Ask
 open_asks asks = filter (λ a. not a.is_excused) asks
 
 -- one end asks, and the other has answered enough of each kind
