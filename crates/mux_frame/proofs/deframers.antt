@@ -4,3 +4,4 @@ pub mod DeframerPasts
 pub mod SearchedOctets
 pub mod TurnedOctets
 pub mod WrappedOctets
+pub mod FlagRuns

@@ -71,6 +71,11 @@ pub record IsSearched (n1 : ℕ) (octets : List ℕ) (place : ℕ) (check_place 
   pub decided : decision_on n1 (drop place octets) ≢ refused
   pub at_hand : IsAtHand n1 (drop place octets) check_place
 
+-- what stands before this place begins no frame; where a frame is whole there, this is its check place
+abbrev pub IsSought : ℕ → List ℕ → ℕ → Option ℕ → Type 0
+IsSought n1 octets place None = IsPassed n1 octets place
+IsSought n1 octets place (Some check_place) = IsSearched n1 octets place (Some check_place)
+
 -- a deframer keeps the check place of the frame at hand
 pub record IsReady (n1 : ℕ) (undecided : List ℕ) (capacity : ℕ) (check_place : Option ℕ) : Type 0 where
   pub settled : IsSettled n1 undecided capacity

@@ -1,10 +1,12 @@
 //! Takes octets into a deframer, and drops what begins no frame.
-ghost use Rattle.std.specs.Prelude.{◌≡◌, ◌+◌, ◌≤◌, ◌++◌, drop, length, slice_get, IfSome};
+ghost use Rattle.std.specs.Prelude.{◌≡◌, ◌+◌, ◌≤◌, ◌++◌, ◌==◌, ℕ, not, drop, length, position, slice_get, IfSome};
 ghost use Rattle.circular_buffer.specs.Buffer.{buffer};
-ghost use Rattle.mux_frame.specs.Deframing.{decision_on};
-ghost use Rattle.mux_frame.specs.Judged.{IsCandidate, IsPassed, IsSearched, Settles, StandsSo, verdict_seen};
+ghost use Rattle.mux_frame.specs.Deframing.{decision_on, SameReading};
+ghost use Rattle.mux_frame.specs.Judged.{IsCandidate, IsPassed, IsSearched, IsSought, Settles, StandsSo, verdict_seen};
+ghost use Rattle.mux_frame.specs.Judging.{refused};
 ghost use Rattle.mux_frame.specs.Laws.{AreOctets};
-ghost use Rattle.mux_frame.specs.Places.{from_flag};
+ghost use Rattle.mux_frame.specs.Places.{flags_at_front, from_flag};
+ghost use Rattle.mux_frame.specs.Spelling.{flag};
 
 use crate::judge::Verdict;
 use crate::straight::append;
@@ -36,6 +38,44 @@ fn remove_front(octets: &mut HeapCircularBuffer<u8>, count: usize)
 {
     let kept = octets.len() - count;
     octets.truncate_front(kept);
+}
+
+#[inline(always)]
+/// The place of the first octet that isn't a flag.
+fn first_other(octets: &[u8]) -> Option<usize>
+    ensures { result ≡ position (λ x. not (x == flag)) octets.now }
+{
+    octets.iter().position(|octet| *octet != FLAG)
+}
+
+#[inline(always)]
+/// How many flags stand at the front.
+fn flags_in(octets: &[u8]) -> usize
+    ensures value { result ≡ flags_at_front octets.now }
+    ensures within { result ≤ length octets.now }
+{
+    first_other(octets).unwrap_or(octets.len())
+}
+
+#[inline(always)]
+/// How many of the flags at the front stand before another one. No frame begins with these.
+fn flags_passed(octets: &[u8]) -> usize
+    ensures within { result ≤ length octets.now }
+    ensures reads { AreOctets octets.now → (n1 : ℕ) → SameReading n1 octets.now (drop result octets.now) }
+{
+    flags_in(octets).saturating_sub(1)
+}
+
+#[inline(always)]
+/// The place of the first flag in one slice behind which no other stands, or the slice's length where there is none. No frame
+/// begins before it.
+fn begin_in(octets: &[u8]) -> usize
+    ensures within { result ≤ length octets.now }
+    ensures reads { AreOctets octets.now → (n1 : ℕ) → SameReading n1 octets.now (drop result octets.now) }
+{
+    let place = flag_in(octets);
+    let (_, left) = octets.split_at(place);
+    place + flags_passed(left)
 }
 
 #[inline(always)]
@@ -140,7 +180,7 @@ fn searched(octets: &[u8], n1: u16) -> (usize, Option<usize>)
             Verdict::Unfinished => return (start, None),
             Verdict::Refused => {
                 let (_, text) = octets.split_at(start + 1);
-                start += 1 + flag_in(text);
+                start += 1 + begin_in(text);
             }
         }
     }
@@ -222,6 +262,30 @@ fn judged(n1: u16, text: &[u8]) -> Standing
 }
 
 #[inline(always)]
+/// How many octets at the front of one slice begin no frame, as far as its candidates tell. If a whole frame follows them, it
+/// also gives the place of that frame's check octet, counted from its address octet.
+fn sought(octets: &[u8], n1: u16) -> (usize, Option<usize>)
+    requires { AreOctets octets.now }
+    ensures { IsSought n1 octets.now result.0 result.1 }
+{
+    let mut start = 0;
+    loop {
+        let Some((is_second, text)) = candidate(octets, start) else {
+            return (start, None);
+        };
+        start += usize::from(is_second);
+        match judged(n1, text) {
+            Standing::Whole(place) => return (start, Some(place)),
+            Standing::Unfinished => return (start, None),
+            Standing::Refused => {
+                let (_, text) = octets.split_at(start + 1);
+                start += 1 + begin_in(text);
+            }
+        }
+    }
+}
+
+#[inline(always)]
 /// Takes so many octets off the front, and then those that begin no frame. If a whole frame stands
 /// at the front then, it gives the place of that frame's check octet, counted from its address
 /// octet.
@@ -244,7 +308,31 @@ pub(crate) fn settle(octets: &mut HeapCircularBuffer<u8>, passed: usize, n1: u16
             Some(place)
         }
         Standing::Unfinished => settle_searching(octets, start, n1),
-        Standing::Refused => settle_searching(octets, start + 1, n1),
+        Standing::Refused => settle_behind(octets, start, n1),
+    }
+}
+
+#[inline(never)]
+/// The same, where the candidate of the flag there has failed. The candidates behind it are tried without taking anything off.
+fn settle_behind(octets: &mut HeapCircularBuffer<u8>, failed: usize, n1: u16) -> Option<usize>
+    requires octets { AreOctets octets.old.items }
+    requires failed { refused ≡ decision_on n1 (drop failed octets.old.items) }
+    ensures { Settles n1 (buffer (drop failed octets.old.items) octets.old.capacity) octets.new result }
+{
+    let (front, _) = octets.as_slices();
+    if front.len() <= failed {
+        return settle_searching(octets, failed, n1);
+    }
+    let (_, text) = front.split_at(failed + 1);
+    let place = begin_in(text);
+    let (_, left) = text.split_at(place);
+    let begin = failed + 1 + place;
+    match sought(left, n1) {
+        (start, Some(check_place)) => {
+            remove_front(octets, begin + start);
+            Some(check_place)
+        }
+        (start, None) => settle_searching(octets, begin + start, n1),
     }
 }
 

@@ -94,7 +94,7 @@ refused_drop-at n1 x t false e v o = record {
 no_refused : unfinished ≡ refused → ⊥
 no_refused e = cc
 
-refused_drop : (n1 : ℕ) (u : List ℕ) → refused ≡ decision_on n1 u → AreOctets u → SameReading n1 u (drop 1 u)
+pub refused_drop : (n1 : ℕ) (u : List ℕ) → refused ≡ decision_on n1 u → AreOctets u → SameReading n1 u (drop 1 u)
 refused_drop n1 [] v o = absurd (no_refused (sym v))
 refused_drop n1 (x ∷ t) v o = refused_drop-at n1 x t (x == flag) refl (sym v) (λ i. o (suc i))
 
@@ -107,7 +107,7 @@ pub refused_some : (n1 start : ℕ) (s : List ℕ) → refused ≡ decision_on n
 refused_some n1 start s e = let k = refused_long n1 (drop start s) e in let i = length-drop start s in omega (arith, k, i)
 
 -- what stands before the first flag goes
-flag_reads : (n1 : ℕ) (t : List ℕ) → SameReading n1 t (from_flag t)
+pub flag_reads : (n1 : ℕ) (t : List ℕ) → SameReading n1 t (from_flag t)
 flag_reads n1 t = record { reads = λ y gs rest r. same_after n1 (from_flag t ++ y) (t ++ y) gs rest (sym (after_from_flag t y)) r }
 
 pub octets-drop : (n : ℕ) (xs : List ℕ) → AreOctets xs → AreOctets (drop n xs)
@@ -115,7 +115,12 @@ octets-drop zero xs o = o
 octets-drop (suc n) [] o = o
 octets-drop (suc n) (x ∷ xs) o = octets-drop n xs (λ i. o (suc i))
 
-same_reading_none : (n1 : ℕ) (u : List ℕ) → SameReading n1 u u
+pub octets-front : (xs ys : List ℕ) → AreOctets (xs ++ ys) → AreOctets xs
+octets-front [] ys o i = omega arith
+octets-front (x ∷ xs) ys o zero = o zero
+octets-front (x ∷ xs) ys o (suc i) = octets-front xs ys (λ j. o (suc j)) i
+
+pub same_reading_none : (n1 : ℕ) (u : List ℕ) → SameReading n1 u u
 same_reading_none n1 u = record { reads = λ x gs rest r. r }
 
 pub same_reading_then : (n1 : ℕ) (u v w : List ℕ) → SameReading n1 u v → SameReading n1 v w → SameReading n1 u w
@@ -136,6 +141,27 @@ passed_one n1 start s o p e =
       kept = λ k. absurd (k (sym (e ∙ ap (decision_on n1) (p.kept k))));
     }
 
+-- what is read the same without them goes too
+pub passed_on : (n1 start place : ℕ) (s : List ℕ)
+    → AreOctets s
+    → IsPassed n1 s start
+    → refused ≡ decision_on n1 (drop start s)
+    → place ≤ length (drop (start + 1) s)
+    → SameReading n1 (drop (start + 1) s) (drop place (drop (start + 1) s))
+    → IsPassed n1 s (start + (1 + place))
+passed_on n1 start place s o p e l r =
+    let q = passed_one n1 start s o p e in
+    let sum : start + 1 + place ≡ start + (1 + place) = omega arith in
+    let t : drop place (drop (start + 1) s) ≡ drop (start + (1 + place)) s = drop-drop place (start + 1) s ∙ ap (λ i. drop i s) sum in
+    let w = q.within in
+    let j = length-drop (start + 1) s in
+    record {
+      within = omega (arith, w, j, l);
+      reads = subst (SameReading n1 s) t (same_reading_then n1 s (drop (start + 1) s) (drop place (drop (start + 1) s)) q.reads r);
+      kept = λ k. absurd (k (sym (e ∙ ap (decision_on n1) (p.kept k))));
+    }
+
+-- what stands before the next flag goes too
 pub passed_more : (n1 start place : ℕ) (s : List ℕ)
     → AreOctets s
     → IsPassed n1 s start
@@ -144,15 +170,21 @@ pub passed_more : (n1 start place : ℕ) (s : List ℕ)
     → drop place (drop (start + 1) s) ≡ from_flag (drop (start + 1) s)
     → IsPassed n1 s (start + (1 + place))
 passed_more n1 start place s o p e l d =
-    let q = passed_one n1 start s o p e in
-    let sum : start + 1 + place ≡ start + (1 + place) = omega arith in
-    let t : from_flag (drop (start + 1) s) ≡ drop (start + (1 + place)) s = sym d ∙ drop-drop place (start + 1) s ∙ ap (λ i. drop i s) sum in
+    passed_on n1 start place s o p e l (subst (SameReading n1 (drop (start + 1) s)) (sym d) (flag_reads n1 (drop (start + 1) s)))
+
+-- what is passed behind what was passed
+pub passed_then : (n1 a b : ℕ) (s : List ℕ) → IsPassed n1 s a → IsPassed n1 (drop a s) b → IsPassed n1 s (a + b)
+passed_then n1 a b s p q =
+    let v = p.within in
     let w = q.within in
-    let j = length-drop (start + 1) s in
+    let j = length-drop a s in
+    let t : drop b (drop a s) ≡ drop (a + b) s = drop-drop b a s in
     record {
-      within = omega (arith, w, j, l);
-      reads = subst (SameReading n1 s) t (same_reading_then n1 s (drop (start + 1) s) (from_flag (drop (start + 1) s)) q.reads (flag_reads n1 (drop (start + 1) s)));
-      kept = λ k. absurd (k (sym (e ∙ ap (decision_on n1) (p.kept k))));
+      within = omega (arith, v, w, j);
+      reads = subst (SameReading n1 s) t (same_reading_then n1 s (drop a s) (drop b (drop a s)) p.reads q.reads);
+      kept = λ k.
+          let e = p.kept k in
+          sym t ∙ q.kept (subst (λ z. decision_on n1 z ≢ refused) (sym e) k) ∙ e;
     }
 
 -- Candidates.

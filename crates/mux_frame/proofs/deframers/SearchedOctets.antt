@@ -11,7 +11,7 @@ use Rattle.mux_frame.specs.Deframing.{decision_on, SameReading}
 use Rattle.mux_frame.specs.Judged.{IsAtPlace, IsCandidate, IsPassed, IsSearched, IsWholeTo, Settles}
 use Rattle.mux_frame.specs.Laws.{AreOctets}
 use Rattle.mux_frame.proofs.candidates.LaterOctets.{decision_later, verdict_later}
-use Rattle.mux_frame.proofs.deframers.DeframerOctets.{candidate_decision, candidate_passed, fits_stays, octets-drop, passed_one, settles, settles_then, unfinished_stays}
+use Rattle.mux_frame.proofs.deframers.DeframerOctets.{candidate_decision, candidate_passed, fits_stays, octets-drop, octets-front, passed_none, passed_on, passed_then, settles, settles_then, unfinished_stays}
 use Rattle.mux_frame.proofs.deframers.DeframerPasts.{at_place, next_of}
 use Rattle.mux_frame.proofs.deframers.WrappedOctets.{candidate_later}
 
@@ -111,20 +111,89 @@ module _ (n1 passed start : ℕ) (front back text : List ℕ) (b : Bool) (old : 
   pub settles_open : (new : Buffer ℕ) (r : Option ℕ) → Settles n1 (buffer (drop start old.items) old.capacity) new r → Settles n1 (buffer left old.capacity) new r
   settles_open new r t = settles_then n1 (bool_byte b) (buffer left old.capacity) new r flag_passed (subst (λ z. Settles n1 (buffer z old.capacity) new r) (sym behind) t)
 
-  flags_passed : refused ≡ verdict_on n1 text → IsPassed n1 left (bool_byte b + 1)
-  flags_passed v = passed_one n1 (bool_byte b) left left_octets flag_passed (decision_is refused v refused_finished)
+  -- it fails
+  pub fails : refused ≡ verdict_on n1 text → refused ≡ decision_on n1 (drop start old.items)
+  fails v = subst (λ z. refused ≡ decision_on n1 z) behind (decision_is refused v refused_finished)
 
-  behind_one : drop (bool_byte b + 1) left ≡ drop (start + 1) old.items
-  behind_one =
-      let n : passed + (bool_byte b + 1) ≡ start + 1 = omega (arith, s) in
-      drop-drop (bool_byte b + 1) passed old.items ∙ ap (λ i. drop i old.items) n
+-- A candidate behind one flag or two, from a place on before which nothing begins a frame.
+module _ (n1 place start : ℕ) (s text : List ℕ) (b : Bool) (o : AreOctets s) (p : IsPassed n1 s place) (k : IsCandidate (drop place s) b text) (e : start ≡ place + bool_byte b) where
+  -- the flag that closes another frame goes
+  pub second_passed : IsPassed n1 s start
+  second_passed = subst (IsPassed n1 s) (sym e) (passed_then n1 place (bool_byte b) s p (candidate_passed n1 (bool_byte b) (drop place s) text b refl k (octets-drop place s o)))
 
-  -- it fails, and its flag goes too
-  pub settles_refused : (new : Buffer ℕ) (r : Option ℕ) → refused ≡ verdict_on n1 text → Settles n1 (buffer (drop (start + 1) old.items) old.capacity) new r → Settles n1 (buffer left old.capacity) new r
-  settles_refused new r v t = settles_then n1 (bool_byte b + 1) (buffer left old.capacity) new r (flags_passed v) (subst (λ z. Settles n1 (buffer z old.capacity) new r) (sym behind_one) t)
+  -- a verdict on it is the decision
+  pub verdict_decides : (v : Verdict) → v ≡ verdict_on n1 text → v ≡ decision_on n1 (drop start s)
+  verdict_decides v h =
+      let d : drop (bool_byte b) (drop place s) ≡ drop start s = drop-drop (bool_byte b) place s ∙ ap (λ i. drop i s) (sym e) in
+      candidate_decision n1 (bool_byte b) (drop place s) text b v refl k h ∙ ap (decision_on n1) d
 
-  pub flag_within : refused ≡ verdict_on n1 text → start + 1 ≤ length old.items
-  flag_within v =
-      let w = (flags_passed v).within in
-      let d = length-drop passed old.items in
-      omega (arith, w, d, s)
+  -- it is whole
+  pub sought_whole : (check_place : ℕ) → IsWholeTo n1 text check_place → IsSearched n1 s start (Some check_place)
+  sought_whole check_place w = searched_fits n1 start check_place s w.header o second_passed (verdict_decides (fits w.header) w.fits_so) w.place_is
+
+-- What was sought in the first slice, with the octets before it taken off.
+module _ (n1 passed start : ℕ) (front back left : List ℕ) (old : Buffer ℕ) (o : AreOctets old.items) (both : front ++ back ≡ old.items) (l : passed ≤ length front) (k : left ≡ drop passed front) where
+  abbrev all_left : List ℕ
+  all_left = drop passed old.items
+
+  goes_on : left ++ back ≡ all_left
+  goes_on = ap (λ z. z ++ back) k ∙ sym (drop-append-le passed front back l) ∙ ap (drop passed) both
+
+  pub sought_octets : AreOctets left
+  sought_octets = subst AreOctets (sym k) (octets-drop passed front (octets-front front back (subst AreOctets (sym both) o)))
+
+  all_octets : AreOctets all_left
+  all_octets = octets-drop passed old.items o
+
+  off : drop start all_left ≡ drop (passed + start) old.items
+  off = drop-drop start passed old.items
+
+  -- a whole frame was found
+  pub settles_found : (check_place : ℕ) (new : Buffer ℕ) → IsSearched n1 left start (Some check_place) → new ≡ buffer (drop (passed + start) old.items) old.capacity → Settles n1 (buffer all_left old.capacity) new (Some check_place)
+  settles_found check_place new q n =
+      let r : IsSearched n1 all_left start (Some check_place) = subst (λ z. IsSearched n1 z start (Some check_place)) goes_on (searched_later n1 start check_place left back (subst AreOctets (sym goes_on) all_octets) q) in
+      settles n1 start (buffer all_left old.capacity) new (Some check_place) all_octets r.passed (n ∙ ap (λ z. buffer z old.capacity) (sym off)) r.decided r.at_hand
+
+  -- what stands before begins no frame
+  pub settles_on : (new : Buffer ℕ) (r : Option ℕ) → IsPassed n1 left start → Settles n1 (buffer (drop (passed + start) old.items) old.capacity) new r → Settles n1 (buffer all_left old.capacity) new r
+  settles_on new r p t =
+      settles_then n1 start (buffer all_left old.capacity) new r (subst (λ z. IsPassed n1 z start) goes_on (passed_later n1 start left back p)) (subst (λ z. Settles n1 (buffer z old.capacity) new r) (sym off) t)
+
+-- A candidate has failed, and behind its flag so many octets of the first slice begin no frame.
+module _ (n1 failed place start : ℕ) (front back text left : List ℕ) (old : Buffer ℕ) (o : AreOctets old.items) (both : front ++ back ≡ old.items) (l : failed + 1 ≤ length front) (k : text ≡ drop (failed + 1) front) (w : place ≤ length text) (d : left ≡ drop place text) (h : AreOctets text → (m : ℕ) → SameReading m text (drop place text)) (e : refused ≡ decision_on n1 (drop failed old.items)) where
+  text_octets : AreOctets text
+  text_octets = subst AreOctets (sym k) (octets-drop (failed + 1) front (octets-front front back (subst AreOctets (sym both) o)))
+
+  begin_within : failed + 1 + place ≤ length front
+  begin_within =
+      let m = length-drop (failed + 1) front in
+      let t = ap length k in
+      omega (arith, l, w, m, t)
+
+  begin_left : left ≡ drop (failed + 1 + place) front
+  begin_left = d ∙ ap (drop place) k ∙ drop-drop place (failed + 1) front
+
+  pub behind_octets : AreOctets left
+  behind_octets = sought_octets n1 (failed + 1 + place) start front back left old o both begin_within begin_left
+
+  goes_behind : text ++ back ≡ drop 1 (drop failed old.items)
+  goes_behind = ap (λ z. z ++ back) k ∙ sym (drop-append-le (failed + 1) front back l) ∙ ap (drop (failed + 1)) both ∙ sym (drop-drop 1 failed old.items)
+
+  behind_passed : IsPassed n1 (drop failed old.items) (1 + place)
+  behind_passed =
+      let s = length-append text back in
+      let r : SameReading n1 (drop 1 (drop failed old.items)) (drop place (drop 1 (drop failed old.items))) = subst (λ z. SameReading n1 z (drop place z)) goes_behind (reads_later n1 place text back w (h text_octets n1)) in
+      let m : place ≤ length (drop 1 (drop failed old.items)) = subst (λ z. place ≤ length z) goes_behind (omega (arith, w, s)) in
+      let z : 0 + (1 + place) ≡ 1 + place = omega arith in
+      subst (IsPassed n1 (drop failed old.items)) z (passed_on n1 0 place (drop failed old.items) (octets-drop failed old.items o) (passed_none n1 (drop failed old.items)) e m r)
+
+  settles_behind : (new : Buffer ℕ) (r : Option ℕ) → Settles n1 (buffer (drop (failed + 1 + place) old.items) old.capacity) new r → Settles n1 (buffer (drop failed old.items) old.capacity) new r
+  settles_behind new r t =
+      let d : drop (1 + place) (drop failed old.items) ≡ drop (failed + 1 + place) old.items = drop-drop (1 + place) failed old.items ∙ ap (λ i. drop i old.items) (omega arith) in
+      settles_then n1 (1 + place) (buffer (drop failed old.items) old.capacity) new r behind_passed (subst (λ z. Settles n1 (buffer z old.capacity) new r) (sym d) t)
+
+  pub found_behind : (check_place : ℕ) (new : Buffer ℕ) → IsSearched n1 left start (Some check_place) → new ≡ buffer (drop (failed + 1 + place + start) old.items) old.capacity → Settles n1 (buffer (drop failed old.items) old.capacity) new (Some check_place)
+  found_behind check_place new q n = settles_behind new (Some check_place) (settles_found n1 (failed + 1 + place) start front back left old o both begin_within begin_left check_place new q n)
+
+  pub on_behind : (new : Buffer ℕ) (r : Option ℕ) → IsPassed n1 left start → Settles n1 (buffer (drop (failed + 1 + place + start) old.items) old.capacity) new r → Settles n1 (buffer (drop failed old.items) old.capacity) new r
+  on_behind new r p t = settles_behind new r (settles_on n1 (failed + 1 + place) start front back left old o both begin_within begin_left new r p t)

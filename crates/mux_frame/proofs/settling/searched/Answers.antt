@@ -1,8 +1,8 @@
-use Rattle.std.proofs.Common.{◌≡◌, drop, arith}
+use Rattle.std.proofs.Common.{◌≡◌, ◌+◌, drop, arith}
 use Rattle.mux_frame.specs.Deframing.{decision_on}
 use Rattle.mux_frame.specs.Judged.{header_seen}
 use Rattle.mux_frame.specs.Judging.{unfinished, refused, fits}
-use Rattle.mux_frame.proofs.deframers.DeframerOctets.{passed_more, refused_some}
+use Rattle.mux_frame.proofs.deframers.DeframerOctets.{octets-drop, passed_on, refused_some}
 use Rattle.mux_frame.proofs.deframers.SearchedOctets.{searched_fits, searched_unfinished}
 use Rattle.mux_frame.proofs.settling.searched.Goals as goal
 
@@ -25,6 +25,7 @@ loop-header-smaller c =
 pub loop-header-preserved : goal.loop-header-preserved
 loop-header-preserved c =
     let e : refused ≡ decision_on c.args.n1 (drop c.loop-header.start c.args.octets.now) = rw c.split_at.ensures.back at c.in-Refused.ensures in
-    passed_more c.args.n1 c.loop-header.start c.flag_in.result c.args.octets.now c.requires c.loop-header.invariant e
-    (rw c.split_at-in-Refused.ensures.back at c.flag_in.ensures.within)
-    (rw c.split_at-in-Refused.ensures.back at c.flag_in.ensures.rest)
+    let o = octets-drop (c.loop-header.start + 1) c.args.octets.now c.requires in
+    passed_on c.args.n1 c.loop-header.start c.begin_in.result c.args.octets.now c.requires c.loop-header.invariant e
+    (rw c.split_at-in-Refused.ensures.back at c.begin_in.ensures.within)
+    ((rw c.split_at-in-Refused.ensures.back at c.begin_in.ensures.reads) o c.args.n1)

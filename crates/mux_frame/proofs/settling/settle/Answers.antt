@@ -1,12 +1,13 @@
 use Rattle.std.proofs.Common.{◌+◌, ap, arith}
-use Rattle.mux_frame.proofs.deframers.SearchedOctets.{flag_within, settles_fits, settles_open, settles_refused}
+use Rattle.mux_frame.proofs.deframers.SearchedOctets.{fails, settles_fits, settles_open}
 use Rattle.mux_frame.proofs.settling.settle.Goals as goal
 
-pub settle_searching-requires-in-Refused-clause-passed : goal.settle_searching-requires-in-Refused-clause-passed
-settle_searching-requires-in-Refused-clause-passed c =
+pub settle_behind-requires-clause-failed : goal.settle_behind-requires-clause-failed
+settle_behind-requires-clause-failed c =
     let l = c.if-front-passed.false in
-    flag_within c.args.n1 c.args.passed (c.args.passed + c.from.result) c.as_slices.result.0.now c.as_slices.result.1.now c.in-Some.text.now c.in-Some.is_second c.args.octets.now
-    c.requires.octets c.as_slices.ensures (omega (arith, l)) c.in-Some.ensures (ap (λ i. c.args.passed + i) c.from.ensures) c.in-Refused.ensures
+    fails c.args.n1 c.args.passed (c.args.passed + c.from.result) c.as_slices.result.0.now c.as_slices.result.1.now c.in-Some.text.now c.in-Some.is_second c.args.octets.now
+    c.requires.octets c.as_slices.ensures (omega (arith, l)) c.in-Some.ensures (ap (λ i. c.args.passed + i) c.from.ensures)
+    c.in-Refused.ensures
 
 pub returns-in-Whole : goal.returns-in-Whole
 returns-in-Whole c =
@@ -25,6 +26,6 @@ returns-in-Unfinished c =
 pub returns-in-Refused : goal.returns-in-Refused
 returns-in-Refused c =
     let l = c.if-front-passed.false in
-    settles_refused c.args.n1 c.args.passed (c.args.passed + c.from.result) c.as_slices.result.0.now c.as_slices.result.1.now c.in-Some.text.now c.in-Some.is_second c.args.octets.now
+    settles_open c.args.n1 c.args.passed (c.args.passed + c.from.result) c.as_slices.result.0.now c.as_slices.result.1.now c.in-Some.text.now c.in-Some.is_second c.args.octets.now
     c.requires.octets c.as_slices.ensures (omega (arith, l)) c.in-Some.ensures (ap (λ i. c.args.passed + i) c.from.ensures)
-    c.settle_searching-in-Refused.new.octets c.settle_searching-in-Refused.result c.in-Refused.ensures c.settle_searching-in-Refused.ensures
+    c.settle_behind.new.octets c.settle_behind.result c.settle_behind.ensures
