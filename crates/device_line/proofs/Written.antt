@@ -2,11 +2,11 @@
 use Rattle.std.proofs.Common.{◌≡◌, ◌≢◌, ℕ, ◌≤◌, List, [], ◌∷◌, ◌++◌, Option, None, Some, refl, ap, sym, subst, ◌∙◌, append_assoc, append-nil, take, drop, length, ◌-◌, take-append-drop, arith}
 use Rattle.std.proofs.lemmas.List.{take_rest, length-append}
 use Rattle.std.proofs.KnownBytes.{Appends-nil, Appends-trans, Consumes-nil, Consumes-trans}
-use Rattle.std.specs.Io.KnownBytes.{Appends, Consumes}
+use Rattle.std.specs.Io.KnownBytes.{Appends, Consumes, Keeps}
 use Rattle.device_line.specs.Flows.{FlowsIn, FlowsOut}
 
 -- no more than none is none
-none_left : (xs : List ℕ) → length xs ≤ 0 → xs ≡ []
+pub none_left : (xs : List ℕ) → length xs ≤ 0 → xs ≡ []
 none_left [] few = refl
 none_left (x ∷ xs) few = absurd (omega (arith, few))
 
@@ -21,6 +21,12 @@ not_some x y differ same = differ (ap (λ o. or_else o x) same)
 -- the rest of a list is no longer than all of it
 rest_few : (all done rest : List ℕ) → all ≡ done ++ rest → length rest ≤ length all
 rest_few all done rest split = let both = length-append done rest in let same = ap length split in omega (arith, both, same)
+
+-- what stays as it was grows by nothing
+kept_none : (old new : Option (List ℕ)) → Keeps old new → Appends old new []
+kept_none None new kept = tt
+kept_none (Some xs) None kept = kept
+kept_none (Some xs) (Some ys) kept = kept ∙ sym (append-nil xs)
 
 -- of these octets all but the rest are written
 pub record IsPart (octets rest : List ℕ) (old new : Option (List ℕ)) : Type 0 where
@@ -40,6 +46,14 @@ goes_on octets rest n old mid new p more = subst (λ (l : List ℕ). IsPart octe
   split = p.split ∙ ap (λ (l : List ℕ). p.done ++ l) (sym (take-append-drop n rest)) ∙ sym (append_assoc p.done (take n rest) (drop n rest));
   written = Appends-trans old mid new p.done (take n rest) p.written more;
 })
+
+-- a write that failed wrote nothing
+pub kept_part : (octets rest : List ℕ) (old mid new : Option (List ℕ)) → IsPart octets rest old mid → Keeps mid new → IsPart octets rest old new
+kept_part octets rest old mid new p kept = record {
+  done = p.done ++ [];
+  split = p.split ∙ ap (λ (l : List ℕ). l ++ rest) (sym (append-nil p.done));
+  written = Appends-trans old mid new p.done [] p.written (kept_none mid new kept);
+}
 
 -- all but the rest flowed out
 pub some_out : (octets rest : List ℕ) (old new : Option (List ℕ)) → IsPart octets rest old new → FlowsOut (length octets) [] octets old new
@@ -75,6 +89,13 @@ piece_out most few before after piece old new p came bound = record {
 -- nothing has flowed out
 pub none_out : (most : ℕ) (octets : List ℕ) (old : Option (List ℕ)) → FlowsOut most octets octets old old
 none_out most octets old = record { octets = []; lost = []; few = omega arith; taken = sym (append-nil octets); written = Appends-nil old }
+
+-- where no octet came out of the ring, none has flowed out
+pub none_taken : (most : ℕ) (before mid after piece : List ℕ) (old : Option (List ℕ)) → mid ≡ before → after ≡ mid ++ piece → length piece ≤ 0
+    → FlowsOut most before after old old
+none_taken most before mid after piece old looked came few =
+    let same : after ≡ before = came ∙ ap (λ (l : List ℕ). mid ++ l) (none_left piece few) ∙ append-nil mid ∙ looked in
+    subst (λ (l : List ℕ). FlowsOut most before l old old) (sym same) (none_out most before old)
 
 -- first one flows out, and then the other
 pub both_out : (most : ℕ) (a b c : List ℕ) (old mid new : Option (List ℕ)) → FlowsOut 0 a b old mid → FlowsOut most b c mid new
@@ -150,6 +171,12 @@ empty_in most octets old new none = record { octets = []; lost = []; few = omega
 pub none_in : (most : ℕ) (octets : List ℕ) (old : Option (List ℕ)) → FlowsIn most octets octets old old
 none_in most octets old = empty_in most octets old old (Consumes-nil old)
 
+-- a read that failed lets nothing flow
+pub kept_in : (most : ℕ) (octets : List ℕ) (old new : Option (List ℕ)) → Keeps old new → FlowsIn most octets octets old new
+kept_in most octets None new kept = empty_in most octets None new tt
+kept_in most octets (Some xs) None kept = absurd kept
+kept_in most octets (Some xs) (Some ys) kept = empty_in most octets (Some xs) (Some ys) (sym kept)
+
 -- first one flows in, and then the other
 pub both_in : (most : ℕ) (a b c : List ℕ) (old mid new : Option (List ℕ)) → FlowsIn 0 a b old mid → FlowsIn most b c mid new
     → FlowsIn most a c old new
@@ -164,3 +191,7 @@ both_in most a b c old mid new p q =
           (Consumes-trans old mid new p.octets (q.octets ++ q.lost) whole q.given);
       put = q.put ∙ ap (λ (l : List ℕ). l ++ q.octets) p.put ∙ append_assoc a p.octets q.octets;
     }
+
+-- where nothing flows behind it
+pub still_in : (most : ℕ) (a b c : List ℕ) (old new : Option (List ℕ)) → FlowsIn 0 a b old new → c ≡ b → FlowsIn most a c old new
+still_in most a b c old new p same = subst (λ (l : List ℕ). FlowsIn most a l old new) (sym same) (both_in most a b b old new new p (none_in most b new))

@@ -1,5 +1,6 @@
 //! What a session keeps beside its line and its desk's end.
 ghost use Rattle.std.specs.Prelude.{◌≡◌, ◌≢◌, ◌↔◌, ◌+◌, ◌<◌, ◌≤◌, ◌⊎◌, ◌++◌, [], true, false, length, option_to_list, None, IfOk, IsErrOf, OnOk, OnErr};
+ghost use Rattle.line_end.specs.LineEnds.{new_end};
 ghost use Rattle.modem_driver.specs.Cores.{Fits};
 ghost use Rattle.modem_driver.specs.Endings.{KeepsEnd};
 ghost use Rattle.modem_driver.specs.Holding.{HoldsFit};
@@ -25,7 +26,6 @@ mod time;
 pub(crate) mod waiting;
 
 use crate::driver::Core;
-use crate::error::CoreError;
 use crate::lane::Lane;
 use crate::machine::course::Course;
 use crate::machine::delays::Delays;
@@ -35,7 +35,7 @@ use at_text::{Dialect, UrcKind};
 use line_end::LineEnd;
 use modem_desk::{Outcome, Request, Urc};
 use modem_history::Act;
-use mux_frame::Dlci;
+use mux_frame::{Dlci, FrameError};
 use std::alloc::Global;
 use std::marker::Model;
 
@@ -74,6 +74,20 @@ impl Model for Machine {
     ghost invariant = { λ k. k.core.station.n1 ≡ k.line_end.deframer.n1 };
 }
 
+/// An end of a line, and room for outcomes that wait. Refusals: 2 BadN1, checked first; 1 NoMemory.
+fn ends(alloc: Global, n1: u16) -> Result<(LineEnd, Waiting), SessionError>
+    ensures ok { IfOk result (λ e. e.0 ≡ new_end n1) }
+    ensures none { IfOk result (λ e. (e.1.outcomes ≡ []) × (e.1.lines ≡ [])) }
+    ensures bad_n1 { IsErrOf result why.BadN1 ↔ ((n1 < 31) ⊎ (32767 < n1)) }
+{
+    let line_end = match LineEnd::new(alloc, n1) {
+        Ok(line_end) => line_end,
+        Err(FrameError::BadN1) => return Err(SessionError::BadN1),
+        Err(_) => return Err(SessionError::NoMemory),
+    };
+    Ok((line_end, Waiting::new(alloc)?))
+}
+
 impl Machine {
     /// A new machine at a standard modem, which listens to these kinds. It takes all the room that it needs but for
     /// lines that wait. Refusals: 2 BadN1, checked first; 1 NoMemory.
@@ -99,15 +113,10 @@ impl Machine {
         ensures held { IfOk result (λ k. HoldsFit k.core []) }
         ensures bad_n1 { IsErrOf result why.BadN1 ↔ ((n1 < 31) ⊎ (32767 < n1)) }
     {
-        let core = match Core::with_dialect(alloc, n1, dialect, kinds) {
-            Ok(core) => core,
-            Err(CoreError::BadN1) => return Err(SessionError::BadN1),
-            Err(_) => return Err(SessionError::NoMemory),
-        };
-        let Ok(line_end) = LineEnd::new(alloc, n1) else {
+        let (line_end, waiting) = ends(alloc, n1)?;
+        let Ok(core) = Core::with_dialect(alloc, n1, dialect, kinds) else {
             return Err(SessionError::NoMemory);
         };
-        let waiting = Waiting::new(alloc)?;
         Ok(Machine {
             core,
             fork: Lane::new(alloc),

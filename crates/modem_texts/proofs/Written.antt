@@ -1,6 +1,6 @@
 -- Octets that a writer takes piece by piece.
 use Rattle.std.specs.Prelude.{◌≡◌, ℕ, List, [], ◌∷◌, ◌++◌, Option, None, Some, length, take, drop, refl}
-use Rattle.std.proofs.Common.{sym, ap, ◌∙◌}
+use Rattle.std.proofs.Common.{sym, subst, ap, ◌∙◌}
 use Rattle.std.proofs.lemmas.List.{append_assoc, append-nil, take-append-drop}
 use Rattle.std.specs.Io.KnownBytes.{Appends, Keeps}
 use Rattle.modem_texts.specs.Writing.{IsBegun}
@@ -46,6 +46,10 @@ begun_left a b octets left h = record { part = h.part; left = left; split = h.sp
 none_left : (xs : List ℕ) → length xs ≡ 0 → xs ≡ []
 none_left [] e = refl
 none_left (x ∷ xs) e = cc
+
+pub whole_left : (a b : Option (List ℕ)) (octets left : List ℕ) → IsLeft a b octets left → length left ≡ 0 → Appends a b octets
+whole_left a b octets left h none =
+    subst (λ (l : List ℕ). Appends a b l) (sym (h.split ∙ ap (λ (l : List ℕ). h.part ++ l) (none_left left none) ∙ append-nil h.part)) h.appended
 
 -- what was taken whole, and then a beginning of what follows
 pub begun_after : (a b c : Option (List ℕ)) (first second : List ℕ) → Appends a b first → IsBegun b c second → IsBegun a c (first ++ second)
