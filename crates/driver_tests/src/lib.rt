@@ -2,7 +2,7 @@
 //!
 //! # Layout
 //!
-//! - `entries`, `stops`, `waiting`, `ticking`, `reset`: tests, a subject each. `no_memory/`: which calls take none.
+//! - `entries`, `stops`, `waiting`, `ticking`, `reset`, `hostile`: tests, a subject each. `no_memory/`: which calls take none.
 //! - `made`, `callers`: what they begin with.
 #![tactic(auto)]
 
@@ -10,6 +10,8 @@
 mod callers;
 #[cfg(test)]
 mod entries;
+#[cfg(test)]
+mod hostile;
 #[cfg(test)]
 mod made;
 #[cfg(test)]

@@ -2,7 +2,6 @@
 mod bench_limit;
 mod endless;
 mod gate;
-mod hostile;
 
 use at_text::{Text, UrcKind};
 use modem_desk::Urc;
