@@ -50,7 +50,15 @@ enum cimbaloty_data_status {
 	CIMBALOTY_DATA_LINES = 10,          /* lines: no lane is under way, or no octet came behind its CONNECT line */
 	CIMBALOTY_DATA_NO_RELAY = 16,       /* there is no relay */
 	CIMBALOTY_DATA_HAS_RELAY = 17,      /* there is a relay already */
-	CIMBALOTY_DATA_BAD_DLCI = 18        /* a connection is 0 to 61 */
+	CIMBALOTY_DATA_BAD_DLCI = 18,       /* a connection is 0 to 61 */
+	CIMBALOTY_DATA_BAD_BEGIN = 19       /* how a lane begins is 0 to 2 */
+};
+
+/* How a lane begins. */
+enum cimbaloty_data_how {
+	CIMBALOTY_DATA_AT_ONCE = 0,    /* all that comes is data */
+	CIMBALOTY_DATA_BY_CONNECT = 1, /* data comes behind the next CONNECT line (V.250, 6.3.1) */
+	CIMBALOTY_DATA_BY_PROMPT = 2   /* a text leaves behind the next prompt: `>` and a blank that begin a line (27.005, 3.3.1, 3.5.1) */
 };
 
 /* What was read: how many octets, and whether the lane is over and all of its data was read. */
@@ -67,11 +75,16 @@ uint8_t cimbaloty_data_new_at(struct cimbaloty_data *d, uint16_t n1, const uint8
 /* Ends the relay, if there is one. */
 void cimbaloty_data_free(struct cimbaloty_data *d);
 
-/* A lane of a connection begins, of the opening that there is or else of the next. With `by_connect` data comes behind the next
- * CONNECT line (V.250, 6.3.1), and at once without. */
-uint8_t cimbaloty_data_begin(struct cimbaloty_data *d, uint8_t dlci, bool by_connect);
+/* A lane of a connection begins, of the opening that there is or else of the next.
+ *
+ * By a prompt it is for a command that asks for a text, as AT+CMGS. Begin the lane, give the text with the octet that ends it (1A, or
+ * 1B to give up), and have the driver send the command. The text leaves once the prompt has come. The prompt goes nowhere; all else that
+ * comes goes to the driver, and nothing is data. End the lane where the command has its answer: if that came in place of the prompt,
+ * nothing of the text is sent. */
+uint8_t cimbaloty_data_begin(struct cimbaloty_data *d, uint8_t dlci, uint8_t how);
 
-/* The lane of a connection is over, from the next frame on: lines come and go again. What was given and hasn't left isn't sent. */
+/* The lane of a connection is over, from the next frame on: lines come and go again. What was given and hasn't left isn't sent. Of a
+ * lane by a prompt a `>` may be held back, which may be the prompt's: it goes before the next octets, and the lane is over with these. */
 uint8_t cimbaloty_data_lines(struct cimbaloty_data *d, uint8_t dlci);
 
 /* The line was lost: each lane is over. */

@@ -127,7 +127,7 @@ static void converse(struct run *r)
 		data[at] = (uint8_t)(at * 7 + at / 251);
 	REQUEST(cimbaloty_data_new_at(&r->d, N1, named, 1));
 	REQUEST(cimbaloty_new(&r->c, N1, CIMBALOTY_ALL_KINDS, 1));
-	CHECK(cimbaloty_data_begin(&r->d, 2, false) == CIMBALOTY_DATA_OK);
+	CHECK(cimbaloty_data_begin(&r->d, 2, CIMBALOTY_DATA_AT_ONCE) == CIMBALOTY_DATA_OK);
 	for (uint8_t dlci = 0; dlci < 3; dlci++) {
 		REQUEST(cimbaloty_open(&r->c, dlci, &number));
 		pass(r);

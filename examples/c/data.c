@@ -84,7 +84,7 @@ int main(int argc, char **argv)
 	unsigned left = PAUSES;
 	bool holds = true;
 
-	if (fd[LINE] < 0 || fd[DRIVER] < 0 || cimbaloty_data_new_at(&d, 512, &dlci, 1) != CIMBALOTY_DATA_OK || cimbaloty_data_begin(&d, dlci, true) != CIMBALOTY_DATA_OK) {
+	if (fd[LINE] < 0 || fd[DRIVER] < 0 || cimbaloty_data_new_at(&d, 512, &dlci, 1) != CIMBALOTY_DATA_OK || cimbaloty_data_begin(&d, dlci, CIMBALOTY_DATA_BY_CONNECT) != CIMBALOTY_DATA_OK) {
 		fprintf(stderr, "usage: data LINE DRIVER DLCI\n");
 		return 2;
 	}

@@ -176,7 +176,7 @@ unfolding OfEachPast IsNotData
 gave_some r s n1 ds b v past d before after fits room among some (inl none) = absurd (among (none n1 ds (passes past) fits.relay_fits.pipes_fit))
 gave_some r s n1 ds b v past d before after fits room among some (inr on) =
     let rest : after ≡ drop (min (length before) (most_to_go - to_go d (passes past))) before =
-    on n1 ds (passes past) fits.relay_fits.pipes_fit room.carries_data room.open_there in
+    on n1 ds (passes past) fits.relay_fits.pipes_fit room.takes room.open_there in
     let long : length after ≡ length before - min (length before) (most_to_go - to_go d (passes past)) =
     ap length rest ∙ length-drop (min (length before) (most_to_go - to_go d (passes past))) before in
     let there = some_length before some in

@@ -77,7 +77,7 @@ driver_passes a e = goes_passes true a e
 abbrev pub is_beside : ℕ → Hop → Bool
 is_beside d (Passed (Gave e octets)) = if e == d then false else true
 is_beside d (Passed (Read e octets)) = if e == d then false else true
-is_beside d (Passed (Began e by_connect)) = false
+is_beside d (Passed (Began e how)) = false
 is_beside d a = true
 
 pub passes_beside : (d : ℕ) (a : Hop) → may_pass false a ≡ true → is_beside d a ≡ true

@@ -6,6 +6,7 @@ use Rattle.std.proofs.lemmas.List.{get_or-set_same, get_or-set_other, get_or_def
 use Rattle.std.proofs.lemmas.List.Elements.{All-get_or}
 use Rattle.mux_station.specs.declared.role.Role.TheVariants.{Initiator}
 use Rattle.mux_station.specs.Opening.{is_open}
+use Rattle.modem_data.specs.Switching.{takes_given}
 use Rattle.modem_data.specs.Passing.{Pass}
 use Rattle.modem_data.specs.PipeSets.{NoneOf}
 use Rattle.modem_data.specs.Hops.{Hop, passes}
@@ -41,7 +42,7 @@ turn_back r s g t e k n1 ds p u v f h reach turn = record {
       let x = reach past fits in
       turn.given some x.behind x.fits
       (record {
-        carries_data = x.beside.carries_is ∙ room.carries_data;
+        takes = ap takes_given x.beside.carries_is ∙ room.takes;
         open_there = ap (λ w. is_open Initiator f.dlci w) x.beside.wire_is ∙ room.open_there;
         room = let same = x.beside.to_go_is in let few = room.room in omega (arith, same, few);
       });

@@ -7,7 +7,7 @@ use Rattle.mux_station.specs.Opening.{is_open}
 use Rattle.modem_data.specs.declared.error.DataError.{DataError}
 use Rattle.modem_data.specs.declared.error.DataError.TheVariants as error
 use Rattle.modem_data.specs.DataLanes.{most_to_go}
-use Rattle.modem_data.specs.Switching.{Data}
+use Rattle.modem_data.specs.Switching.{takes_given}
 use Rattle.modem_data.specs.Passing.{Gave, Read, carries, given, left, to_go, unread, wire}
 use Rattle.modem_data.specs.PipeSets.{IsNotData, OfEachPast, PipeSet}
 use Rattle.modem_data.specs.Hops.{Hops, Passed, Relay}
@@ -63,8 +63,8 @@ gives_ok pipes d n k before after h least rest = inr (λ n1 ds past fits carried
 pub gives_err : (pipes : PipeSet) (d : ℕ) (before : List ℕ) (r : Result ℕ DataError)
     → (r ≡ Err error.NotData) ⊎ ((r ≡ Err error.NotOpen) ⊎ (r ≡ Err error.Lines)) → (r ≡ Err error.NotData → IsNotData pipes d)
     → (r ≡ Err error.NotOpen → OfEachPast pipes (λ past. is_open Initiator d (wire past) ≡ false))
-    → (r ≡ Err error.Lines → OfEachPast pipes (λ past. ¬ (carries d past ≡ Data))) → GivesOn pipes d before before
+    → (r ≡ Err error.Lines → OfEachPast pipes (λ past. takes_given (carries d past) ≡ false)) → GivesOn pipes d before before
 unfolding OfEachPast
 gives_err pipes d before r (inl x) none shut lines = inl (none x)
 gives_err pipes d before r (inr (inl x)) none shut lines = inr (λ n1 ds past fits carried may. absurd (true≢false (sym may ∙ shut x n1 ds past fits)))
-gives_err pipes d before r (inr (inr x)) none shut lines = inr (λ n1 ds past fits carried may. absurd (lines x n1 ds past fits carried))
+gives_err pipes d before r (inr (inr x)) none shut lines = inr (λ n1 ds past fits carried may. absurd (true≢false (sym carried ∙ lines x n1 ds past fits)))

@@ -1,5 +1,6 @@
 -- A line some of whose connections carry the data of files, as contracts see it. A past is written newest first.
 use Rattle.std.specs.Prelude.{◌≡◌, ℕ, Bool, false, List, [], ◌∷◌, ◌++◌, All, map}
+use Rattle.modem_data.specs.declared.begin.Begin.{Begin}
 use Rattle.modem_data.specs.Passing.{Pass, Began, data_read, given}
 use Rattle.modem_data.specs.Hops.{Hop, Passed, Relay, passes}
 use Rattle.modem_data_line.specs.DataLines.{Before, DataLineState, LineFits, new_data_line}
@@ -8,7 +9,7 @@ use Rattle.modem_data_line.specs.LineLaws.{before_of}
 -- a file beside a connection, which is a line of its own
 pub record FileState (Y : Type 0) : Type 0 where
   pub dlci : ℕ
-  pub by_connect : Bool  -- its data begins behind a CONNECT line, not at once
+  pub how : Begin  -- how its lane begins
   pub file : Y
   pub ungiven : List ℕ  -- what the file gave, and the connection hasn't taken yet
   pub unwritten : List ℕ  -- what was read of the connection, and the file hasn't taken yet
@@ -17,10 +18,10 @@ pub record FileState (Y : Type 0) : Type 0 where
   pub is_over : Bool  -- the lane is over, and all of its data was read
 
 -- nothing has passed
-abbrev pub new_file : {Y : Type 0} → ℕ → (by_connect : Bool) → Y → FileState Y
-new_file dlci by_connect file = record {
+abbrev pub new_file : {Y : Type 0} → ℕ → (how : Begin) → Y → FileState Y
+new_file dlci how file = record {
   dlci = dlci;
-  by_connect = by_connect;
+  how = how;
   file = file;
   ungiven = [];
   unwritten = [];
@@ -61,7 +62,7 @@ pub record IsFresh {Y : Type 0} (received sent : Y → List ℕ) (f : FileState 
 -- behind a past the lane of each file begins, in their order
 abbrev pub begun : {Y : Type 0} → List (FileState Y) → List Hop → List Hop
 begun [] past = past
-begun (f ∷ files) past = begun files (Passed (Began f.dlci f.by_connect) ∷ past)
+begun (f ∷ files) past = begun files (Passed (Began f.dlci f.how) ∷ past)
 
 -- This line has these files, and on it nothing has passed but that each file's lane began.
 pub record BeginsFiled {X Y : Type 0} (received sent : X → List ℕ) (line : X) (relay : Relay) (n1 : ℕ) (files : List (FileState Y))

@@ -5,7 +5,7 @@ use Rattle.mux_station.specs.declared.role.Role.TheVariants.{Initiator}
 use Rattle.mux_station.specs.Opening.{is_open}
 use Rattle.serial_line.specs.Counts.{one_more}
 use Rattle.modem_data.specs.DataLanes.{most_to_go}
-use Rattle.modem_data.specs.Switching.{Data}
+use Rattle.modem_data.specs.Switching.{takes_given}
 use Rattle.modem_data.specs.Passing.{Pass, Gave, Read, carries, to_go, unread, wire}
 use Rattle.modem_data.specs.PipeSets.{IsNotData, OfEachPast, PipeSet}
 use Rattle.modem_data.specs.Hops.{Hop, Hops, Passed, Relay, passes}
@@ -34,9 +34,9 @@ pub record GaveFirst (old new : Relay) (d : ℕ) (before after : List ℕ) : Typ
   pub split : before ≡ octets ++ after
   pub gave : Hops old new (Passed (Gave d octets))
 
--- Of the octets that wait to be given, the connection took as many as may wait to leave, where it is open and carries data.
+-- Of the octets that wait to be given, the connection took as many as may wait to leave, where it is open and takes them.
 abbrev pub GivesOn : PipeSet → ℕ → (before after : List ℕ) → Type 0
-GivesOn pipes d before after = IsNotData pipes d ⊎ OfEachPast pipes (λ past. carries d past ≡ Data → is_open Initiator d (wire past) ≡ true
+GivesOn pipes d before after = IsNotData pipes d ⊎ OfEachPast pipes (λ past. takes_given (carries d past) ≡ true → is_open Initiator d (wire past) ≡ true
     → after ≡ drop (min (length before) (most_to_go - to_go d past)) before)
 
 -- so many are all octets of data that wait to be read, up to 512
@@ -87,9 +87,9 @@ pub record FileGrows {Y : Type 0} (received sent : Y → List ℕ) (empty_reads 
   pub ended : f.has_ended ≡ true → g.has_ended ≡ true
   pub broken : f.is_broken ≡ true → g.is_broken ≡ true
 
--- d is open, carries data, and has room for some
+-- d is open, takes octets, and has room for some
 pub record HasRoom (d : ℕ) (past : List Pass) : Type 0 where
-  pub carries_data : carries d past ≡ Data
+  pub takes : takes_given (carries d past) ≡ true
   pub open_there : is_open Initiator d (wire past) ≡ true
   pub room : to_go d past < most_to_go
 

@@ -7,7 +7,7 @@ ghost use Rattle.data_files.specs.Files.{FileFits, new_file};
 ghost use Rattle.data_files.specs.Moves.{FileGrows, FileMoves, GaveFirst, GivesOn, HadTurn, IsAskedFile, IsOfferedFile, KeepsUnread, ReadsOn};
 
 use crate::unwritten::Unwritten;
-use modem_data::DataError;
+use modem_data::{Begin, DataError};
 use modem_data_line::DataLine;
 use mux_frame::Dlci;
 use serial_line::{ReadBuffer, SerialLine};
@@ -18,7 +18,7 @@ use std::marker::Model;
 #[derive(Drop)]
 pub struct DataFile<P: SerialLine> {
     dlci: Dlci,
-    by_connect: bool,
+    how: Begin,
     file: P,
     ungiven: ReadBuffer,
     unwritten: Unwritten,
@@ -34,7 +34,7 @@ impl<P: SerialLine> Model for DataFile<P> {
 
     ghost view = { λ f. record {
       dlci = f.dlci.number;
-      by_connect = f.by_connect;
+      how = f.how;
       file = f.file;
       ungiven = f.ungiven;
       unwritten = f.unwritten;
@@ -66,19 +66,14 @@ fn give<L: SerialLine>(
 }
 
 impl<P: SerialLine + Drop> DataFile<P> {
-    /// This file beside this connection, whose data begins behind a CONNECT line or at once. Refusal: no memory.
-    pub fn new(
-        alloc: Global,
-        dlci: Dlci,
-        by_connect: bool,
-        file: P,
-    ) -> Result<DataFile<P>, AllocError>
-        ensures { IfOk result (λ f. f ≡ new_file dlci.number by_connect file) }
+    /// This file beside this connection, whose lane begins so. Refusal: no memory.
+    pub fn new(alloc: Global, dlci: Dlci, how: Begin, file: P) -> Result<DataFile<P>, AllocError>
+        ensures { IfOk result (λ f. f ≡ new_file dlci.number how file) }
     {
         let ungiven = ReadBuffer::new(alloc)?;
         Ok(DataFile {
             dlci,
-            by_connect,
+            how,
             file,
             ungiven,
             unwritten: Unwritten::new(),
@@ -105,11 +100,11 @@ impl<P: SerialLine> DataFile<P> {
         file
     }
 
-    /// Whether its data begins behind a CONNECT line.
-    pub fn is_by_connect(&self) -> bool
-        ensures { result ≡ self.now.by_connect }
+    /// How its lane begins.
+    pub fn how(&self) -> Begin
+        ensures { result ≡ self.now.how }
     {
-        self.by_connect
+        self.how
     }
 
     /// Whether the file gives no more: a read of it failed.

@@ -5,3 +5,5 @@
 mod files;
 #[cfg(test)]
 mod lines;
+#[cfg(test)]
+mod texts;

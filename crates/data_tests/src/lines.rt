@@ -1,5 +1,5 @@
 //! Data on connection 2 of a line, beside a driver's frames.
-use modem_data::Relay;
+use modem_data::{Begin, Relay};
 use modem_data_line::DataLine;
 use mux_frame::Dlci;
 use serial_line::{CutLine, SerialLine};
@@ -8,7 +8,7 @@ use std::process::Abort;
 use std::test::*;
 
 /// The driver opens connection 2, and asks on connection 1.
-const SABM_2: &[u8] = b"\xF9\x0B\x3F\x01\x59\xF9";
+pub(crate) const SABM_2: &[u8] = b"\xF9\x0B\x3F\x01\x59\xF9";
 
 const COMMAND_1: &[u8] = b"\xF9\x07\xEF\x07AT\r\xD3\xF9";
 
@@ -23,14 +23,14 @@ const SENT: &[u8] =
     b"\xF9\x0B\x3F\x01\x59\xF9\xF9\x07\xEF\x07AT\r\xD3\xF9\xF9\x0B\xEF\x05ok\xB7\xF9";
 
 /// What there is memory for.
-fn made<A: Drop, E: Drop>(rt: &impl Abort, made: Result<A, E>) -> A {
+pub(crate) fn made<A: Drop, E: Drop>(rt: &impl Abort, made: Result<A, E>) -> A {
     match made {
         Ok(value) => value,
         Err(_) => panic!(rt; "no memory"),
     }
 }
 
-fn dlci(rt: &impl Abort, number: u8) -> Dlci {
+pub(crate) fn dlci(rt: &impl Abort, number: u8) -> Dlci {
     match Dlci::new(number) {
         Some(dlci) => dlci,
         None => panic!(rt; "no such DLCI"),
@@ -42,12 +42,12 @@ fn line(rt: &impl Abort, alloc: Global, data: Dlci) -> DataLine<CutLine> {
     let line = made(rt, CutLine::new(alloc, CAME, &[], &[], 4096));
     let relay = made(rt, Relay::new(alloc, 31, &[data]));
     let mut line = made(rt, DataLine::new(alloc, line, relay));
-    assert!(rt; line.begin(data, false).is_ok());
+    assert!(rt; line.begin(data, Begin::AtOnce).is_ok());
     line
 }
 
 /// What the driver reads in one call.
-fn expect_read(rt: &impl Abort, line: &mut DataLine<CutLine>, octets: &[u8]) {
+pub(crate) fn expect_read(rt: &impl Abort, line: &mut DataLine<CutLine>, octets: &[u8]) {
     let mut room = [0; 64];
     let Ok(count) = line.try_read(&mut room) else {
         panic!(rt; "the line failed");

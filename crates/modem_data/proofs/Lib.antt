@@ -9,5 +9,8 @@ mod Relays
 mod Handed
 mod WithoutData
 mod SwitchRowFacts
+mod PromptRowFacts
+mod Prompting
+mod WholeLanes
 mod RelayRowFacts
 pub mod FrameRoom

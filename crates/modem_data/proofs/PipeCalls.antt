@@ -3,11 +3,12 @@ use Rattle.std.specs.Prelude.{◌≡◌, ℕ, ◌+◌, ◌-◌, ◌≤◌, ◌==
 use Rattle.std.proofs.Common.{ap, sym, ◌∙◌, subst, arith}
 use Rattle.std.proofs.lemmas.Bool.{eqb-true, eq-eqb}
 use Rattle.std.proofs.lemmas.List.{append_assoc, append-nil, nil_from_length, take-append-drop, length-append, length-take}
-use Rattle.modem_data.specs.Switching.{Carries, Idle, Lines, Ended, Data, is_idle, is_data_mode, is_behind_lines}
-use Rattle.modem_data.specs.DataLanes.{DataLane, begun_lane, ended_lane, most_to_go}
+use Rattle.modem_data.specs.declared.begin.Begin.{Begin}
+use Rattle.modem_data.specs.Switching.{ended_by_call, is_idle, lets_leave, takes_given, is_behind_lines}
+use Rattle.modem_data.specs.DataLanes.{DataLane, begun_lane, left_lane, most_to_go}
 use Rattle.modem_data.specs.Watching.{SaysMayLeave, may_leave}
 use Rattle.modem_data.specs.Passing.{Pass, Began, EndedLane, Gave, Read, wire, begin_of, carries, data_came, data_read, given, left, holds, driver_holds, flow_by, unread, IsOver, AllowsPass, LawfulPasses}
-use Rattle.modem_data.specs.Pipes.{Pipe, PipeFits, Leads, LeadsLeft, HasNoneToSend, MayLeave, next_data, SaysOver, SaysLane, SaysBehind, HasUnread, IsShut, HasNoData, SaysFlow}
+use Rattle.modem_data.specs.Pipes.{Pipe, PipeFits, Leads, LeadsLeft, HasNoneToSend, MayLeave, next_data, SaysOver, SaysLane, SaysBehind, HasUnread, IsShut, TakesNone, SaysFlow}
 use Rattle.modem_data.proofs.Watching.{watched_sent_info}
 use Rattle.modem_data.proofs.Pipes.{open_there, idle_is}
 
@@ -22,9 +23,9 @@ is_none o e = nil_from_length o (eqb-true (length o) 0 e)
 all_read : (n1 d : ℕ) (v : Pipe) (past : List Pass) → v.lane.came ≡ [] → PipeFits n1 d v past → data_read d past ≡ data_came d past
 all_read n1 d v past none h = sym (append-nil (data_read d past)) ∙ (ap (λ x. data_read d past ++ x) (sym none) ∙ h.came_is)
 
-pub leads_began : (v : Pipe) (l : DataLane) (by_connect : Bool) → is_idle v.lane.carries ≡ true → (length v.lane.came == 0) ≡ true → l ≡ begun_lane v.lane (begin_of by_connect) → Leads v (record v { lane = l }) (Began v.watch.dlci by_connect)
+pub leads_began : (v : Pipe) (l : DataLane) (how : Begin) → is_idle v.lane.carries ≡ true → (length v.lane.came == 0) ≡ true → l ≡ begun_lane v.lane (begin_of how) → Leads v (record v { lane = l }) (Began v.watch.dlci how)
 unfolding Leads LawfulPasses
-leads_began v l by_connect idle none e n1 d past h =
+leads_began v l how idle none e n1 d past h =
     let here = same n1 d v past h in
     let empty = is_none v.lane.came none in
     rw e (record {
@@ -39,7 +40,7 @@ leads_began v l by_connect idle none e n1 d past h =
       by_driver_is = h.by_driver_is;
     })
 
-pub leads_ended : (v w : Pipe) → w ≡ record v { lane = ended_lane v.lane } → Leads v w (EndedLane v.watch.dlci)
+pub leads_ended : (v w : Pipe) → w ≡ record v { lane = left_lane v.lane } → Leads v w (EndedLane v.watch.dlci)
 unfolding Leads LawfulPasses
 leads_ended v w e n1 d past h =
     let here = same n1 d v past h in
@@ -48,7 +49,7 @@ leads_ended v w e n1 d past h =
       not_control = h.not_control;
       lawful = (tt, h.lawful);
       watched = h.watched;
-      carries_is = rw here refl;
+      carries_is = rw here (ap ended_by_call h.carries_is);
       came_is = h.came_is;
       to_go_is = h.to_go_is;
       held_is = h.held_is;
@@ -110,12 +111,6 @@ says_over v b e n1 d past h = (
   λ over. e ∙ (ap (λ c. is_idle c && (length v.lane.came == 0)) (h.carries_is ∙ over.idle) ∙ none_later (data_read d past) v.lane.came (over.all_read ∙ sym h.came_is)),
 )
 
-data_mode : (c : Carries) → is_data_mode c ≡ true → c ≡ Data
-data_mode Idle e = cc
-data_mode (Lines kept) e = cc
-data_mode (Ended by) e = cc
-data_mode Data e = refl
-
 few_wait : (xs ys zs os : List ℕ) (n : ℕ) → xs ++ ys ≡ zs → length ys + n ≤ most_to_go → length zs + length (take n os) ≤ length xs + most_to_go
 few_wait xs ys zs os n e few =
     let m = ap (λ (s : List ℕ). length s) e in
@@ -123,7 +118,7 @@ few_wait xs ys zs os n e few =
     let t = length-take n os in
     omega (arith, m, l, few, t)
 
-pub leads_gave : (v : Pipe) (l : DataLane) (octets : List ℕ) (n : ℕ) → v.watch.own.is_open ≡ true → is_data_mode v.lane.carries ≡ true → length v.lane.to_go + n ≤ most_to_go → l ≡ record v.lane { to_go = v.lane.to_go ++ take n octets } → Leads v (record v { lane = l }) (Gave v.watch.dlci (take n octets))
+pub leads_gave : (v : Pipe) (l : DataLane) (octets : List ℕ) (n : ℕ) → v.watch.own.is_open ≡ true → takes_given v.lane.carries ≡ true → length v.lane.to_go + n ≤ most_to_go → l ≡ record v.lane { to_go = v.lane.to_go ++ take n octets } → Leads v (record v { lane = l }) (Gave v.watch.dlci (take n octets))
 unfolding Leads LawfulPasses
 leads_gave v l octets n up c few e n1 d past h =
     let here = same n1 d v past h in
@@ -133,7 +128,7 @@ leads_gave v l octets n up c few e n1 d past h =
       lawful = (
         subst (λ e. AllowsPass n1 past (Gave e (take n octets))) (sym h.dlci_is) (record {
           open_there = sym (open_there n1 d v past h) ∙ up;
-          carries_data = sym h.carries_is ∙ data_mode v.lane.carries c;
+          takes = ap takes_given (sym h.carries_is) ∙ c;
           few = few_wait (left d past) v.lane.to_go (given d past) octets n h.to_go_is few;
         }),
         h.lawful,
@@ -150,11 +145,9 @@ pub is_shut : (v : Pipe) → v.watch.own.is_open ≡ false → IsShut v
 unfolding IsShut
 is_shut v shut n1 d past h = sym (open_there n1 d v past h) ∙ shut
 
-pub has_no_data : (v : Pipe) → is_data_mode v.lane.carries ≡ false → HasNoData v
-unfolding HasNoData
-has_no_data v none n1 d past h c =
-    let x : true ≡ false = sym (ap is_data_mode (h.carries_is ∙ c)) ∙ none in
-    cc
+pub takes_none : (v : Pipe) → takes_given v.lane.carries ≡ false → TakesNone v
+unfolding TakesNone
+takes_none v none n1 d past h = ap takes_given (sym h.carries_is) ∙ none
 
 -- ## The flow
 
@@ -202,7 +195,7 @@ leads_left n1 v w n may some fits e dropped d past h =
       not_control = h.not_control;
       lawful = (
         record {
-          carries_data = ap (λ e. carries e past) h.dlci_is ∙ (sym h.carries_is ∙ data_mode v.lane.carries may.carries_data);
+          lets = ap (λ e. lets_leave (carries e past)) h.dlci_is ∙ (ap lets_leave (sym h.carries_is) ∙ may.lets);
           may = sym (may.may (wire past) h.watched);
           as_written = refl;
           some = some;
@@ -220,13 +213,13 @@ leads_left n1 v w n may some fits e dropped d past h =
       by_driver_is = h.by_driver_is;
     })
 
-pub may_go : (v : Pipe) → is_data_mode v.lane.carries ≡ true → SaysMayLeave v.watch true → (length v.lane.to_go == 0) ≡ false → MayLeave v
-may_go v c may some = record { carries_data = c; may = may; some = some }
+pub may_go : (v : Pipe) → lets_leave v.lane.carries ≡ true → SaysMayLeave v.watch true → (length v.lane.to_go == 0) ≡ false → MayLeave v
+may_go v c may some = record { lets = c; may = may; some = some }
 
-pub none_by_lines : (v : Pipe) → is_data_mode v.lane.carries ≡ false → HasNoneToSend v
+pub none_by_lines : (v : Pipe) → lets_leave v.lane.carries ≡ false → HasNoneToSend v
 unfolding HasNoneToSend
 none_by_lines v none n1 d past h c may =
-    let x : true ≡ false = sym (ap is_data_mode (h.carries_is ∙ c)) ∙ none in
+    let x : true ≡ false = sym c ∙ (ap lets_leave (sym h.carries_is) ∙ none) in
     cc
 
 pub none_by_watch : (v : Pipe) → SaysMayLeave v.watch false → HasNoneToSend v

@@ -8,11 +8,12 @@ use Rattle.mux_frame.specs.Frames.{Frame}
 use Rattle.mux_station.specs.Acts as station
 use Rattle.mux_station.specs.declared.role.Role.TheVariants.{Initiator}
 use Rattle.mux_station.specs.Opening.{is_open}
-use Rattle.modem_data.specs.Switching.{Carries, Idle, Data, is_behind_lines, is_idle}
+use Rattle.modem_data.specs.declared.begin.Begin.{Begin}
+use Rattle.modem_data.specs.Switching.{Carries, Idle, ended_by_call, is_behind_lines, is_idle, lets_leave, takes_given}
 use Rattle.modem_data.specs.DataLanes.{most_to_go}
 use Rattle.modem_data.specs.Watching.{Watch}
 use Rattle.modem_data.specs.Passing.{Pass, wire, Came, Flowed, Left, Began, EndedLane, Gave, Read, AllowsPass, ends_here, carries, data_came, data_read, given, left, to_go, unread, LawfulPasses, IsOver, IsDue, flow_frame}
-use Rattle.modem_data.specs.Pipes.{Pipe, PipeFits, Leads, LeadsLeft, HasNoneToSend, MayLeave, IsShut, HasNoData, HasUnread, SaysBehind, SaysFlow, SaysLane, SaysOver, flowed_pipe}
+use Rattle.modem_data.specs.Pipes.{Pipe, PipeFits, Leads, LeadsLeft, HasNoneToSend, MayLeave, IsShut, TakesNone, HasUnread, SaysBehind, SaysFlow, SaysLane, SaysOver, flowed_pipe}
 use Rattle.modem_data.specs.PipeSets.{PipeSet, PipesFit, AllLead, OfEachPast, HasPipe, IsNotData, NoneOf, NoneLeaves, AreApart, IsNext, IsFlowOf, LeavesInTurn, NonesIn, comes_before, connections, place_behind}
 use Rattle.modem_data.proofs.Watching.{watched_sent_info}
 use Rattle.modem_data.proofs.Pipes.{flowed_fits, idle_sent}
@@ -25,9 +26,9 @@ use Rattle.modem_data.proofs.PipeSets.{all_by, one_by, one_info, number_at}
 apart_from : (d e : ℕ) → (d == e) ≡ false → (e == d) ≡ false
 apart_from d e x = ne_eqb e d (λ q. eqb-false d e x (sym q))
 
-other_began : (n1 d e : ℕ) (by_connect : Bool) (past : List Pass) (p : Pipe) → (e == d) ≡ false → AllowsPass n1 past (Began e by_connect) → PipeFits n1 d p past → PipeFits n1 d p (Began e by_connect ∷ past)
+other_began : (n1 d e : ℕ) (how : Begin) (past : List Pass) (p : Pipe) → (e == d) ≡ false → AllowsPass n1 past (Began e how) → PipeFits n1 d p past → PipeFits n1 d p (Began e how ∷ past)
 unfolding LawfulPasses
-other_began n1 d e by_connect past p x allowed h = record {
+other_began n1 d e how past p x allowed h = record {
   dlci_is = h.dlci_is;
   not_control = h.not_control;
   lawful = (allowed, h.lawful);
@@ -95,19 +96,19 @@ each_is v w ps is = ap (λ (x : PipeSet). x.each) is
 turn_is : (v w : PipeSet) (ps : List Pipe) → w ≡ record v { each = ps } → w.turn ≡ v.turn
 turn_is v w ps is = ap (λ (x : PipeSet). x.turn) is
 
-pub one_began : (v w : PipeSet) (i : ℕ) (p : Pipe) (e : ℕ) (by_connect : Bool) → i < length v.each → (slice_index_or v.each i p).watch.dlci ≡ e → Leads (slice_index_or v.each i p) p (Began e by_connect) → p.watch ≡ (slice_index_or v.each i p).watch → w ≡ record v { each = slice_set v.each i p } → AllLead v w (Began e by_connect)
+pub one_began : (v w : PipeSet) (i : ℕ) (p : Pipe) (e : ℕ) (how : Begin) → i < length v.each → (slice_index_or v.each i p).watch.dlci ≡ e → Leads (slice_index_or v.each i p) p (Began e how) → p.watch ≡ (slice_index_or v.each i p).watch → w ≡ record v { each = slice_set v.each i p } → AllLead v w (Began e how)
 unfolding AllLead Leads
-one_began v w i p e by_connect there here leads same is n1 ds past h =
+one_began v w i p e how there here leads same is n1 ds past h =
     let one = ap (λ (x : Watch). x.dlci) same in
     let it = one ∙ here in
-    let fits = subst (λ d. PipeFits n1 d p (Began e by_connect ∷ past)) (sym it) (leads n1 e past (fits_at n1 ds past v i p e there here h)) in
+    let fits = subst (λ d. PipeFits n1 d p (Began e how ∷ past)) (sym it) (leads n1 e past (fits_at n1 ds past v i p e there here h)) in
     let off : (c : ℕ) → (c == p.watch.dlci) ≡ false → (e == c) ≡ false = λ c x. apart_from c e (subst (λ d. (c == d) ≡ false) it x) in
-    one_by n1 ds past (Began e by_connect) v w i p there one (each_is v w (slice_set v.each i p) is) (turn_is v w (slice_set v.each i p) is ∙ h.turn_is) fits
-    (λ q x k. other_began n1 q.watch.dlci e by_connect past q (off q.watch.dlci x) (first_allowed n1 past (Began e by_connect) fits.lawful) k)
+    one_by n1 ds past (Began e how) v w i p there one (each_is v w (slice_set v.each i p) is) (turn_is v w (slice_set v.each i p) is ∙ h.turn_is) fits
+    (λ q x k. other_began n1 q.watch.dlci e how past q (off q.watch.dlci x) (first_allowed n1 past (Began e how) fits.lawful) k)
     (λ c x idle. rw (off c x) idle) h
 
-pub still_idle : (b : Bool) (c : Carries) → c ≡ Idle → (if b then Idle else c) ≡ Idle
-still_idle true c e = refl
+pub still_idle : (b : Bool) (c : Carries) → c ≡ Idle → (if b then ended_by_call c else c) ≡ Idle
+still_idle true c e = rw e refl
 still_idle false c e = e
 
 pub one_ended : (v w : PipeSet) (i : ℕ) (p : Pipe) (e : ℕ) → i < length v.each → (slice_index_or v.each i p).watch.dlci ≡ e → Leads (slice_index_or v.each i p) p (EndedLane e) → p.watch ≡ (slice_index_or v.each i p).watch → w ≡ record v { each = slice_set v.each i p } → AllLead v w (EndedLane e)
@@ -158,9 +159,9 @@ pub shut_at : (v : PipeSet) (i : ℕ) (p : Pipe) (e : ℕ) → i < length v.each
 unfolding OfEachPast IsShut
 shut_at v i p e there here says n1 ds past h = says n1 e past (fits_at n1 ds past v i p e there here h)
 
-pub no_data_at : (v : PipeSet) (i : ℕ) (p : Pipe) (e : ℕ) → i < length v.each → (slice_index_or v.each i p).watch.dlci ≡ e → HasNoData (slice_index_or v.each i p) → OfEachPast v (λ past. ¬ (carries e past ≡ Data))
-unfolding OfEachPast HasNoData
-no_data_at v i p e there here says n1 ds past h = says n1 e past (fits_at n1 ds past v i p e there here h)
+pub takes_none_at : (v : PipeSet) (i : ℕ) (p : Pipe) (e : ℕ) → i < length v.each → (slice_index_or v.each i p).watch.dlci ≡ e → TakesNone (slice_index_or v.each i p) → OfEachPast v (λ past. takes_given (carries e past) ≡ false)
+unfolding OfEachPast TakesNone
+takes_none_at v i p e there here says n1 ds past h = says n1 e past (fits_at n1 ds past v i p e there here h)
 
 unread_is : (x y z : List ℕ) → x ++ y ≡ z → length y ≡ length z - length x
 unread_is x y z e =
@@ -280,8 +281,8 @@ unfolding HasNoneToSend
 none_leaves v none =
     each_one v (λ past e. NoneLeaves past e)
     (λ j p there n1 past k. none j p there n1 (slice_index_or v.each j p).watch.dlci past k)
-    (λ past e idle data_there may.
-    let x : Idle ≡ Data = sym idle ∙ data_there in
+    (λ past e idle lets may.
+    let x : false ≡ true = ap lets_leave (sym idle) ∙ lets in
     cc)
 
 -- the first that may send, from the turn on, or else from the beginning
@@ -408,9 +409,9 @@ nones_more ps from i p there none before j q late near = at (nat_lt j i) refl
 
 -- ## What a call answers
 
-pub began_by : {A X : Type 0} (v w : PipeSet) (i : ℕ) (p : Pipe) (e : ℕ) (by_connect : Bool) (r : Result A X) → i < length v.each → (slice_index_or v.each i p).watch.dlci ≡ e → OnOk r (Leads (slice_index_or v.each i p) p (Began e by_connect)) → p.watch ≡ (slice_index_or v.each i p).watch → w ≡ record v { each = slice_set v.each i p } → OnOk r (AllLead v w (Began e by_connect))
-began_by v w i p e by_connect (Ok x) there here leads same is = one_began v w i p e by_connect there here leads same is
-began_by v w i p e by_connect (Err x) there here leads same is = tt
+pub began_by : {A X : Type 0} (v w : PipeSet) (i : ℕ) (p : Pipe) (e : ℕ) (how : Begin) (r : Result A X) → i < length v.each → (slice_index_or v.each i p).watch.dlci ≡ e → OnOk r (Leads (slice_index_or v.each i p) p (Began e how)) → p.watch ≡ (slice_index_or v.each i p).watch → w ≡ record v { each = slice_set v.each i p } → OnOk r (AllLead v w (Began e how))
+began_by v w i p e how (Ok x) there here leads same is = one_began v w i p e how there here leads same is
+began_by v w i p e how (Err x) there here leads same is = tt
 
 pub gave_by : {X : Type 0} (v w : PipeSet) (i : ℕ) (p : Pipe) (e : ℕ) (octets : List ℕ) (r : Result ℕ X) → i < length v.each → (slice_index_or v.each i p).watch.dlci ≡ e → IfOk r (λ count. Leads (slice_index_or v.each i p) p (Gave e (take count octets))) → p.watch ≡ (slice_index_or v.each i p).watch → w ≡ record v { each = slice_set v.each i p } → IfOk r (λ count. AllLead v w (Gave e (take count octets)))
 gave_by v w i p e octets (Ok count) there here leads same is = one_gave v w i p e (take count octets) there here leads same is

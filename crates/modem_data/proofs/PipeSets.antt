@@ -10,6 +10,7 @@ use Rattle.mux_station.specs.Acts as station
 use Rattle.mux_station.specs.declared.role.Role.TheVariants.{Initiator}
 use Rattle.mux_station.specs.Opening.{is_open}
 use Rattle.mux_station.specs.Written.{is_on, is_kind, is_data_frame}
+use Rattle.modem_data.specs.declared.switch.LineCut.{LineCut}
 use Rattle.modem_data.specs.Switching.{Idle, is_idle}
 use Rattle.modem_data.specs.Watching.{Watch}
 use Rattle.modem_data.specs.Passing.{Pass, wire, Came, Went, Lost, is_info, is_data, ends_here, carries, LawfulPasses}
@@ -148,10 +149,10 @@ one_info v w i p f e there here leads same is n1 ds past h =
     (λ q other k. other_came n1 q.watch.dlci q past f (data_kind f e) (data_dlci f e) (other_info q.watch.dlci past f (subst (λ d. (q.watch.dlci == d) ≡ false) it other)) k)
     (λ c other i. idle_behind (is_info c past f) (ends_here c past (station.Got f)) (carries c past) f.info i) h
 
-pub one_hand : (v : PipeSet) (i : ℕ) (p : Pipe) (f : Frame) (count : Option ℕ) → i < length v.each → (slice_index_or v.each i p).watch.dlci ≡ f.dlci → HandsOn (slice_index_or v.each i p) f count → AllHand v f count
+pub one_hand : (v : PipeSet) (i : ℕ) (p : Pipe) (f : Frame) (cut : Option LineCut) → i < length v.each → (slice_index_or v.each i p).watch.dlci ≡ f.dlci → HandsOn (slice_index_or v.each i p) f cut → AllHand v f cut
 unfolding AllHand HandsOn
 one_hand v i p f None there here hands = λ n1 ds past h. hands n1 f.dlci past (subst (λ d. PipeFits n1 d (slice_index_or v.each i p) past) here (All-get_or (λ q. PipeFits n1 q.watch.dlci q past) v.each i p there h.each))
-one_hand v i p f (Some count) there here hands = λ n1 ds past h. hands n1 f.dlci past (subst (λ d. PipeFits n1 d (slice_index_or v.each i p) past) here (All-get_or (λ q. PipeFits n1 q.watch.dlci q past) v.each i p there h.each))
+one_hand v i p f (Some cut) there here hands = λ n1 ds past h. hands n1 f.dlci past (subst (λ d. PipeFits n1 d (slice_index_or v.each i p) past) here (All-get_or (λ q. PipeFits n1 q.watch.dlci q past) v.each i p there h.each))
 
 -- none does
 nothing : (x : Bool) → x && false ≡ false

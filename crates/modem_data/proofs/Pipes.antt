@@ -1,5 +1,5 @@
 -- Each call of a pipe leads on.
-use Rattle.std.specs.Prelude.{◌≡◌, ℕ, ◌==◌, ◌&&◌, not, Bool, true, false, List, [], ◌∷◌, ◌++◌, take, Some, None, refl, if◌then◌else◌, unwrap_or}
+use Rattle.std.specs.Prelude.{◌≡◌, ℕ, ◌==◌, ◌&&◌, not, Bool, true, false, List, [], ◌∷◌, ◌++◌, Some, None, refl, if◌then◌else◌, unwrap_or}
 use Rattle.std.proofs.Common.{ap, sym, ◌∙◌, subst}
 use Rattle.std.proofs.lemmas.Bool.{eqb-true}
 use Rattle.std.proofs.lemmas.List.{append_assoc, append-nil}
@@ -11,7 +11,8 @@ use Rattle.mux_station.specs.Acts as station
 use Rattle.mux_station.specs.Written.{is_kind, is_on}
 use Rattle.mux_station.specs.Opening.{is_open}
 use Rattle.mux_station.specs.Stopping.{got_says, msc_says}
-use Rattle.modem_data.specs.Switching.{Carries, Idle, Lines, Ended, Data, is_idle, lines_of, data_of, carries_after}
+use Rattle.modem_data.specs.Switching.{Carries, Idle, Lines, Ended, Data, Prompts, Marked, Sends, Owes, IsCut, is_idle, data_of, carries_after}
+use Rattle.modem_data.specs.declared.switch.LineCut.{LineCut}
 use Rattle.modem_data.specs.DataLanes.{DataLane, TakesInfo}
 use Rattle.modem_data.specs.Watching.{HasWatched, watched, watch_ends, watch_opens}
 use Rattle.modem_data.specs.Passing.{Pass, Came, Went, Flowed, Lost, wire, is_info, is_data, opens_here, ends_here, carries, carries_behind, data_came, data_read, left, holds, driver_holds, AllowsPass, LawfulPasses}
@@ -173,6 +174,10 @@ idle_is Idle e = refl
 idle_is (Lines kept) e = cc
 idle_is (Ended by) e = cc
 idle_is Data e = cc
+idle_is (Prompts starts) e = cc
+idle_is Marked e = cc
+idle_is Sends e = cc
+idle_is Owes e = cc
 
 -- information that is no data of d changes nothing there
 stays_carried : (here : Bool) (c : Carries) (info : List ℕ) → here && not (is_idle c) ≡ false → c ≡ carries_behind here false c info
@@ -180,6 +185,10 @@ stays_carried true Idle info e = refl
 stays_carried true (Lines kept) info e = cc
 stays_carried true (Ended by) info e = cc
 stays_carried true Data info e = cc
+stays_carried true (Prompts starts) info e = cc
+stays_carried true Marked info e = cc
+stays_carried true Sends info e = cc
+stays_carried true Owes info e = cc
 stays_carried false c info e = refl
 
 stays_came : (here : Bool) (c : Carries) (came info : List ℕ) → here && not (is_idle c) ≡ false → came ≡ (if here then came ++ data_of c info else came)
@@ -187,6 +196,10 @@ stays_came true Idle came info e = sym (append-nil came)
 stays_came true (Lines kept) came info e = cc
 stays_came true (Ended by) came info e = cc
 stays_came true Data came info e = cc
+stays_came true (Prompts starts) came info e = cc
+stays_came true Marked came info e = cc
+stays_came true Sends came info e = cc
+stays_came true Owes came info e = cc
 stays_came false c came info e = refl
 
 pub other_came : (n1 d : ℕ) (v : Pipe) (past : List Pass) (f : Frame) → f.kind ≡ Uih → (f.dlci == 0) ≡ false → is_data d past f ≡ false → PipeFits n1 d v past → PipeFits n1 d v (Came f ∷ past)
@@ -231,9 +244,9 @@ pub leads_idle : (v : Pipe) (f : Frame) → is_on Uih v.watch.dlci f ≡ true �
 unfolding Leads
 leads_idle v f on idle n1 d past h = other_came n1 d v past f (is_info_kind v.watch.dlci f on) (not_zero n1 d v past f on h) (idle_data n1 d v past f idle h) h
 
-pub leads_info : (v : Pipe) (l : DataLane) (f : Frame) (count : ℕ) → is_on Uih v.watch.dlci f ≡ true → (is_on Uih v.watch.dlci f && v.watch.own.is_open) ≡ true → TakesInfo v.lane l f.info count → Leads v (record v { lane = l }) (Came f)
+pub leads_info : (v : Pipe) (l : DataLane) (f : Frame) (cut : LineCut) → is_on Uih v.watch.dlci f ≡ true → (is_on Uih v.watch.dlci f && v.watch.own.is_open) ≡ true → TakesInfo v.lane l f.info cut → Leads v (record v { lane = l }) (Came f)
 unfolding Leads LawfulPasses
-leads_info v l f count on up t n1 d past h =
+leads_info v l f cut on up t n1 d past h =
     let here : is_info d past f ≡ true = sym (info_here n1 d v past f h) ∙ up in
     let k = is_info_kind v.watch.dlci f on in
     let z = not_zero n1 d v past f on h in
@@ -263,12 +276,12 @@ idle_sent false c e = e
 
 -- ## What goes on to the driver
 
-pub hands_lines : (v : Pipe) (f : Frame) (count : ℕ) → (is_on Uih v.watch.dlci f && v.watch.own.is_open) ≡ true → is_idle v.lane.carries ≡ false → take count f.info ≡ lines_of v.lane.carries f.info → HandsOn v f (Some count)
+pub hands_lines : (v : Pipe) (f : Frame) (cut : LineCut) → (is_on Uih v.watch.dlci f && v.watch.own.is_open) ≡ true → is_idle v.lane.carries ≡ false → IsCut cut v.lane.carries f.info → HandsOn v f (Some cut)
 unfolding HandsOn
-hands_lines v f count up lane t n1 d past h =
+hands_lines v f cut up lane t n1 d past h =
     let here : is_info d past f ≡ true = sym (info_here n1 d v past f h) ∙ up in
     let some : is_idle (carries d past) ≡ false = ap is_idle (sym h.carries_is) ∙ lane in
-    (rw (here, some) refl, t ∙ ap (λ c. lines_of c f.info) h.carries_is)
+    (rw (here, some) refl, subst (λ (c : Carries). IsCut cut c f.info) h.carries_is t)
 
 pub hands_shut : (v : Pipe) (f : Frame) → (is_on Uih v.watch.dlci f && v.watch.own.is_open) ≡ false → HandsOn v f None
 unfolding HandsOn

@@ -10,7 +10,7 @@ use Rattle.mux_frame.proofs.readings.LaterTexts.{reads_spelled}
 use Rattle.mux_frame.proofs.readings.TextReadings.{one_reading}
 use Rattle.mux_frame.specs.Spelling.{body_of, spelled}
 use Rattle.mux_frame.proofs.Spellings.{spells_body}
-use Rattle.modem_data.specs.RelayRows.{RelaysSo, DiscWaits, disc}
+use Rattle.modem_data.specs.RelayRows.{RelaysSo, PromptsBySo, DiscWaits, disc}
 
 pub relays_so : RelaysSo
 relays_so = record {
@@ -49,6 +49,32 @@ relays_so = record {
   round_first = refl;
   past_the_last = refl;
   not_past_it = refl;
+}
+
+pub prompts_by_so : PromptsBySo
+prompts_by_so = record {
+  cut_there = refl;
+  in_one = refl;
+  behind_it = refl;
+  no_data = refl;
+  none_before = refl;
+  then_it_may = refl;
+  given_before = refl;
+  given_behind = refl;
+  command_before = refl;
+  none_behind = refl;
+  a_line = refl;
+  refused = refl;
+  none_then = refl;
+  owed = refl;
+  none_owed = refl;
+  paid = refl;
+  then_over = refl;
+  ended_before = refl;
+  ended_behind = refl;
+  closed = refl;
+  closed_owed = refl;
+  lost = refl;
 }
 
 disc_spelled : All (HasSpelling 31) (disc 2 ∷ [])

@@ -8,11 +8,15 @@ use Rattle.mux_frame.specs.Frames.{Frame}
 use Rattle.mux_frame.specs.Spelling.{spelled}
 use Rattle.mux_frame.specs.Reading.{Reads}
 use Rattle.mux_frame.specs.Deframing.{Deframes, TakesIn, IsDeframed}
-use Rattle.modem_data.specs.Passing.{Came, Went, Flowed, Left, Lost, Began, EndedLane, Gave, Read, IsDue}
+use Rattle.modem_data.specs.declared.begin.Begin.{Begin}
+use Rattle.modem_data.specs.declared.switch.LineCut.{LineCut}
+use Rattle.modem_data.specs.Prompts.{mark_if}
+use Rattle.modem_data.specs.Switching.{Carries, IsCut}
+use Rattle.modem_data.specs.Passing.{Came, Went, Flowed, Left, Lost, Began, EndedLane, Gave, Read, IsDue, carries}
 use Rattle.modem_data.specs.PipeSets.{AllHand, AllLead, BeginsAll, HasPipe, LeavesInTurn, NoneLeaves, OfEachPast, PipesFit}
 use Rattle.modem_data.specs.declared.pipe.Reading.{Reading}
 use Rattle.modem_data.specs.Handing.{PassesIn, PassesOut, PassesOver, handed}
-use Rattle.modem_data.specs.Hops.{Relay, RelayFits, Hop, Fed, Handed, Took, Wrote, Passed, Hops, HopsBy, BeginsRelay, LawfulHops, DriverFirst, AllCame, HoldsNothing, LineIn, PassesOn, DriverOut, still_there, driver_out, OneOut, flow_out, still_out, went_out, left_out, spell, due, with_lines, for_driver, for_line, fed, taken, wrote, handed_over, came, went, passes}
+use Rattle.modem_data.specs.Hops.{Relay, RelayFits, Hop, Fed, Handed, Took, Wrote, Passed, Hops, HopsBy, BeginsRelay, LawfulHops, DriverFirst, AllCame, HoldsNothing, LineIn, PassesOn, DriverOut, still_there, driver_out, OneOut, flow_out, still_out, went_out, left_out, spell, due, line_frames, with_lines, for_driver, for_line, fed, taken, wrote, handed_over, came, went, passes}
 
 -- ## Octets
 
@@ -74,13 +78,17 @@ hops_wrote v w octets n o t e n1 ds past h = rw e (record {
 
 -- ## Frames
 
+-- the frames of a cut are those of the lines
+frames_are : (f : Frame) (cut : LineCut) (m : Carries) → IsCut cut m f.info → with_lines f (mark_if cut.is_marked) ++ (with_lines f (take cut.before f.info) ++ with_lines f (drop cut.behind f.info)) ≡ line_frames m f
+frames_are f cut m is = rw (is.mark, is.before, is.behind) refl
+
 -- what was written for the driver is what it was due
-handed_due : (n1 : ℕ) (ds : List ℕ) (v : Relay) (past : List Hop) (f : Frame) (count : Option ℕ) → RelayFits n1 ds v past → AllHand v.pipes f count → handed f count ≡ spell (due (passes past) f)
+handed_due : (n1 : ℕ) (ds : List ℕ) (v : Relay) (past : List Hop) (f : Frame) (cut : Option LineCut) → RelayFits n1 ds v past → AllHand v.pipes f cut → handed f cut ≡ spell (due (passes past) f)
 unfolding AllHand
 handed_due n1 ds v past f None h on = rw (on n1 ds (passes past) h.pipes_fit) (sym (append-nil (spelled f)))
-handed_due n1 ds v past f (Some count) h on =
+handed_due n1 ds v past f (Some cut) h on =
     let hand = on n1 ds (passes past) h.pipes_fit in
-    rw hand.0 (ap (λ i. spell (with_lines f i)) hand.1)
+    rw hand.0 (ap spell (frames_are f cut (carries f.dlci (passes past)) hand.1))
 
 put_behind : (before waits more : List ℕ) (fs gs : List Frame) → before ++ waits ≡ spell fs → more ≡ spell gs → before ++ (waits ++ more) ≡ spell (fs ++ gs)
 put_behind before waits more fs gs h e = sym (append_assoc before waits more) ∙ (ap (λ x. x ++ more) h ∙ (ap (λ x. spell fs ++ x) e ∙ sym (flat_map-append spelled fs gs)))
@@ -95,7 +103,7 @@ hops_came v w p over n i l = record {
     lawful = (tt, h.lawful);
     line_in = over (fed past) (came past) p.frame p.is_at_hand h.line_in;
     driver_out = rw i (subst (λ fs. Deframes (taken past) fs v.inner) (sym (append-nil (went past))) h.driver_out);
-    to_driver_is = ap (λ x. handed_over past ++ x) p.written ∙ put_behind (handed_over past) v.to_driver (handed p.frame p.count) (for_driver past) (due (passes past) p.frame) h.to_driver_is (handed_due n1 ds v past p.frame p.count h p.hands);
+    to_driver_is = ap (λ x. handed_over past ++ x) p.written ∙ put_behind (handed_over past) v.to_driver (handed p.frame p.cut) (for_driver past) (due (passes past) p.frame) h.to_driver_is (handed_due n1 ds v past p.frame p.cut h p.hands);
     to_line_is = rw l (subst (λ fs. wrote past ++ v.to_line ≡ spell fs) (sym (append-nil (for_line past))) h.to_line_is);
     pipes_fit = p.leads n1 ds (passes past) h.pipes_fit;
   };
@@ -199,9 +207,9 @@ hops_lost v w leads e n1 ds past h = rw e (record {
   pipes_fit = leads n1 ds (passes past) h.pipes_fit;
 })
 
-pub hops_began : (v w : Relay) (d : ℕ) (by_connect : Bool) → HasPipe v.pipes d → AllLead v.pipes w.pipes (Began d by_connect) → w ≡ record v { pipes = w.pipes } → Hops v w (Passed (Began d by_connect))
+pub hops_began : (v w : Relay) (d : ℕ) (how : Begin) → HasPipe v.pipes d → AllLead v.pipes w.pipes (Began d how) → w ≡ record v { pipes = w.pipes } → Hops v w (Passed (Began d how))
 unfolding Hops LawfulHops AllLead HasPipe
-hops_began v w d by_connect has leads e n1 ds past h = rw e (record {
+hops_began v w d how has leads e n1 ds past h = rw e (record {
   outer_n1 = h.outer_n1;
   inner_n1 = h.inner_n1;
   lawful = (has n1 ds (passes past) h.pipes_fit, h.lawful);
@@ -233,9 +241,9 @@ pub gave_by : {X : Type 0} (v w : Relay) (e : ℕ) (octets : List ℕ) (r : Resu
 gave_by v w e octets (Ok count) leads is = hops_gave v w e (take count octets) leads is
 gave_by v w e octets (Err x) leads is = tt
 
-pub began_by : {A X : Type 0} (v w : Relay) (d : ℕ) (by_connect : Bool) (r : Result A X) → OnOk r (HasPipe v.pipes d) → OnOk r (AllLead v.pipes w.pipes (Began d by_connect)) → w ≡ record v { pipes = w.pipes } → OnOk r (Hops v w (Passed (Began d by_connect)))
-began_by v w d by_connect (Ok x) has leads is = hops_began v w d by_connect has leads is
-began_by v w d by_connect (Err x) has leads is = tt
+pub began_by : {A X : Type 0} (v w : Relay) (d : ℕ) (how : Begin) (r : Result A X) → OnOk r (HasPipe v.pipes d) → OnOk r (AllLead v.pipes w.pipes (Began d how)) → w ≡ record v { pipes = w.pipes } → OnOk r (Hops v w (Passed (Began d how)))
+began_by v w d how (Ok x) has leads is = hops_began v w d how has leads is
+began_by v w d how (Err x) has leads is = tt
 
 pub read_by : {X : Type 0} (v w : Relay) (d : ℕ) (octets : Reading → List ℕ) (r : Result Reading X) → IfOk r (λ x. AllLead v.pipes w.pipes (Read d (octets x))) → w ≡ record v { pipes = w.pipes } → IfOk r (λ x. Hops v w (Passed (Read d (octets x))))
 read_by v w d octets (Ok x) leads is = hops_read v w d (octets x) leads is

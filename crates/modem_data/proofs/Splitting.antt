@@ -6,8 +6,9 @@ use Rattle.std.proofs.lemmas.List.{append_assoc, append-nil}
 use Rattle.std.proofs.lemmas.List.Folds.{list_any-append}
 use Rattle.at_text.specs.Lines.{lines, kept_run}
 use Rattle.at_text.proofs.lines.UnfinishedLines.{reads_on as reads_lines_on}
-use Rattle.modem_data.specs.Switching.{Carries, Idle, Lines, Ended, Data, is_connect, connects, lines_from, lines_of, data_from, data_of, behind, behind_end, carries_from, carries_after, IsGap, no_gap, its_lf, IsSplit}
+use Rattle.modem_data.specs.Switching.{Carries, Idle, Lines, Ended, Data, Prompts, Marked, Sends, Owes, is_connect, connects, lines_from, lines_of, data_from, data_of, behind, behind_end, carries_from, carries_after, IsGap, no_gap, its_lf, IsSplit}
 use Rattle.modem_data.specs.Splits.{ReadsOn, AreSplit}
+use Rattle.modem_data.proofs.Prompting.{marked_on, owes_on, prompts_on, whole_on}
 
 -- ## Cuts
 
@@ -16,7 +17,7 @@ no_lines by [] y = refl
 no_lines by (c ∷ x) y = refl
 
 lines_on : (kept x y : List ℕ) → lines_from kept (x ++ y) ≡ lines_from kept x ++ lines_of (carries_from kept x) y
-lines_on kept [] y = refl
+lines_on kept [] y = sym (append-nil (lines_from kept y))
 lines_on kept (c ∷ x) y = at (connects kept c) (lines_on (kept_run (kept ++ c ∷ [])) x y)
   where
     at : (b : Bool) → lines_from (kept_run (kept ++ c ∷ [])) (x ++ y) ≡ lines_from (kept_run (kept ++ c ∷ [])) x ++ lines_of (carries_from (kept_run (kept ++ c ∷ [])) x) y → (if b then c ∷ [] else c ∷ lines_from (kept_run (kept ++ c ∷ [])) (x ++ y)) ≡ (if b then c ∷ [] else c ∷ lines_from (kept_run (kept ++ c ∷ [])) x) ++ lines_of (if b then behind c x else carries_from (kept_run (kept ++ c ∷ [])) x) y
@@ -51,11 +52,18 @@ stands_on kept (c ∷ x) y = at (connects kept c) (stands_on (kept_run (kept ++ 
     at true h = behind_on c x y
     at false h = h
 
+all_lines : (kept x y : List ℕ) → lines_from kept (x ++ y) ++ [] ≡ (lines_from kept x ++ []) ++ lines_of (carries_from kept x) y
+all_lines kept x y = append-nil (lines_from kept (x ++ y)) ∙ (lines_on kept x y ∙ ap (λ t. t ++ lines_of (carries_from kept x) y) (sym (append-nil (lines_from kept x))))
+
 pub reads_on : (m : Carries) (x y : List ℕ) → ReadsOn m x y
-reads_on Idle x y = record { lines_go_on = refl; data_goes_on = refl; stands = refl }
-reads_on (Lines kept) x y = record { lines_go_on = lines_on kept x y; data_goes_on = data_on kept x y; stands = stands_on kept x y }
+reads_on Idle x y = whole_on Idle x y (inr refl)
+reads_on (Lines kept) x y = record { lines_go_on = all_lines kept x y; data_goes_on = data_on kept x y; stands = stands_on kept x y }
 reads_on (Ended by) x y = record { lines_go_on = no_lines by x y; data_goes_on = ended_on by x y; stands = behind_on by x y }
 reads_on Data x y = record { lines_go_on = refl; data_goes_on = refl; stands = refl }
+reads_on (Prompts starts) x y = prompts_on starts x y
+reads_on Marked x y = marked_on x y
+reads_on Sends x y = whole_on Sends x y (inl refl)
+reads_on Owes x y = owes_on x y
 
 -- ## The whole
 
@@ -105,4 +113,4 @@ split_from p kept (c ∷ text) none e =
     (λ b. split_from (p ++ c ∷ []) (kept_run (kept ++ c ∷ [])) text (there p kept c none e ∙ b) (later p kept c e))
 
 pub are_split : (text : List ℕ) → AreSplit text
-are_split text = split_from [] [] text refl refl
+are_split text = subst (λ (t : List ℕ). IsSplit text t (data_from [] text)) (sym (append-nil (lines_from [] text))) (split_from [] [] text refl refl)

@@ -18,7 +18,7 @@ idle n1 (Passed (Went f) ∷ past) h e = idle_sent (ends_here e (passes past) (s
 idle n1 (Passed (Flowed f) ∷ past) h e = idle_sent (ends_here e (passes past) (station.Sent f)) (carries e (passes past)) (idle n1 past h.1 e)
 idle n1 (Passed (Left f) ∷ past) h e = idle n1 past h.1 e
 idle n1 (Passed Lost ∷ past) h e = refl
-idle n1 (Passed (Began d by_connect) ∷ past) h e = let none = h.0.there in absurd (omega (arith, none))
+idle n1 (Passed (Began d how) ∷ past) h e = let none = h.0.there in absurd (omega (arith, none))
 idle n1 (Passed (EndedLane d) ∷ past) h e = still_idle (d == e) (carries e (passes past)) (idle n1 past h.1 e)
 idle n1 (Passed (Gave d octets) ∷ past) h e = idle n1 past h.1 e
 idle n1 (Passed (Read d octets) ∷ past) h e = idle n1 past h.1 e

@@ -1,6 +1,7 @@
 -- What is kept of the data of a connection, from the beginning of a lane to the end of its opening.
-use Rattle.std.specs.Prelude.{◌≡◌, ◌≤◌, ℕ, List, [], ◌++◌, take}
-use Rattle.modem_data.specs.Switching.{Carries, Idle, lines_of, data_of, carries_after}
+use Rattle.std.specs.Prelude.{◌≡◌, ◌≤◌, ℕ, List, [], ◌++◌}
+use Rattle.modem_data.specs.declared.switch.LineCut.{LineCut}
+use Rattle.modem_data.specs.Switching.{Carries, Idle, IsCut, data_of, carries_after, ended_by_call}
 
 -- what it carries, the data that came and was not read yet, and the octets that were given and have not left yet
 pub record DataLane : Type 0 where
@@ -13,8 +14,8 @@ abbrev pub most_to_go : ℕ
 most_to_go = 4096
 
 -- a frame's information came: its line octets are these, and its data waits behind what waited
-pub record TakesInfo (old new : DataLane) (info : List ℕ) (count : ℕ) : Type 0 where
-  pub lines_are : take count info ≡ lines_of old.carries info
+pub record TakesInfo (old new : DataLane) (info : List ℕ) (cut : LineCut) : Type 0 where
+  pub lines_are : IsCut cut old.carries info
   pub stands : new.carries ≡ carries_after old.carries info
   pub waits : new.came ≡ old.came ++ data_of old.carries info
   pub stays : new.to_go ≡ old.to_go
@@ -30,6 +31,10 @@ begun_lane l begin = record l { carries = begin; to_go = [] }
 -- a lane is over: what came and wasn't read stays
 abbrev pub ended_lane : DataLane → DataLane
 ended_lane l = record l { carries = Idle }
+
+-- a lane is ended by a call: the same, and a `>` that is held back goes before what comes next
+abbrev pub left_lane : DataLane → DataLane
+left_lane l = record l { carries = ended_by_call l.carries }
 
 -- so many octets wait to leave, in room for so many
 pub record HasRoom (count capacity : ℕ) : Type 0 where

@@ -5,7 +5,7 @@ use Rattle.mux_frame.specs.Frames.{Frame}
 use Rattle.mux_frame.specs.Spelling.{spelled}
 use Rattle.mux_frame.specs.Reading.{Reads}
 use Rattle.mux_frame.specs.Deframing.{Deframing, Deframes}
-use Rattle.modem_data.specs.Switching.{lines_of}
+use Rattle.modem_data.specs.Switching.{Carries, released, before_of, behind_of, lines_of}
 use Rattle.modem_data.specs.Passing.{Pass, Came, Went, Flowed, Left, Began, is_data, carries, IsDue}
 use Rattle.modem_data.specs.PipeSets.{PipeSet, PipesFit, InTurn, IsAmong, NoneLeaves}
 
@@ -66,14 +66,22 @@ abbrev pub went : List Hop → List Frame
 went [] = []
 went (a ∷ past) = went past ++ went_of a
 
--- of a frame of data the lines, where there are any, in a frame of their own
+-- octets of lines, where there are any, in a frame of their own
 abbrev pub with_lines : Frame → List ℕ → List Frame
 with_lines f [] = []
 with_lines f (c ∷ text) = record f { info = c ∷ text } ∷ []
 
--- what the driver is due of a frame that comes: its lines where it is data of a lane, else all of it
+-- the lines of a frame's information: a `>` that was held back, those before a CONNECT line's end or a prompt, and those behind it
+abbrev pub line_frames : Carries → Frame → List Frame
+line_frames m f = with_lines f (released m f.info) ++ (with_lines f (before_of m f.info) ++ with_lines f (behind_of m f.info))
+
+-- they have all lines, in their order
+abbrev pub JoinsLines : Carries → Frame → Type 0
+JoinsLines m f = flat_map (λ g. g.info) (line_frames m f) ≡ lines_of m f.info
+
+-- what the driver is due of a frame that comes: its lines where it is information of a lane, else all of it
 abbrev pub due : List Pass → Frame → List Frame
-due p f = if is_data f.dlci p f then with_lines f (lines_of (carries f.dlci p) f.info) else f ∷ []
+due p f = if is_data f.dlci p f then line_frames (carries f.dlci p) f else f ∷ []
 
 abbrev pub for_driver : List Hop → List Frame
 for_driver [] = []
@@ -103,7 +111,7 @@ pub record DriverFirst (n1 : ℕ) (past : List Hop) : Type 0 where
 abbrev pub AllowsHop : ℕ → List ℕ → List Hop → Hop → Type 0
 AllowsHop n1 ds past (Passed (Left f)) = DriverFirst n1 past × InTurn ds (passes past) f
 AllowsHop n1 ds past (Passed (Flowed f)) = DriverFirst n1 past
-AllowsHop n1 ds past (Passed (Began d by_connect)) = IsAmong ds (length ds) d
+AllowsHop n1 ds past (Passed (Began d how)) = IsAmong ds (length ds) d
 AllowsHop n1 ds past _ = Unit {0}
 
 unfoldable pub LawfulHops : ℕ → List ℕ → List Hop → Type 0

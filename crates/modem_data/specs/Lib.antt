@@ -1,3 +1,4 @@
+pub mod Prompts
 pub mod Switching
 pub mod Stages
 pub mod DataLanes
@@ -5,10 +6,12 @@ pub mod Queues
 pub mod DataErrors
 pub mod Splits
 pub mod SwitchRows
+pub mod PromptRows
 pub mod Messages
 pub mod Standings
 pub mod Watching
 pub mod Passing
+pub mod WholeLanes
 pub mod Pipes
 pub mod PipeSets
 pub mod Hops

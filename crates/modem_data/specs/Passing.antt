@@ -8,20 +8,22 @@ use Rattle.mux_station.specs.Opening.{is_open, opens_now}
 use Rattle.mux_station.specs.Stopping.{got_says, msc_says}
 use Rattle.mux_station.specs.Tables.{msc_frame, ready, held_up}
 use Rattle.mux_station.specs.Written.{is_on, written}
-use Rattle.modem_data.specs.Switching.{Carries, Idle, Lines, Data, is_idle, data_of, carries_after}
+use Rattle.modem_data.specs.declared.begin.Begin.{Begin}
+use Rattle.modem_data.specs.declared.begin.Begin.TheVariants.{AtOnce, ByConnect, ByPrompt}
+use Rattle.modem_data.specs.Switching.{Carries, Idle, Lines, Data, Prompts, is_idle, lets_leave, takes_given, ended_by_call, data_of, carries_after}
 use Rattle.modem_data.specs.DataLanes.{most_to_go}
 use Rattle.modem_data.specs.Watching.{may_leave, ends_now}
 
 -- what happens: a frame comes from the line; one goes from the driver to the line, one of the relay's own, or one of data;
--- the line is lost; a lane of a connection begins, with data behind its next CONNECT line or at once, or is ended between
--- two frames; octets are given to be sent there; octets of its data are read
+-- the line is lost; a lane of a connection begins, at once, by a CONNECT line or by a prompt, or is ended between two frames;
+-- octets are given to be sent there; octets of its data are read
 pub data Pass : Type 0 where
   Came : Frame → Pass
   Went : Frame → Pass
   Flowed : Frame → Pass
   Left : Frame → Pass
   Lost : Pass
-  Began : ℕ → (by_connect : Bool) → Pass
+  Began : ℕ → (how : Begin) → Pass
   EndedLane : ℕ → Pass
   Gave : ℕ → List ℕ → Pass
   Read : ℕ → List ℕ → Pass
@@ -52,9 +54,10 @@ abbrev pub ends_here : ℕ → List Pass → station.Act → Bool
 ends_here d past a = ends_now d (wire past) a
 
 -- what a lane carries at its beginning
-abbrev pub begin_of : Bool → Carries
-begin_of true = Lines []
-begin_of false = Data
+abbrev pub begin_of : Begin → Carries
+begin_of AtOnce = Data
+begin_of ByConnect = Lines []
+begin_of ByPrompt = Prompts true
 
 -- what d carries behind a frame that came
 abbrev pub carries_behind : (info_here ending : Bool) → Carries → List ℕ → Carries
@@ -62,16 +65,16 @@ carries_behind true ending c info = carries_after c info
 carries_behind false true c info = Idle
 carries_behind false false c info = c
 
--- What d carries: nothing but the driver's, until a lane begins. It turns to data behind its first CONNECT line, and is over
--- where an opening of d ends, the line is lost, or it is ended.
+-- What d carries: nothing but the driver's, until a lane begins. It turns to data behind its first CONNECT line, or to a text
+-- behind its first prompt. It is over where an opening of d ends, the line is lost, or it is ended.
 abbrev pub carries : ℕ → List Pass → Carries
 carries d [] = Idle
 carries d (Came f ∷ past) = carries_behind (is_info d past f) (ends_here d past (station.Got f)) (carries d past) f.info
 carries d (Went f ∷ past) = if ends_here d past (station.Sent f) then Idle else carries d past
 carries d (Flowed f ∷ past) = if ends_here d past (station.Sent f) then Idle else carries d past
 carries d (Lost ∷ past) = Idle
-carries d (Began e by_connect ∷ past) = if e == d then begin_of by_connect else carries d past
-carries d (EndedLane e ∷ past) = if e == d then Idle else carries d past
+carries d (Began e how ∷ past) = if e == d then begin_of how else carries d past
+carries d (EndedLane e ∷ past) = if e == d then ended_by_call (carries d past) else carries d past
 carries d (_ ∷ past) = carries d past
 
 -- the frame is information of a lane
@@ -85,13 +88,13 @@ abbrev pub data_came : ℕ → List Pass → List ℕ
 data_came d [] = []
 data_came d (Came f ∷ past) =
     if is_info d past f then data_came d past ++ data_of (carries d past) f.info else data_came d past
-data_came d (Began e by_connect ∷ past) = if e == d then [] else data_came d past
+data_came d (Began e how ∷ past) = if e == d then [] else data_came d past
 data_came d (_ ∷ past) = data_came d past
 
 abbrev pub data_read : ℕ → List Pass → List ℕ
 data_read d [] = []
 data_read d (Read e octets ∷ past) = if e == d then data_read d past ++ octets else data_read d past
-data_read d (Began e by_connect ∷ past) = if e == d then [] else data_read d past
+data_read d (Began e how ∷ past) = if e == d then [] else data_read d past
 data_read d (_ ∷ past) = data_read d past
 
 -- the lane of d is over, and all of its data was read
@@ -105,13 +108,13 @@ pub record IsOver (d : ℕ) (past : List Pass) : Type 0 where
 abbrev pub given : ℕ → List Pass → List ℕ
 given d [] = []
 given d (Gave e octets ∷ past) = if e == d then given d past ++ octets else given d past
-given d (Began e by_connect ∷ past) = if e == d then [] else given d past
+given d (Began e how ∷ past) = if e == d then [] else given d past
 given d (_ ∷ past) = given d past
 
 abbrev pub left : ℕ → List Pass → List ℕ
 left d [] = []
 left d (Left f ∷ past) = if f.dlci == d then left d past ++ f.info else left d past
-left d (Began e by_connect ∷ past) = if e == d then [] else left d past
+left d (Began e how ∷ past) = if e == d then [] else left d past
 left d (_ ∷ past) = left d past
 
 -- how many octets of data wait to leave
@@ -156,10 +159,10 @@ pub record IsDue (d : ℕ) (past : List Pass) (go : Bool) : Type 0 where
 
 -- ## The laws
 
--- data leaves a connection that carries data, is open and isn't stopped, as this end writes it, with 1 to N1 octets: the next
+-- data or a text leaves a connection that lets it, is open and isn't stopped, as this end writes it, with 1 to N1 octets: the next
 -- of those given since its lane began
 pub record Leaves (n1 : ℕ) (past : List Pass) (f : Frame) : Type 0 where
-  pub carries_data : carries f.dlci past ≡ Data
+  pub lets : lets_leave (carries f.dlci past) ≡ true
   pub may : may_leave f.dlci (wire past) ≡ true
   pub as_written : f ≡ written Initiator Uih f.dlci f.info
   pub some : IsTrue (nat_le 1 (length f.info))
@@ -174,10 +177,10 @@ pub record Flows (past : List Pass) (f : Frame) : Type 0 where
   pub is_due : IsDue dlci past go
   pub as_written : f ≡ flow_frame dlci go
 
--- octets are given where d is open and carries data, and no more wait than may
+-- octets are given where d is open and takes them, and no more wait than may
 pub record Gives (d : ℕ) (past : List Pass) (octets : List ℕ) : Type 0 where
   pub open_there : is_open Initiator d (wire past) ≡ true
-  pub carries_data : carries d past ≡ Data
+  pub takes : takes_given (carries d past) ≡ true
   pub few : length (given d past) + length octets ≤ length (left d past) + most_to_go
 
 -- data is read in its order
@@ -189,7 +192,7 @@ pub record Reads (d : ℕ) (past : List Pass) (octets : List ℕ) : Type 0 where
 abbrev pub AllowsPass : ℕ → List Pass → Pass → Type 0
 AllowsPass n1 past (Left f) = Leaves n1 past f
 AllowsPass n1 past (Flowed f) = Flows past f
-AllowsPass n1 past (Began d by_connect) = IsOver d past
+AllowsPass n1 past (Began d how) = IsOver d past
 AllowsPass n1 past (Gave d octets) = Gives d past octets
 AllowsPass n1 past (Read d octets) = Reads d past octets
 AllowsPass n1 past _ = Unit {0}

@@ -1,9 +1,10 @@
 -- Several connections that carry data, and how they fit what passed.
-use Rattle.std.specs.Prelude.{◌≡◌, ◌≢◌, ℕ, ◌+◌, ◌<◌, ◌≤◌, ◌==◌, ◌&&◌, ◌||◌, nat_le, nat_lt, Bool, true, false, List, [], ◌∷◌, ◌++◌, length, take, map, All, Option, Some, None, slice_index_or, if◌then◌else◌}
+use Rattle.std.specs.Prelude.{◌≡◌, ◌≢◌, ℕ, ◌+◌, ◌<◌, ◌≤◌, ◌==◌, ◌&&◌, ◌||◌, nat_le, nat_lt, Bool, true, false, List, [], ◌∷◌, ◌++◌, length, map, All, Option, Some, None, slice_index_or, if◌then◌else◌}
 use Rattle.mux_frame.specs.declared.dlci.Dlci.{Dlci}
 use Rattle.mux_frame.specs.Frames.{Frame}
 use Rattle.mux_frame.specs.Spelling.{spelled}
-use Rattle.modem_data.specs.Switching.{Data, Idle, lines_of}
+use Rattle.modem_data.specs.declared.switch.LineCut.{LineCut}
+use Rattle.modem_data.specs.Switching.{Idle, IsCut, lets_leave}
 use Rattle.modem_data.specs.Watching.{may_leave}
 use Rattle.modem_data.specs.Passing.{Pass, Left, wire, is_data, carries, given, left, LawfulPasses}
 use Rattle.modem_data.specs.Pipes.{Pipe, PipeFits, HasNoneToSend, MayLeave, SaysFlow}
@@ -55,9 +56,9 @@ turn_of ds [] = 0
 turn_of ds (Left f ∷ past) = place_behind ds f.dlci
 turn_of ds (_ ∷ past) = turn_of ds past
 
--- no data may leave a connection: it carries none, is shut or stopped, or all that was given has left
+-- nothing may leave a connection: it lets none, is shut or stopped, or all that was given has left
 abbrev pub NoneLeaves : List Pass → ℕ → Type 0
-NoneLeaves past d = carries d past ≡ Data → may_leave d (wire past) ≡ true → left d past ≡ given d past
+NoneLeaves past d = lets_leave (carries d past) ≡ true → may_leave d (wire past) ≡ true → left d past ≡ given d past
 
 -- counted from a turn on, and round, one place comes before another
 abbrev pub comes_before : (turn one other : ℕ) → Bool
@@ -87,12 +88,12 @@ pub record PipesFit (n1 : ℕ) (ds : List ℕ) (v : PipeSet) (past : List Pass) 
 unfoldable pub AllLead : PipeSet → PipeSet → Pass → Type 0
 AllLead old new a = (n1 : ℕ) (ds : List ℕ) (past : List Pass) → PipesFit n1 ds old past → PipesFit n1 ds new (a ∷ past)
 
--- what of a frame that came goes on to the driver: of data of a lane the first octets, which are its lines, else all of it
-unfoldable pub AllHand : PipeSet → Frame → Option ℕ → Type 0
+-- what of a frame that came goes on to the driver: of information of a lane its lines, else all of it
+unfoldable pub AllHand : PipeSet → Frame → Option LineCut → Type 0
 AllHand v f None = (n1 : ℕ) (ds : List ℕ) (past : List Pass) → PipesFit n1 ds v past → is_data f.dlci past f ≡ false
-AllHand v f (Some count) =
+AllHand v f (Some cut) =
     (n1 : ℕ) (ds : List ℕ) (past : List Pass) → PipesFit n1 ds v past
-    → (is_data f.dlci past f ≡ true) × (take count f.info ≡ lines_of (carries f.dlci past) f.info)
+    → (is_data f.dlci past f ≡ true) × IsCut cut (carries f.dlci past) f.info
 
 -- nothing has passed yet
 unfoldable pub BeginsAll : List ℕ → PipeSet → Type 0

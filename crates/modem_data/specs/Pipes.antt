@@ -7,7 +7,8 @@ use Rattle.mux_station.specs.Acts as station
 use Rattle.mux_station.specs.Opening.{is_open}
 use Rattle.mux_station.specs.Stopping.{got_says, msc_says}
 use Rattle.mux_station.specs.Written.{written}
-use Rattle.modem_data.specs.Switching.{Data, Idle, lines_of, is_idle, is_data_mode, is_behind_lines}
+use Rattle.modem_data.specs.declared.switch.LineCut.{LineCut}
+use Rattle.modem_data.specs.Switching.{Idle, IsCut, is_idle, lets_leave, takes_given, is_behind_lines}
 use Rattle.modem_data.specs.DataLanes.{DataLane, ended_lane}
 use Rattle.modem_data.specs.Watching.{Watch, HasWatched, SaysMayLeave, may_leave, watched, watch_ends, watch_opens}
 use Rattle.modem_data.specs.Passing.{Pass, Left, wire, is_data, carries, data_came, data_read, given, left, holds, driver_holds, LawfulPasses, IsOver, IsDue}
@@ -35,12 +36,12 @@ pub record PipeFits (n1 d : ℕ) (v : Pipe) (past : List Pass) : Type 0 where
 unfoldable pub Leads : Pipe → Pipe → Pass → Type 0
 Leads old new a = (n1 d : ℕ) (past : List Pass) → PipeFits n1 d old past → PipeFits n1 d new (a ∷ past)
 
--- what of a frame that came goes on to the driver: of data on d the first octets, which are its lines, else all of it
-unfoldable pub HandsOn : Pipe → Frame → Option ℕ → Type 0
+-- what of a frame that came goes on to the driver: of information of a lane of d its lines, else all of it
+unfoldable pub HandsOn : Pipe → Frame → Option LineCut → Type 0
 HandsOn v f None = (n1 d : ℕ) (past : List Pass) → PipeFits n1 d v past → is_data d past f ≡ false
-HandsOn v f (Some count) =
+HandsOn v f (Some cut) =
     (n1 d : ℕ) (past : List Pass) → PipeFits n1 d v past
-    → (is_data d past f ≡ true) × (take count f.info ≡ lines_of (carries d past) f.info)
+    → (is_data d past f ≡ true) × IsCut cut (carries d past) f.info
 
 -- nothing has passed yet
 unfoldable pub BeginsPipe : ℕ → Pipe → Type 0
@@ -50,11 +51,11 @@ BeginsPipe d v = (n1 : ℕ) → PipeFits n1 d v []
 unfoldable pub LeadsLeft : ℕ → Pipe → Pipe → Frame → Type 0
 LeadsLeft n1 old new f = (d : ℕ) (past : List Pass) → PipeFits n1 d old past → PipeFits n1 d new (Left f ∷ past)
 
--- nothing may leave: d doesn't carry data, is shut or stopped, or all that was given has left
+-- nothing may leave: the lane doesn't let it, d is shut or stopped, or all that was given has left
 unfoldable pub HasNoneToSend : Pipe → Type 0
 HasNoneToSend v =
     (n1 d : ℕ) (past : List Pass) → PipeFits n1 d v past
-    → carries d past ≡ Data → may_leave d (wire past) ≡ true → left d past ≡ given d past
+    → lets_leave (carries d past) ≡ true → may_leave d (wire past) ≡ true → left d past ≡ given d past
 
 -- the next frame of data: of what waits as many octets as N1 allows
 abbrev pub next_data : ℕ → Pipe → Frame
@@ -62,7 +63,7 @@ next_data n1 v = written Initiator Uih v.watch.dlci (take n1 v.lane.to_go)
 
 -- a frame of data is at hand to leave
 pub record MayLeave (v : Pipe) : Type 0 where
-  pub carries_data : is_data_mode v.lane.carries ≡ true
+  pub lets : lets_leave v.lane.carries ≡ true
   pub may : SaysMayLeave v.watch true
   pub some : (length v.lane.to_go == 0) ≡ false
 
@@ -123,8 +124,8 @@ HasUnread v = (n1 d : ℕ) (past : List Pass) → PipeFits n1 d v past → (carr
 unfoldable pub IsShut : Pipe → Type 0
 IsShut v = (n1 d : ℕ) (past : List Pass) → PipeFits n1 d v past → is_open Initiator d (wire past) ≡ false
 
-unfoldable pub HasNoData : Pipe → Type 0
-HasNoData v = (n1 d : ℕ) (past : List Pass) → PipeFits n1 d v past → ¬ (carries d past ≡ Data)
+unfoldable pub TakesNone : Pipe → Type 0
+TakesNone v = (n1 d : ℕ) (past : List Pass) → PipeFits n1 d v past → takes_given (carries d past) ≡ false
 
 -- this is due to be said of the flow, or nothing is
 unfoldable pub SaysFlow : Pipe → Option Bool → Type 0

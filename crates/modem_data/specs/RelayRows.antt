@@ -5,7 +5,8 @@ use Rattle.mux_frame.specs.declared.frame.Kind.TheVariants.{Sabm, Ua, Disc, Uih}
 use Rattle.mux_station.specs.declared.role.Role.TheVariants.{Initiator, Responder}
 use Rattle.mux_frame.specs.Spelling.{spelled}
 use Rattle.mux_station.specs.Written.{written}
-use Rattle.modem_data.specs.Switching.{Data, Idle}
+use Rattle.modem_data.specs.declared.begin.Begin.TheVariants.{AtOnce, ByConnect, ByPrompt}
+use Rattle.modem_data.specs.Switching.{Data, Idle, Owes, lets_leave, takes_given, is_behind_lines}
 use Rattle.modem_data.specs.Watching.{may_leave}
 use Rattle.modem_data.specs.Passing.{Came, Went, Flowed, Left, Lost, Began, EndedLane, wire, carries, data_came, holds, driver_holds, flow_by, flow_frame}
 use Rattle.modem_data.specs.PipeSets.{comes_before, turn_of}
@@ -32,7 +33,7 @@ abbrev pub opened : List Hop
 opened = Passed (Came (ua 2)) ∷ Passed (Went (sabm 2)) ∷ Passed (Came (ua 1)) ∷ Passed (Went (sabm 1)) ∷ Passed (Came (ua 0)) ∷ Passed (Went (sabm 0)) ∷ []
 
 abbrev pub armed : List Hop
-armed = Passed (Began 2 true) ∷ opened
+armed = Passed (Began 2 ByConnect) ∷ opened
 
 abbrev pub connect : List ℕ
 connect = codes "CONNECT" ++ (13 ∷ 10 ∷ [])
@@ -53,7 +54,7 @@ pub record RelaysSo : Type 0 where
   -- then a frame of data on 2 is nothing to the driver
   pub no_lines : for_driver (Passed (Came (says 2 (13 ∷ 10 ∷ []))) ∷ between armed) ≡ for_driver (between armed)
   -- with data at once, the first octets that come are data
-  pub at_once : data_came 2 (passes (Passed (Came (says 2 (65 ∷ 13 ∷ []))) ∷ Passed (Began 2 false) ∷ opened)) ≡ 65 ∷ 13 ∷ []
+  pub at_once : data_came 2 (passes (Passed (Came (says 2 (65 ∷ 13 ∷ []))) ∷ Passed (Began 2 AtOnce) ∷ opened)) ≡ 65 ∷ 13 ∷ []
   -- data goes to the line between two frames of the driver's
   pub between_two : for_line (Passed (Went (told 1 (65 ∷ []))) ∷ Passed (Left (told 2 (1 ∷ 2 ∷ []))) ∷ Passed (Went (told 1 (66 ∷ []))) ∷ []) ≡ told 1 (66 ∷ []) ∷ told 2 (1 ∷ 2 ∷ []) ∷ told 1 (65 ∷ []) ∷ []
   -- behind a DISC of 2 that went, one of 0, or a loss, no data may leave, and the lane is over
@@ -93,6 +94,56 @@ pub record RelaysSo : Type 0 where
   pub round_first : comes_before 1 2 0 ≡ true
   pub past_the_last : comes_before 3 0 1 ≡ true
   pub not_past_it : comes_before 3 1 0 ≡ false
+
+-- ## A lane by prompt
+
+abbrev pub prompted : List Hop
+prompted = Passed (Began 2 ByPrompt) ∷ opened
+
+-- CR LF and the prompt, cut between its two octets
+abbrev pub half : List Hop
+half = Passed (Came (says 2 (13 ∷ 10 ∷ 62 ∷ []))) ∷ prompted
+
+abbrev pub asked : List Hop
+asked = Passed (Came (says 2 (32 ∷ []))) ∷ half
+
+-- a `>` alone in its line
+abbrev pub one_mark : List Hop
+one_mark = Passed (Came (says 2 (62 ∷ []))) ∷ prompted
+
+abbrev pub error : List ℕ
+error = 13 ∷ 10 ∷ codes "+CMS ERROR: 304" ++ (13 ∷ 10 ∷ [])
+
+pub record PromptsBySo : Type 0 where
+  -- the prompt goes nowhere, wherever it is cut; the lines before and behind it go on
+  pub cut_there : for_driver asked ≡ for_driver opened ++ says 2 (13 ∷ 10 ∷ []) ∷ []
+  pub in_one : for_driver (Passed (Came (says 2 (13 ∷ 10 ∷ 62 ∷ 32 ∷ 13 ∷ 10 ∷ 79 ∷ []))) ∷ prompted) ≡ for_driver opened ++ (says 2 (13 ∷ 10 ∷ []) ∷ says 2 (13 ∷ 10 ∷ 79 ∷ []) ∷ [])
+  pub behind_it : for_driver (Passed (Came (says 2 (13 ∷ 62 ∷ 32 ∷ []))) ∷ asked) ≡ for_driver asked ++ says 2 (13 ∷ 62 ∷ 32 ∷ []) ∷ []
+  pub no_data : data_came 2 (passes (Passed (Came (says 2 (13 ∷ 62 ∷ 32 ∷ []))) ∷ asked)) ≡ []
+  -- a text may be given before the prompt and behind it, and leave behind it alone; no command may go then
+  pub none_before : lets_leave (carries 2 (passes half)) ≡ false
+  pub then_it_may : lets_leave (carries 2 (passes asked)) ≡ true
+  pub given_before : takes_given (carries 2 (passes half)) ≡ true
+  pub given_behind : takes_given (carries 2 (passes asked)) ≡ true
+  pub command_before : is_behind_lines (carries 2 (passes half)) ≡ false
+  pub none_behind : is_behind_lines (carries 2 (passes asked)) ≡ true
+  -- a `>` that isn't the prompt's goes on before what comes, in a frame of its own
+  pub a_line : for_driver (Passed (Came (says 2 (65 ∷ 13 ∷ []))) ∷ one_mark) ≡ for_driver opened ++ (says 2 (62 ∷ []) ∷ says 2 (65 ∷ 13 ∷ []) ∷ [])
+  -- a final code in place of the prompt goes on, and no text may leave
+  pub refused : for_driver (Passed (Came (says 2 error)) ∷ prompted) ≡ for_driver opened ++ says 2 error ∷ []
+  pub none_then : lets_leave (carries 2 (passes (Passed (EndedLane 2) ∷ Passed (Came (says 2 error)) ∷ prompted))) ≡ false
+  -- the lane is ended while a `>` is held back: it goes on before what comes, and the lane is over with that
+  pub owed : carries 2 (passes (Passed (EndedLane 2) ∷ one_mark)) ≡ Owes
+  pub none_owed : takes_given (carries 2 (passes (Passed (EndedLane 2) ∷ one_mark))) ≡ false
+  pub paid : for_driver (Passed (Came (says 2 (32 ∷ 65 ∷ []))) ∷ Passed (EndedLane 2) ∷ one_mark) ≡ for_driver opened ++ (says 2 (62 ∷ []) ∷ says 2 (32 ∷ 65 ∷ []) ∷ [])
+  pub then_over : carries 2 (passes (Passed (Came (says 2 (32 ∷ 65 ∷ []))) ∷ Passed (EndedLane 2) ∷ one_mark)) ≡ Idle
+  -- without one it is over at once
+  pub ended_before : carries 2 (passes (Passed (EndedLane 2) ∷ prompted)) ≡ Idle
+  pub ended_behind : carries 2 (passes (Passed (EndedLane 2) ∷ asked)) ≡ Idle
+  -- where the opening ends its unfinished line does, and the `>` with it
+  pub closed : carries 2 (passes (Passed (Went (disc 2)) ∷ one_mark)) ≡ Idle
+  pub closed_owed : carries 2 (passes (Passed (Went (disc 2)) ∷ Passed (EndedLane 2) ∷ one_mark)) ≡ Idle
+  pub lost : carries 2 (passes (Passed Lost ∷ one_mark)) ≡ Idle
 
 -- a DISC of the driver's that was taken and hasn't gone: no data may leave
 abbrev pub DiscWaits : Type 0

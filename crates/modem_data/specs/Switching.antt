@@ -1,37 +1,66 @@
 -- Where a connection turns from lines to data: behind the end of the first line CONNECT (V.250, 5.7.1, 6.3.1; 27.007,
--- 10.1.12).
-use Rattle.std.specs.Prelude.{◌≡◌, ◌⊎◌, ℕ, ◌-◌, ◌≤◌, drop, slice_index, ◌==◌, ◌&&◌, ◌||◌, nat_eq, Bool, true, false, List, [], ◌∷◌, ◌++◌, length, if◌then◌else◌, codes}
+-- 10.1.12). Where it turns to a text that is asked for: behind the first prompt (27.005, 3.3.1, 3.5.1).
+use Rattle.std.specs.Prelude.{◌≡◌, ◌⊎◌, ℕ, ◌-◌, ◌≤◌, take, drop, slice_index, ◌==◌, ◌&&◌, ◌||◌, not, nat_eq, Bool, true, false, List, [], ◌∷◌, ◌++◌, length, Option, Some, None, ◌<◌, if◌then◌else◌, codes}
 use Rattle.std.specs.List.{list_any, starts_with}
 use Rattle.std.specs.Str.{bytes_eq}
 use Rattle.at_text.specs.Octets.{begins}
-use Rattle.at_text.specs.Lines.{lines, kept_run}
+use Rattle.at_text.specs.Lines.{is_line_end, lines, kept_run}
+use Rattle.modem_data.specs.declared.switch.LineCut.{LineCut}
+use Rattle.modem_data.specs.Prompts.{may_prompt, is_mark, before_prompt, behind_prompt, mark_if}
 
 -- the line says that data follows: CONNECT, alone or with a blank and a text behind it
 abbrev pub is_connect : List ℕ → Bool
 is_connect line = bytes_eq line (codes "CONNECT") || starts_with nat_eq line (codes "CONNECT ")
 
 -- how a connection stands: it carries nothing but the driver's; or lines come, and of the one that hasn't ended this is kept;
--- or a CONNECT line has just ended by this octet; or data comes
+-- or a CONNECT line has just ended by this octet; or data comes. With a prompt: lines come, and the next octet begins one or
+-- doesn't; or a `>` that begins a line has come, and is held back; or the prompt has come, and lines come; or the lane was
+-- ended while a `>` was held back, which goes before what comes next.
 pub data Carries : Type 0 where
   Idle : Carries
   Lines : (kept : List ℕ) → Carries
   Ended : (by : ℕ) → Carries
   Data : Carries
+  Prompts : (starts : Bool) → Carries
+  Marked : Carries
+  Sends : Carries
+  Owes : Carries
 
--- data comes
-abbrev pub is_data_mode : Carries → Bool
-is_data_mode Data = true
-is_data_mode _ = false
+-- what was given may leave: as data, or as the text that is asked for
+abbrev pub lets_leave : Carries → Bool
+lets_leave Data = true
+lets_leave Sends = true
+lets_leave _ = false
+
+-- octets may be given: data, or a text before its prompt too
+abbrev pub takes_given : Carries → Bool
+takes_given Data = true
+takes_given (Prompts starts) = true
+takes_given Marked = true
+takes_given Sends = true
+takes_given _ = false
 
 abbrev pub is_idle : Carries → Bool
 is_idle Idle = true
 is_idle _ = false
 
--- the CONNECT line has ended: what comes is data, and data may go once some came
+-- the CONNECT line has ended, data came at once, or the prompt has come: what goes is data or a text, and no command
 abbrev pub is_behind_lines : Carries → Bool
 is_behind_lines (Ended by) = true
 is_behind_lines Data = true
+is_behind_lines Sends = true
 is_behind_lines _ = false
+
+-- the prompt has come
+abbrev pub has_prompt : Carries → Bool
+has_prompt Sends = true
+has_prompt _ = false
+
+-- how it stands where the lane is ended by a call
+abbrev pub ended_by_call : Carries → Carries
+ended_by_call Marked = Owes
+ended_by_call Owes = Owes
+ended_by_call _ = Idle
 
 -- an octet ends a CONNECT line
 abbrev pub connects : List ℕ → ℕ → Bool
@@ -45,11 +74,48 @@ lines_from kept [] = []
 lines_from kept (c ∷ text) =
     if connects kept c then c ∷ [] else c ∷ lines_from (kept_run (kept ++ c ∷ [])) text
 
+-- a `>` that was held back and is the driver's after all
+abbrev pub released : Carries → List ℕ → List ℕ
+released Marked text = mark_if (not (may_prompt text))
+released Owes (c ∷ text) = 62 ∷ []
+released _ text = []
+
+-- those before a CONNECT line's end or a prompt; all, where there is neither
+abbrev pub before_of : Carries → List ℕ → List ℕ
+before_of Idle text = text
+before_of (Lines kept) text = lines_from kept text
+before_of (Ended by) text = []
+before_of Data text = []
+before_of (Prompts starts) text = before_prompt starts text
+before_of Marked text = if may_prompt text then [] else before_prompt false text
+before_of Sends text = text
+before_of Owes text = text
+
+-- those behind a prompt
+abbrev pub behind_of : Carries → List ℕ → List ℕ
+behind_of (Prompts starts) text = behind_prompt starts text
+behind_of Marked text = if may_prompt text then drop 1 text else behind_prompt false text
+behind_of _ text = []
+
+-- all of them, in their order
 abbrev pub lines_of : Carries → List ℕ → List ℕ
-lines_of Idle text = text
-lines_of (Lines kept) text = lines_from kept text
-lines_of (Ended by) text = []
-lines_of Data text = []
+lines_of m text = released m text ++ (before_of m text ++ behind_of m text)
+
+-- a cut says so of some octets: whether a `>` goes before them, how many of the first are lines, and from which on they are again
+pub record IsCut (cut : LineCut) (m : Carries) (text : List ℕ) : Type 0 where
+  pub mark : mark_if cut.is_marked ≡ released m text
+  pub before : take cut.before text ≡ before_of m text
+  pub behind : drop cut.behind text ≡ behind_of m text
+
+-- a cut's places are within so many octets, in their order, and a `>` goes before some
+pub record IsFew (cut : LineCut) (count : ℕ) : Type 0 where
+  pub before : cut.before ≤ cut.behind
+  pub behind : cut.behind ≤ count
+  pub some : cut.is_marked ≡ true → 0 < count
+
+abbrev pub IsWithin : Option LineCut → (count : ℕ) → Type 0
+IsWithin None count = Unit {0}
+IsWithin (Some cut) count = IsFew cut count
 
 -- ## The octets of data
 
@@ -68,6 +134,7 @@ data_of Idle text = []
 data_of (Lines kept) text = data_from kept text
 data_of (Ended by) text = behind_end by text
 data_of Data text = text
+data_of _ text = []
 
 -- ## How it stands then
 
@@ -80,11 +147,29 @@ carries_from kept [] = Lines kept
 carries_from kept (c ∷ text) =
     if connects kept c then behind c text else carries_from (kept_run (kept ++ c ∷ [])) text
 
+-- behind a `>` that may be the prompt's
+abbrev pub marked : List ℕ → Carries
+marked [] = Marked
+marked (c ∷ text) = Sends
+
+abbrev pub carries_prompt : (starts : Bool) → List ℕ → Carries
+carries_prompt starts [] = Prompts starts
+carries_prompt starts (c ∷ text) = if is_mark starts c text then marked text else carries_prompt (is_line_end c) text
+
+-- what is owed goes before the next octets
+abbrev pub owed : List ℕ → Carries
+owed [] = Owes
+owed (c ∷ text) = Idle
+
 abbrev pub carries_after : Carries → List ℕ → Carries
 carries_after Idle text = Idle
 carries_after (Lines kept) text = carries_from kept text
 carries_after (Ended by) text = behind by text
 carries_after Data text = Data
+carries_after (Prompts starts) text = carries_prompt starts text
+carries_after Marked text = if may_prompt text then marked text else carries_prompt false text
+carries_after Sends text = Sends
+carries_after Owes text = owed text
 
 -- ## What it comes to
 

@@ -1,11 +1,12 @@
 //! What a connection carries, and its data on both ways.
-ghost use Rattle.std.specs.Prelude.{◌≡◌, ◌≤◌, ◌+◌, ◌-◌, ◌++◌, [], length, take, drop, min, not, IfOk, OnErr};
-ghost use Rattle.modem_data.specs.Switching.{is_behind_lines, is_data_mode, is_idle};
-ghost use Rattle.modem_data.specs.DataLanes.{begun_lane, ended_lane, new_lane, most_to_go, TakesInfo};
+ghost use Rattle.std.specs.Prelude.{◌≡◌, ◌≤◌, ◌<◌, ◌+◌, ◌-◌, ◌++◌, [], length, take, drop, min, true, IfOk, OnErr};
+ghost use Rattle.modem_data.specs.Switching.{is_behind_lines, lets_leave, takes_given, is_idle};
+ghost use Rattle.modem_data.specs.DataLanes.{begun_lane, ended_lane, left_lane, new_lane, most_to_go, TakesInfo};
 ghost use Rattle.modem_data.specs.Passing.{begin_of};
 
+use crate::begin::Begin;
 use crate::octets::Octets;
-use crate::switch::Switch;
+use crate::switch::{LineCut, Switch};
 use std::alloc::{AllocError, Global};
 use std::marker::Model;
 
@@ -44,14 +45,14 @@ impl DataLane {
         })
     }
 
-    /// A lane begins: data comes behind the next CONNECT line, or at once. What was given before isn't sent.
-    pub fn begin(&mut self, by_connect: bool)
-        ensures { self.new ≡ begun_lane self.old (begin_of by_connect) }
+    /// A lane begins: by a CONNECT line, by a prompt, or at once. What was given before isn't sent.
+    pub fn begin(&mut self, how: Begin)
+        ensures { self.new ≡ begun_lane self.old (begin_of how) }
     {
-        if by_connect {
-            self.switch.to_lines();
-        } else {
-            self.switch.to_data();
+        match how {
+            Begin::AtOnce => self.switch.to_data(),
+            Begin::ByConnect => self.switch.to_lines(),
+            Begin::ByPrompt => self.switch.to_prompt(),
         }
         self.to_go.clear();
     }
@@ -63,11 +64,25 @@ impl DataLane {
         self.switch.to_idle();
     }
 
-    /// Whether data may leave.
-    pub fn carries_data(&self) -> bool
-        ensures { result ≡ is_data_mode self.now.carries }
+    /// The lane is ended by a call. A `>` that is held back goes before what comes next.
+    pub fn leave(&mut self)
+        ensures { self.new ≡ left_lane self.old }
     {
-        self.switch.is_data()
+        self.switch.end();
+    }
+
+    /// Whether what was given may leave.
+    pub fn lets_leave(&self) -> bool
+        ensures { result ≡ lets_leave self.now.carries }
+    {
+        self.switch.lets_leave()
+    }
+
+    /// Whether octets may be given.
+    pub fn takes_given(&self) -> bool
+        ensures { result ≡ takes_given self.now.carries }
+    {
+        self.switch.takes_given()
     }
 
     /// Whether no lane is under way.
@@ -77,18 +92,20 @@ impl DataLane {
         self.switch.is_idle()
     }
 
-    /// Whether the CONNECT line has ended, or data came from the beginning on.
+    /// Whether the CONNECT line has ended, data came from the beginning on, or the prompt has come.
     pub fn is_behind_lines(&self) -> bool
         ensures { result ≡ is_behind_lines self.now.carries }
     {
         self.switch.is_behind_lines()
     }
 
-    /// Takes a frame's information: says how many of the first octets are lines, and keeps the data behind them. Refusal:
-    /// no memory, which changes nothing. Memory is asked for only where the kept data has no room.
-    pub fn take(&mut self, info: &[u8]) -> Result<usize, AllocError>
-        ensures takes { IfOk result (λ count. TakesInfo self.old self.new info.now count) }
-        ensures few { IfOk result (λ count. count ≤ length info.now) }
+    /// Takes a frame's information: says which octets are lines, and keeps the data behind them. Refusal: no memory, which
+    /// changes nothing. Memory is asked for only where the kept data has no room.
+    pub fn take(&mut self, info: &[u8]) -> Result<LineCut, AllocError>
+        ensures takes { IfOk result (λ cut. TakesInfo self.old self.new info.now cut) }
+        ensures few { IfOk result (λ cut. cut.before ≤ cut.behind) }
+        ensures behind { IfOk result (λ cut. cut.behind ≤ length info.now) }
+        ensures some { IfOk result (λ cut. cut.is_marked ≡ true → 0 < length info.now) }
         ensures err { OnErr result (self.new ≡ self.old) }
     {
         self.came.reserve(info.len())?;

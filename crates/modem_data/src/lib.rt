@@ -5,9 +5,10 @@
 //!
 //! - `relay`, `octets`, `passing`, `message`: frames that pass. `pipe_set`: the connections that carry data.
 //! - `pipe`: one of them. Under it `lane` has its data, `switch` where data begins, `watch` whether it may send.
-//! - `error`, `laws`.
+//! - `begin`, `error`, `laws`.
 #![tactic(auto)]
 
+mod begin;
 mod error;
 mod lane;
 pub mod laws;
@@ -20,6 +21,7 @@ mod relay;
 mod switch;
 mod watch;
 
+pub use begin::Begin;
 pub use error::DataError;
 pub use lane::MOST_TO_GO;
 pub use pipe::{Pipe, Reading};

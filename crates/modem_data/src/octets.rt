@@ -147,6 +147,7 @@ impl Octets {
         requires room { self.old.len + (length frame.info.now + 7) ≤ self.old.capacity }
         ensures written { self.new.items ≡ self.old.items ++ spelled (frame_of frame.entry) }
         ensures some { 0 < length self.new.items }
+        ensures len { self.new.len ≤ self.old.len + (length frame.entry.info.now + 7) }
         ensures capacity { self.old.capacity ≤ self.new.capacity }
     {
         write(frame, n1, &mut self.octets);

@@ -1,11 +1,15 @@
 //! Frames that pass between the line and a driver.
-ghost use Rattle.std.specs.Prelude.{◌≡◌, ◌≢◌, ◌==◌, ◌++◌, ◌≤◌, ◌<◌, ◌+◌, [], length, take, true, false, None, Some, IfOk, OnErr};
+ghost use Rattle.std.specs.Prelude.{◌≡◌, ◌≢◌, ◌==◌, ◌++◌, ◌≤◌, ◌<◌, ◌+◌, [], length, take, flat_map, true, false, None, Some, IfOk, OnErr};
 ghost use Rattle.mux_frame.specs.Frames.{frame_of};
-ghost use Rattle.mux_frame.specs.Spelling.{most_info};
+ghost use Rattle.mux_frame.specs.Spelling.{most_info, spelled};
+ghost use Rattle.modem_data.specs.Switching.{IsWithin};
 ghost use Rattle.modem_data.specs.Handing.{PassesIn, PassesOut, PassesOver, handed};
+ghost use Rattle.modem_data.specs.Hops.{with_lines};
+ghost use Rattle.modem_data.specs.Prompts.{mark_if};
 
 use crate::octets::Octets;
 use crate::pipe_set::Pipes;
+use crate::switch::LineCut;
 use mux_frame::{Deframer, FrameView};
 use std::alloc::AllocError;
 
@@ -21,19 +25,16 @@ fn first(octets: &[u8], count: usize) -> &[u8]
     }
 }
 
-/// Writes what of a frame goes on to the driver. Requires that there is room.
-#[tactic(auto, using(crate::proofs::Handed::put_lines))]
-fn hand_on(frame: FrameView<'_>, count: Option<usize>, n1: u16, to_driver: &mut Octets)
-    requires short { length frame.info.now ≤ most_info n1 frame.kind }
+/// Writes lines of a frame's information, where there are any, in a frame of their own. Requires that there is room.
+#[tactic(auto, using(crate::proofs::Handed::put_some))]
+fn put_lines(frame: FrameView<'_>, lines: &[u8], n1: u16, to_driver: &mut Octets)
+    requires short { length lines.now ≤ most_info n1 frame.kind }
     requires bound { n1 ≤ 32767 }
-    requires room { to_driver.old.len + (length frame.info.now + 7) ≤ to_driver.old.capacity }
-    ensures { to_driver.new.items ≡ to_driver.old.items ++ handed (frame_of frame.entry) count }
+    requires room { to_driver.old.len + (length lines.now + 7) ≤ to_driver.old.capacity }
+    ensures put { to_driver.new.items ≡ to_driver.old.items ++ flat_map spelled (with_lines (frame_of frame.entry) lines.now) }
+    ensures len { to_driver.new.len ≤ to_driver.old.len + (length lines.now + 7) }
+    ensures capacity { to_driver.old.capacity ≤ to_driver.new.capacity }
 {
-    let Some(count) = count else {
-        to_driver.put_frame(frame, n1);
-        return;
-    };
-    let lines = first(frame.info, count);
     if lines.is_empty() {
         return;
     }
@@ -42,6 +43,31 @@ fn hand_on(frame: FrameView<'_>, count: Option<usize>, n1: u16, to_driver: &mut 
         ..frame
     };
     to_driver.put_frame(view, n1);
+}
+
+/// A `>` that was held back, or nothing.
+fn mark_of(is_marked: bool) -> &'static [u8]
+    ensures { result.now ≡ mark_if is_marked }
+{
+    if is_marked { b">" } else { b"" }
+}
+
+/// Writes what of a frame goes on to the driver. Requires that there is room.
+#[tactic(auto, using(crate::proofs::Handed::all_lines))]
+fn hand_on(frame: FrameView<'_>, cut: Option<LineCut>, n1: u16, to_driver: &mut Octets)
+    requires short { length frame.info.now ≤ most_info n1 frame.kind }
+    requires bound { n1 ≤ 32767 }
+    requires within { IsWithin cut (length frame.info.now) }
+    requires room { to_driver.old.len + (length frame.info.now + 22) ≤ to_driver.old.capacity }
+    ensures { to_driver.new.items ≡ to_driver.old.items ++ handed (frame_of frame.entry) cut }
+{
+    let Some(cut) = cut else {
+        to_driver.put_frame(frame, n1);
+        return;
+    };
+    put_lines(frame, mark_of(cut.is_marked), n1, to_driver);
+    put_lines(frame, first(frame.info, cut.before), n1, to_driver);
+    put_lines(frame, &frame.info[cut.behind..], n1, to_driver);
 }
 
 /// Passes the frame at hand, if there is one: to the driver, but for data of the pipes. Says whether there was one. Refusal: no
@@ -70,9 +96,9 @@ pub(crate) fn pass_in(
     let Some(frame) = deframer.peek() else {
         return Ok(false);
     };
-    to_driver.reserve(frame.info.len() + 7)?;
-    let count = pipes.came(frame)?;
-    hand_on(frame, count, n1, to_driver);
+    to_driver.reserve(frame.info.len() + 22)?;
+    let cut = pipes.came(frame)?;
+    hand_on(frame, cut, n1, to_driver);
     deframer.advance();
     Ok(true)
 }

@@ -7,12 +7,15 @@ ghost use Rattle.mux_station.specs.Written.{is_on};
 ghost use Rattle.modem_data.specs.declared.error.DataError.{DataError};
 ghost use Rattle.modem_data.specs.declared.error.DataError.TheVariants as error;
 ghost use Rattle.modem_data.specs.DataLanes.{most_to_go};
+ghost use Rattle.modem_data.specs.Switching.{IsWithin};
 ghost use Rattle.modem_data.specs.Passing.{Came, Went, Flowed, Left, Lost, Began, EndedLane, Gave, Read, flow_by};
-ghost use Rattle.modem_data.specs.Pipes.{BeginsPipe, HandsOn, HasNoneToSend, HasNoData, IsShut, Leads, LeadsLeft, SaysBehind, SaysFlow, SaysLane, SaysOver, HasUnread, MayLeave, next_data, saw_pipe, sent_pipe, flowed_pipe, lost_pipe};
+ghost use Rattle.modem_data.specs.Pipes.{BeginsPipe, HandsOn, HasNoneToSend, TakesNone, IsShut, Leads, LeadsLeft, SaysBehind, SaysFlow, SaysLane, SaysOver, HasUnread, MayLeave, next_data, saw_pipe, sent_pipe, flowed_pipe, lost_pipe};
 
+use crate::begin::Begin;
 use crate::error::DataError;
 use crate::lane::DataLane;
 use crate::octets::Octets;
+use crate::switch::LineCut;
 use crate::watch::Watch;
 use mux_frame::{Dlci, FrameView, Kind};
 use std::alloc::{AllocError, Global};
@@ -67,12 +70,12 @@ impl Pipe {
         self.watch.dlci()
     }
 
-    /// Begins a lane, in the present opening or, while the connection is shut, in the next. Data comes behind its next CONNECT
-    /// line where `by_connect` is set, else at once. Refused with 7 UnderWay where a lane is under way, and else with 8 Unread
-    /// where data of the last one wasn't read.
+    /// Begins a lane, in the present opening or, while the connection is shut, in the next: at once, by its next CONNECT line or by
+    /// its next prompt. Refused with 7 UnderWay where a lane is under way, and else with 8 Unread where data of the last one
+    /// wasn't read.
     #[tactic(auto, using(crate::proofs::PipeCalls::leads_began, crate::proofs::PipeCalls::a_lane_is, crate::proofs::PipeCalls::has_unread))]
-    pub fn begin(&mut self, by_connect: bool) -> Result<(), DataError>
-        ensures leads { OnOk result (Leads self.old self.new (Began self.old.watch.dlci by_connect)) }
+    pub fn begin(&mut self, how: Begin) -> Result<(), DataError>
+        ensures leads { OnOk result (Leads self.old self.new (Began self.old.watch.dlci how)) }
         ensures under_way { result ≡ Err error.UnderWay → SaysLane self.old true }
         ensures unread { result ≡ Err error.Unread → HasUnread self.old }
         ensures others { OnErr result ((result ≡ Err error.UnderWay) ⊎ (result ≡ Err error.Unread)) }
@@ -85,20 +88,21 @@ impl Pipe {
         if self.lane.waiting() != 0 {
             return Err(DataError::Unread);
         }
-        self.lane.begin(by_connect);
+        self.lane.begin(how);
         Ok(())
     }
 
-    /// Ends the lane, from the next frame on: lines come and go again. What was given and hasn't left isn't sent.
+    /// Ends the lane, from the next frame on: lines come and go again. What was given and hasn't left isn't sent. Where a `>` is held
+    /// back, it goes before the next octets, and the lane is over with these.
     #[tactic(auto, using(crate::proofs::PipeCalls::leads_ended))]
     pub fn lines(&mut self)
         ensures leads { Leads self.old self.new (EndedLane self.old.watch.dlci) }
         ensures same { self.new.watch ≡ self.old.watch }
     {
-        self.lane.end();
+        self.lane.leave();
     }
 
-    /// Whether data is under way: the lane's CONNECT line has ended, or its data came at once.
+    /// Whether data is under way: the lane's CONNECT line has ended, its data came at once, or its prompt has come.
     #[tactic(auto, using(crate::proofs::PipeCalls::says_behind))]
     pub fn is_behind_lines(&self) -> bool
         ensures { SaysBehind self.now result }
@@ -106,12 +110,13 @@ impl Pipe {
         self.lane.is_behind_lines()
     }
 
-    /// A frame came from the line. Of information on a lane, says how many of the first octets are lines, for the driver, and
-    /// keeps the data behind them. `None`: all of the frame is the driver's. Refusal: no memory, which changes nothing. Memory
-    /// is asked for only where the kept data has no room.
-    pub fn came(&mut self, frame: FrameView<'_>) -> Result<Option<usize>, AllocError>
+    /// A frame came from the line. Of information on a lane, says which octets are lines, for the driver, and keeps the data. `None`:
+    /// all of the frame is the driver's. Refusal: no memory, which changes nothing. Memory is asked for only where the kept data has
+    /// no room.
+    pub fn came(&mut self, frame: FrameView<'_>) -> Result<Option<LineCut>, AllocError>
         ensures leads { OnOk result (Leads self.old self.new (Came (frame_of frame.entry))) }
-        ensures hands { IfOk result (λ count. HandsOn self.old (frame_of frame.entry) count) }
+        ensures hands { IfOk result (λ cut. HandsOn self.old (frame_of frame.entry) cut) }
+        ensures within { IfOk result (λ cut. IsWithin cut (length frame.entry.info.now)) }
         ensures err { OnErr result (self.new ≡ self.old) }
     {
         if self.watch.is_own_info(frame) {
@@ -121,13 +126,14 @@ impl Pipe {
         Ok(None)
     }
 
-    /// Information on the connection came. Of a lane says how many of the first octets are lines, for the driver; any other is
-    /// the driver's. Refusal: no memory, which changes nothing. Memory is asked for only where the kept data has no room.
+    /// Information on the connection came. Of a lane says which octets are lines, for the driver; any other is the driver's. Refusal:
+    /// no memory, which changes nothing. Memory is asked for only where the kept data has no room.
     #[tactic(auto, using(crate::proofs::Pipes::leads_info, crate::proofs::Pipes::leads_shut, crate::proofs::Pipes::leads_idle, crate::proofs::Pipes::hands_lines, crate::proofs::Pipes::hands_shut, crate::proofs::Pipes::hands_idle))]
-    pub(crate) fn info(&mut self, frame: FrameView<'_>) -> Result<Option<usize>, AllocError>
+    pub(crate) fn info(&mut self, frame: FrameView<'_>) -> Result<Option<LineCut>, AllocError>
         requires { is_on Uih self.old.watch.dlci (frame_of frame) ≡ true }
         ensures leads { OnOk result (Leads self.old self.new (Came (frame_of frame.entry))) }
-        ensures hands { IfOk result (λ count. HandsOn self.old (frame_of frame.entry) count) }
+        ensures hands { IfOk result (λ cut. HandsOn self.old (frame_of frame.entry) cut) }
+        ensures within { IfOk result (λ cut. IsWithin cut (length frame.entry.info.now)) }
         ensures err { OnErr result (self.new ≡ self.old) }
         ensures same { self.new.watch ≡ self.old.watch }
     {
@@ -137,8 +143,8 @@ impl Pipe {
         if self.lane.is_idle() {
             return Ok(None);
         }
-        let count = self.lane.take(frame.info)?;
-        Ok(Some(count))
+        let cut = self.lane.take(frame.info)?;
+        Ok(Some(cut))
     }
 
     /// Another frame came.
@@ -211,13 +217,13 @@ impl Pipe {
     }
 
     /// Takes octets to be sent from the front of these, until 4096 wait, and says how many. Refused with 9 NotOpen where the connection
-    /// isn't open, and else with 10 Lines where it doesn't carry data.
-    #[tactic(auto, using(crate::proofs::PipeCalls::leads_gave, crate::proofs::PipeCalls::is_shut, crate::proofs::PipeCalls::has_no_data))]
+    /// isn't open, and else with 10 Lines where it takes none: no lane is under way, or its CONNECT line hasn't ended.
+    #[tactic(auto, using(crate::proofs::PipeCalls::leads_gave, crate::proofs::PipeCalls::is_shut, crate::proofs::PipeCalls::takes_none))]
     pub fn give(&mut self, octets: &[u8]) -> Result<usize, DataError>
         ensures count { IfOk result (λ count. count ≡ min (length octets.now) (most_to_go - length self.old.lane.to_go)) }
         ensures leads { IfOk result (λ count. Leads self.old self.new (Gave self.old.watch.dlci (take count octets.now))) }
         ensures not_open { result ≡ Err error.NotOpen → IsShut self.old }
-        ensures no_data { result ≡ Err error.Lines → HasNoData self.old }
+        ensures takes_none { result ≡ Err error.Lines → TakesNone self.old }
         ensures others { OnErr result ((result ≡ Err error.NotOpen) ⊎ (result ≡ Err error.Lines)) }
         ensures err { OnErr result (self.new ≡ self.old) }
         ensures same { self.new.watch ≡ self.old.watch }
@@ -225,7 +231,7 @@ impl Pipe {
         if !self.watch.is_open() {
             return Err(DataError::NotOpen);
         }
-        if !self.lane.carries_data() {
+        if !self.lane.takes_given() {
             return Err(DataError::Lines);
         }
         Ok(self.lane.give(octets))
@@ -259,8 +265,8 @@ impl Pipe {
         ensures none { result ≡ false → HasNoneToSend self.now }
         ensures some { result ≡ true → MayLeave self.now }
     {
-        let carries_data = self.lane.carries_data();
-        if !carries_data {
+        let lets_leave = self.lane.lets_leave();
+        if !lets_leave {
             return false;
         }
         if !self.watch.may_leave() {

@@ -6,14 +6,16 @@ ghost use Rattle.mux_station.specs.Written.{is_data_frame};
 ghost use Rattle.mux_station.specs.declared.role.Role.TheVariants.{Initiator};
 ghost use Rattle.modem_data.specs.declared.error.DataError.TheVariants as error;
 ghost use Rattle.modem_data.specs.DataLanes.{most_to_go};
-ghost use Rattle.modem_data.specs.Switching.{Idle as idle, Data as in_data, is_behind_lines, is_idle};
+ghost use Rattle.modem_data.specs.Switching.{Idle as idle, IsWithin, is_behind_lines, is_idle, takes_given};
 ghost use Rattle.modem_data.specs.Passing.{Came, Went, Flowed, Lost, Began, EndedLane, Gave, Read, IsDue, IsOver, carries, data_came, data_read, given, left, to_go, unread, wire, flow_frame};
 ghost use Rattle.modem_data.specs.Pipes.{Pipe as Kept, PipeFits, HasNoneToSend, MayLeave, SaysFlow, saw_pipe, sent_pipe, flowed_pipe, lost_pipe};
 ghost use Rattle.modem_data.specs.PipeSets.{AllHand, AllLead, AreApart, BeginsAll, IsAmong, IsTwice, HasPipe, IsFlowOf, IsNext, IsNotData, NoneLeaves, NoneOf, NonesIn, OfEachPast, SomeLeaves, connections, numbers};
 
+use crate::begin::Begin;
 use crate::error::DataError;
 use crate::octets::Octets;
 use crate::pipe::{Pipe, Reading};
+use crate::switch::LineCut;
 use mux_frame::{Dlci, FrameView, Kind};
 use std::alloc::{AllocError, Global};
 use std::marker::Model;
@@ -73,12 +75,13 @@ impl Pipes {
         })
     }
 
-    /// A frame came from the line. Of information on a lane, says how many of the first octets are lines, for the driver, and keeps the
-    /// data behind them. `None`: all of the frame is the driver's. Refusal: no memory, which changes nothing.
+    /// A frame came from the line. Of information on a lane, says which octets are lines, for the driver, and keeps the data. `None`:
+    /// all of the frame is the driver's. Refusal: no memory, which changes nothing.
     #[tactic(auto, using(crate::proofs::PipeSets::all_saw, crate::proofs::PipeSets::control_hands, crate::proofs::PipeSets::none_came, crate::proofs::PipeSets::none_hands, crate::proofs::PipeSets::one_info, crate::proofs::PipeSets::one_hand, crate::proofs::PipeSets::own_info))]
-    pub fn came(&mut self, frame: FrameView<'_>) -> Result<Option<usize>, AllocError>
+    pub fn came(&mut self, frame: FrameView<'_>) -> Result<Option<LineCut>, AllocError>
         ensures leads { OnOk result (AllLead self.old self.new (Came (frame_of frame.entry))) }
-        ensures hands { IfOk result (λ count. AllHand self.old (frame_of frame.entry) count) }
+        ensures hands { IfOk result (λ cut. AllHand self.old (frame_of frame.entry) cut) }
+        ensures within { IfOk result (λ cut. IsWithin cut (length frame.entry.info.now)) }
         ensures err { OnErr result (self.new ≡ self.old) }
     {
         if !is_data_frame(frame) {
@@ -109,8 +112,8 @@ impl Pipes {
 
     /// Begins a lane of a connection, as `Pipe::begin` does. Refused with 6 NotData where there is no pipe of it.
     #[tactic(auto, using(crate::proofs::PipeSetCalls::one_began, crate::proofs::PipeSetCalls::not_data, crate::proofs::PipeSetCalls::under_way_at, crate::proofs::PipeSetCalls::unread_at))]
-    pub fn begin(&mut self, dlci: Dlci, by_connect: bool) -> Result<(), DataError>
-        ensures began { OnOk result (AllLead self.old self.new (Began dlci.number by_connect)) }
+    pub fn begin(&mut self, dlci: Dlci, how: Begin) -> Result<(), DataError>
+        ensures began { OnOk result (AllLead self.old self.new (Began dlci.number how)) }
         ensures has { OnOk result (HasPipe self.old dlci.number) }
         ensures not_data { result ≡ Err error.NotData → IsNotData self.old dlci.number }
         ensures under_way { result ≡ Err error.UnderWay → OfEachPast self.old (λ past. is_idle (carries dlci.number past) ≡ false) }
@@ -122,7 +125,7 @@ impl Pipes {
         let Some(place) = place_of(&self.each, dlci) else {
             return Err(DataError::NotData);
         };
-        self.each[place].begin(by_connect)
+        self.each[place].begin(how)
     }
 
     /// Ends the lane of a connection, as `Pipe::lines` does. Refused with 6 NotData where there is no pipe of it.
@@ -167,14 +170,14 @@ impl Pipes {
     }
 
     /// Takes the first octets to be sent, as `Pipe::give` does. Refused with 6 NotData where there is no pipe of it.
-    #[tactic(auto, using(crate::proofs::PipeSetCalls::one_gave, crate::proofs::PipeSetCalls::not_data, crate::proofs::PipeSetCalls::gives_at, crate::proofs::PipeSetCalls::shut_at, crate::proofs::PipeSetCalls::no_data_at))]
+    #[tactic(auto, using(crate::proofs::PipeSetCalls::one_gave, crate::proofs::PipeSetCalls::not_data, crate::proofs::PipeSetCalls::gives_at, crate::proofs::PipeSetCalls::shut_at, crate::proofs::PipeSetCalls::takes_none_at))]
     pub fn give(&mut self, dlci: Dlci, octets: &[u8]) -> Result<usize, DataError>
         ensures count { IfOk result (λ count. OfEachPast self.old (λ past.
             count ≡ min (length octets.now) (most_to_go - (length (given dlci.number past) - length (left dlci.number past))))) }
         ensures leads { IfOk result (λ count. AllLead self.old self.new (Gave dlci.number (take count octets.now))) }
         ensures not_data { result ≡ Err error.NotData → IsNotData self.old dlci.number }
         ensures not_open { result ≡ Err error.NotOpen → OfEachPast self.old (λ past. is_open Initiator dlci.number (wire past) ≡ false) }
-        ensures no_data { result ≡ Err error.Lines → OfEachPast self.old (λ past. ¬ (carries dlci.number past ≡ in_data)) }
+        ensures takes_none { result ≡ Err error.Lines → OfEachPast self.old (λ past. takes_given (carries dlci.number past) ≡ false) }
         ensures others { OnErr result ((result ≡ Err error.NotData) ⊎ ((result ≡ Err error.NotOpen) ⊎ (result ≡ Err error.Lines))) }
         ensures err { OnErr result (self.new ≡ self.old) }
     {

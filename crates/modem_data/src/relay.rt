@@ -4,11 +4,12 @@ ghost use Rattle.mux_station.specs.Opening.{is_open};
 ghost use Rattle.mux_station.specs.declared.role.Role.TheVariants.{Initiator};
 ghost use Rattle.modem_data.specs.declared.error.DataError.TheVariants as error;
 ghost use Rattle.modem_data.specs.DataLanes.{most_to_go};
-ghost use Rattle.modem_data.specs.Switching.{Idle as idle, Data as in_data, is_behind_lines, is_idle};
+ghost use Rattle.modem_data.specs.Switching.{Idle as idle, is_behind_lines, is_idle, takes_given};
 ghost use Rattle.modem_data.specs.Passing.{Came, Went, Flowed, Left, Lost, Began, EndedLane, Gave, Read, IsDue, IsOver, carries, data_came, data_read, given, left, to_go, unread, wire, flow_frame};
 ghost use Rattle.modem_data.specs.PipeSets.{IsAmong, IsNotData, IsTwice, NoneLeaves, OfEachPast, numbers};
 ghost use Rattle.modem_data.specs.Hops.{Fed, Handed, Took, Wrote, Passed, Hops, HopsBy, BeginsRelay, AllCame, HoldsNothing, LineIn, PassesOn, DriverOut, OneOut};
 
+use crate::begin::Begin;
 use crate::error::DataError;
 use crate::octets::Octets;
 use crate::passing::{pass_in, pass_out};
@@ -21,7 +22,8 @@ use std::marker::Model;
 
 /// A relay between a line and a driver: it passes the frames of each on to the other, but for data.
 ///
-/// - `new` names the connections that may carry data. `begin` begins a lane on one, at once or behind the next CONNECT; `lines` ends it.
+/// - `new` names the connections that may carry data. `begin` begins a lane on one, at once, behind the next CONNECT or behind the next
+///   prompt; `lines` ends it.
 /// - Hand what the line gave to `from_line`. Give the driver what `for_driver` lends, and say by `handed` how much.
 /// - Where `wants_driver` says so, hand the driver's octets to `feed_driver`. While `ready` says so, write what `for_line` lends,
 ///   and say by `wrote` how much.
@@ -98,11 +100,11 @@ impl Relay {
         })
     }
 
-    /// Begins a lane of a connection, in the present opening or, while the connection is shut, in the next. Data comes behind
-    /// its next CONNECT line where `by_connect` is set, else at once. Refused, in this order: 6 NotData where `new` didn't name
-    /// the connection; 7 UnderWay where a lane is under way; 8 Unread where data of the last one wasn't read.
-    pub fn begin(&mut self, dlci: Dlci, by_connect: bool) -> Result<(), DataError>
-        ensures began { OnOk result (Hops self.old self.new (Passed (Began dlci.number by_connect))) }
+    /// Begins a lane of a connection, in the present opening or, while the connection is shut, in the next: at once, by its next
+    /// CONNECT line or by its next prompt. Refused, in this order: 6 NotData where `new` didn't name the connection; 7 UnderWay where
+    /// a lane is under way; 8 Unread where data of the last one wasn't read.
+    pub fn begin(&mut self, dlci: Dlci, how: Begin) -> Result<(), DataError>
+        ensures began { OnOk result (Hops self.old self.new (Passed (Began dlci.number how))) }
         ensures not_data { result ≡ Err error.NotData → IsNotData self.old.pipes dlci.number }
         ensures under_way { result ≡ Err error.UnderWay → OfEachPast self.old.pipes (λ past. is_idle (carries dlci.number past) ≡ false) }
         ensures unread { result ≡ Err error.Unread → OfEachPast self.old.pipes (λ past.
@@ -110,11 +112,13 @@ impl Relay {
         ensures others { OnErr result ((result ≡ Err error.NotData) ⊎ ((result ≡ Err error.UnderWay) ⊎ (result ≡ Err error.Unread))) }
         ensures err { OnErr result (self.new ≡ self.old) }
     {
-        self.pipes.begin(dlci, by_connect)
+        self.pipes.begin(dlci, how)
     }
 
     /// Ends the lane of a connection, if there is one. From the next frame on lines come and go again. What was given and hasn't left
-    /// isn't sent; what came stays readable. Refused with 6 NotData where `new` didn't name the connection.
+    /// isn't sent; what came stays readable. Of a lane by prompt a `>` may be held back, which may have been the prompt's: it goes to
+    /// the driver before the next octets, and the lane is over with these. Refused with 6 NotData where `new` didn't name the
+    /// connection.
     pub fn lines(&mut self, dlci: Dlci) -> Result<(), DataError>
         ensures ended { OnOk result (Hops self.old self.new (Passed (EndedLane dlci.number))) }
         ensures not_data { OnErr result ((result ≡ Err error.NotData) × IsNotData self.old.pipes dlci.number) }
@@ -123,7 +127,7 @@ impl Relay {
         self.pipes.lines(dlci)
     }
 
-    /// Whether data is under way on a connection: the lane's CONNECT line has ended, or its data came at once.
+    /// Whether data is under way on a connection: the lane's CONNECT line has ended, its data came at once, or its prompt has come.
     pub fn is_behind_lines(&self, dlci: Dlci) -> bool
         ensures { OfEachPast self.now.pipes (λ past. result ≡ is_behind_lines (carries dlci.number past)) }
     {
@@ -152,15 +156,17 @@ impl Relay {
         self.pipes.read(dlci, room)
     }
 
-    /// Takes octets to be sent as data from the front of these, until 4096 wait, and says how many. Refused, in this order: 6 NotData
-    /// where `new` didn't name the connection; 9 NotOpen where it isn't open; 10 Lines where it doesn't carry data.
+    /// Takes octets to be sent as data from the front of these, until 4096 wait, and says how many. Of a lane by prompt they are the
+    /// text, with the octet that ends it (1A, or 1B to give up): they leave behind the prompt. Refused, in this order: 6 NotData where
+    /// `new` didn't name the connection; 9 NotOpen where it isn't open; 10 Lines where no lane is under way, or its CONNECT line hasn't
+    /// ended.
     pub fn give(&mut self, dlci: Dlci, octets: &[u8]) -> Result<usize, DataError>
         ensures count { IfOk result (λ count. OfEachPast self.old.pipes (λ past.
             count ≡ min (length octets.now) (most_to_go - (length (given dlci.number past) - length (left dlci.number past))))) }
         ensures gave { IfOk result (λ count. Hops self.old self.new (Passed (Gave dlci.number (take count octets.now)))) }
         ensures not_data { result ≡ Err error.NotData → IsNotData self.old.pipes dlci.number }
         ensures not_open { result ≡ Err error.NotOpen → OfEachPast self.old.pipes (λ past. is_open Initiator dlci.number (wire past) ≡ false) }
-        ensures no_data { result ≡ Err error.Lines → OfEachPast self.old.pipes (λ past. ¬ (carries dlci.number past ≡ in_data)) }
+        ensures takes_none { result ≡ Err error.Lines → OfEachPast self.old.pipes (λ past. takes_given (carries dlci.number past) ≡ false) }
         ensures others { OnErr result ((result ≡ Err error.NotData) ⊎ ((result ≡ Err error.NotOpen) ⊎ (result ≡ Err error.Lines))) }
         ensures err { OnErr result (self.new ≡ self.old) }
     {

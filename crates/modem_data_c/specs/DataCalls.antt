@@ -1,5 +1,7 @@
 -- What calls from C do, said of the relay that is held.
 use Rattle.std.specs.Prelude.{◌≡◌, ◌⊎◌, ℕ, ◌<◌, List, [], length, Option, None, Some, slice_index_or}
+use Rattle.modem_data.specs.declared.begin.Begin.{Begin}
+use Rattle.modem_data.specs.declared.begin.Begin.TheVariants.{AtOnce, ByConnect, ByPrompt}
 use Rattle.modem_data.specs.PipeSets.{IsAmong, IsTwice}
 use Rattle.modem_data.specs.Hops.{Relay, Hops, Wrote, OneOut}
 use Rattle.modem_data_c.specs.declared.held_data.CimbalotyData.{CimbalotyData}
@@ -19,6 +21,18 @@ Keeps c p = HoldsRelay (relay_of c) p
 -- a relay was held before, one is held now, and this is true of the two
 abbrev pub Becomes : (old new : CimbalotyData) → (Relay → Relay → Type 0) → Type 0
 Becomes old new p = Keeps old (λ r. Keeps new (p r))
+
+-- how a lane begins, as a number
+abbrev pub begin_number : Begin → ℕ
+begin_number AtOnce = 0
+begin_number ByConnect = 1
+begin_number ByPrompt = 2
+
+-- this is true of the beginning that has this number
+pub record BeginsBy (how : ℕ) (p : Begin → Type 0) : Type 0 where
+  pub begin : Begin
+  pub numbered : how ≡ begin_number begin
+  pub true_of_it : p begin
 
 -- one of these numbers is above 61
 pub record HasHigh (octets : List ℕ) : Type 0 where

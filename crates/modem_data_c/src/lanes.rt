@@ -1,23 +1,38 @@
 //! Lanes, and their data.
-ghost use Rattle.std.specs.Prelude.{◌≡◌, ◌≢◌, ◌⊎◌, ◌↔◌, ◌<◌, ◌≤◌, ◌-◌, Bool, length, take, drop, min, true, false, None};
+ghost use Rattle.std.specs.Prelude.{◌≡◌, ◌≢◌, ◌⊎◌, ◌↔◌, ◌<◌, ◌≤◌, ◌-◌, Bool, length, take, drop, min, true, false, IfSome, None};
 ghost use Rattle.mux_station.specs.Opening.{is_open};
 ghost use Rattle.mux_station.specs.declared.role.Role.TheVariants.{Initiator};
-ghost use Rattle.modem_data.specs.Switching.{Idle as idle, Data as in_data, is_idle};
+ghost use Rattle.modem_data.specs.Switching.{Idle as idle, is_idle, takes_given};
 ghost use Rattle.modem_data.specs.DataLanes.{most_to_go};
 ghost use Rattle.modem_data.specs.Passing.{Began, EndedLane, Gave, Read, Lost, IsOver, carries, data_came, data_read, given, left, to_go, unread, wire};
 ghost use Rattle.modem_data.specs.PipeSets.{IsNotData, OfEachPast};
 ghost use Rattle.modem_data.specs.Hops.{Hops, Passed};
-ghost use Rattle.modem_data_c.specs.DataCalls.{Becomes, Keeps, relay_of};
+ghost use Rattle.modem_data_c.specs.DataCalls.{Becomes, BeginsBy, Keeps, begin_number, relay_of};
 
 use crate::held_data::CimbalotyData;
-use crate::numbers::{BAD_DLCI, LINES, NO_RELAY, NOT_DATA, NOT_OPEN, OK, UNDER_WAY, UNREAD};
-use modem_data::Relay;
+use crate::numbers::{
+    BAD_BEGIN, BAD_DLCI, LINES, NO_RELAY, NOT_DATA, NOT_OPEN, OK, UNDER_WAY, UNREAD,
+};
+use modem_data::{Begin, Relay};
 use mux_frame::Dlci;
 use std::alloc::Global;
 
+/// How a lane begins, by its number.
+fn begin_of(how: u8) -> Option<Begin>
+    ensures known { IfSome result (λ b. how ≡ begin_number b) }
+    ensures unknown { result ≡ None → 2 < how }
+{
+    match how {
+        0 => Some(Begin::AtOnce),
+        1 => Some(Begin::ByConnect),
+        2 => Some(Begin::ByPrompt),
+        _ => None,
+    }
+}
+
 /// Begins a lane of a connection.
-fn begin(relay: &mut Relay, dlci: u8, by_connect: bool) -> u8
-    ensures ok { result ≡ OK → Hops relay.old relay.new (Passed (Began dlci by_connect)) }
+fn begin(relay: &mut Relay, dlci: u8, how: Begin) -> u8
+    ensures ok { result ≡ OK → Hops relay.old relay.new (Passed (Began dlci how)) }
     ensures bad { (result ≡ BAD_DLCI) ↔ (61 < dlci) }
     ensures not_data { result ≡ NOT_DATA → IsNotData relay.old.pipes dlci }
     ensures under_way { result ≡ UNDER_WAY → OfEachPast relay.old.pipes (λ past. is_idle (carries dlci past) ≡ false) }
@@ -29,34 +44,39 @@ fn begin(relay: &mut Relay, dlci: u8, by_connect: bool) -> u8
     let Some(dlci) = Dlci::new(dlci) else {
         return BAD_DLCI;
     };
-    match relay.begin(dlci, by_connect) {
+    match relay.begin(dlci, how) {
         Ok(()) => OK,
         Err(why) => why.number(),
     }
 }
 
-/// Begins a lane. Data comes behind the next CONNECT line where `by_connect` is set, else at once.
+/// Begins a lane: 0 at once, 1 by a CONNECT line, 2 by a prompt.
 #[unsafe(no_mangle)]
 pub extern "C" fn cimbaloty_data_begin(
     alloc: Global,
     d: &mut CimbalotyData,
     dlci: u8,
-    by_connect: bool,
+    how: u8,
 ) -> u8
-    ensures ok { result ≡ OK → Becomes d.old d.new (λ r s. Hops r s (Passed (Began dlci by_connect))) }
-    ensures bad { relay_of d.old ≢ None → ((result ≡ BAD_DLCI) ↔ (61 < dlci)) }
+    ensures ok { result ≡ OK → BeginsBy how (λ b. Becomes d.old d.new (λ r s. Hops r s (Passed (Began dlci b)))) }
+    ensures bad_begin { (result ≡ BAD_BEGIN) ↔ (2 < how) }
+    ensures bad { how ≤ 2 → relay_of d.old ≢ None → ((result ≡ BAD_DLCI) ↔ (61 < dlci)) }
     ensures not_data { result ≡ NOT_DATA → Keeps d.old (λ r. IsNotData r.pipes dlci) }
     ensures under_way { result ≡ UNDER_WAY → Keeps d.old (λ r. OfEachPast r.pipes (λ past. is_idle (carries dlci past) ≡ false)) }
     ensures unread { result ≡ UNREAD → Keeps d.old (λ r. OfEachPast r.pipes (λ past.
         (carries dlci past ≡ idle) × (data_read dlci past ≢ data_came dlci past))) }
-    ensures no_relay { (result ≡ NO_RELAY) ↔ (relay_of d.old ≡ None) }
+    ensures no_relay { how ≤ 2 → ((result ≡ NO_RELAY) ↔ (relay_of d.old ≡ None)) }
     ensures refused { result ≢ OK → relay_of d.new ≡ relay_of d.old }
-    ensures others { result ≢ OK → result ≢ BAD_DLCI → result ≢ NOT_DATA → result ≢ UNDER_WAY → result ≢ NO_RELAY → result ≡ UNREAD }
+    ensures others { result ≢ OK → result ≢ BAD_BEGIN → result ≢ BAD_DLCI → result ≢ NOT_DATA → result ≢ UNDER_WAY → result ≢ NO_RELAY
+        → result ≡ UNREAD }
 {
+    let Some(how) = begin_of(how) else {
+        return BAD_BEGIN;
+    };
     let Some(mut relay) = d.take(alloc) else {
         return NO_RELAY;
     };
-    let answer = begin(&mut relay, dlci, by_connect);
+    let answer = begin(&mut relay, dlci, how);
     *d = CimbalotyData::of(relay);
     answer
 }
@@ -180,7 +200,7 @@ fn give(relay: &mut Relay, dlci: u8, octets: &[u8], taken: &mut usize) -> u8
     ensures bad { (result ≡ BAD_DLCI) ↔ (61 < dlci) }
     ensures not_data { result ≡ NOT_DATA → IsNotData relay.old.pipes dlci }
     ensures not_open { result ≡ NOT_OPEN → OfEachPast relay.old.pipes (λ past. is_open Initiator dlci (wire past) ≡ false) }
-    ensures no_data { result ≡ LINES → OfEachPast relay.old.pipes (λ past. ¬ (carries dlci past ≡ in_data)) }
+    ensures takes_none { result ≡ LINES → OfEachPast relay.old.pipes (λ past. takes_given (carries dlci past) ≡ false) }
     ensures refused { result ≢ OK → relay.new ≡ relay.old }
     ensures same { result ≢ OK → taken.new ≡ taken.old }
     ensures others { result ≢ OK → result ≢ BAD_DLCI → result ≢ NOT_DATA → result ≢ NOT_OPEN → result ≡ LINES }
@@ -212,7 +232,7 @@ pub extern "C" fn cimbaloty_data_give_at(
     ensures bad { relay_of d.old ≢ None → ((result ≡ BAD_DLCI) ↔ (61 < dlci)) }
     ensures not_data { result ≡ NOT_DATA → Keeps d.old (λ r. IsNotData r.pipes dlci) }
     ensures not_open { result ≡ NOT_OPEN → Keeps d.old (λ r. OfEachPast r.pipes (λ past. is_open Initiator dlci (wire past) ≡ false)) }
-    ensures no_data { result ≡ LINES → Keeps d.old (λ r. OfEachPast r.pipes (λ past. ¬ (carries dlci past ≡ in_data))) }
+    ensures takes_none { result ≡ LINES → Keeps d.old (λ r. OfEachPast r.pipes (λ past. takes_given (carries dlci past) ≡ false)) }
     ensures no_relay { (result ≡ NO_RELAY) ↔ (relay_of d.old ≡ None) }
     ensures refused { result ≢ OK → relay_of d.new ≡ relay_of d.old }
     ensures same { result ≢ OK → taken.new ≡ taken.old }

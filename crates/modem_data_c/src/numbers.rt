@@ -29,3 +29,6 @@ pub const HAS_RELAY: u8 = 17;
 
 /// A connection is 0 to 61.
 pub const BAD_DLCI: u8 = 18;
+
+/// A lane begins at once, by a CONNECT line or by a prompt: 0 to 2.
+pub const BAD_BEGIN: u8 = 19;

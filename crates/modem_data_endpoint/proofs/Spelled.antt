@@ -1,5 +1,5 @@
 -- Frames that are read have spellings, and so have those that are due to a driver.
-use Rattle.std.specs.Prelude.{◌≡◌, ℕ, ◌≤◌, ◌==◌, ◌&&◌, not, Bool, true, false, List, [], ◌∷◌, ◌++◌, length, refl, if◌then◌else◌}
+use Rattle.std.specs.Prelude.{◌≡◌, ℕ, ◌≤◌, ◌==◌, ◌&&◌, not, Bool, true, false, List, [], ◌∷◌, ◌++◌, drop, length, refl, if◌then◌else◌}
 use Rattle.std.proofs.Common.{arith, lit<}
 use Rattle.std.proofs.lemmas.Bool.{and_parts}
 use Rattle.std.proofs.lemmas.List.Elements.{All-append, All-cons, All-head, All-nil, All-tail}
@@ -15,10 +15,11 @@ use Rattle.mux_frame.proofs.readings.ComputedReadings.{octets_both, total_readin
 use Rattle.mux_station.specs.declared.role.Role.TheVariants.{Initiator}
 use Rattle.mux_station.specs.Opening.{is_open}
 use Rattle.mux_station.specs.Written.{is_kind}
-use Rattle.at_text.specs.Lines.{kept_run}
-use Rattle.modem_data.specs.Switching.{Carries, Idle, Lines, Ended, Data, is_idle, lines_of, lines_from, connects}
+use Rattle.at_text.specs.Lines.{is_line_end, kept_run}
+use Rattle.modem_data.specs.Prompts.{before_prompt, behind_prompt, is_mark, mark_if, may_prompt}
+use Rattle.modem_data.specs.Switching.{Carries, Idle, Lines, Ended, Data, Prompts, Marked, Sends, Owes, is_idle, released, before_of, behind_of, lines_from, connects}
 use Rattle.modem_data.specs.Passing.{Pass, Came, Went, Flowed, Left, Lost, Began, EndedLane, Gave, Read, is_data, is_info, carries, wire}
-use Rattle.modem_data.specs.Hops.{Hop, Fed, Handed, Took, Wrote, Passed, due, with_lines, for_driver, came, passes}
+use Rattle.modem_data.specs.Hops.{Hop, Fed, Handed, Took, Wrote, Passed, due, line_frames, with_lines, for_driver, came, passes}
 use Rattle.modem_data_endpoint.specs.Beside.{AreSpelled}
 
 -- ## Frames that are read
@@ -53,11 +54,68 @@ few_from kept (c ∷ text) = at (connects kept c) (few_from (kept_run (kept ++ c
     at true h = omega arith
     at false h = omega (arith, h)
 
-few_lines : (m : Carries) (text : List ℕ) → length (lines_of m text) ≤ length text
-few_lines Idle text = omega arith
-few_lines (Lines kept) text = few_from kept text
-few_lines (Ended by) text = omega arith
-few_lines Data text = omega arith
+few_before : (starts : Bool) (text : List ℕ) → length (before_prompt starts text) ≤ length text
+few_before starts [] = omega arith
+few_before starts (c ∷ text) = at (is_mark starts c text) (few_before (is_line_end c) text)
+  where
+    at : (b : Bool) → length (before_prompt (is_line_end c) text) ≤ length text → length (if b then [] else c ∷ before_prompt (is_line_end c) text) ≤ length (c ∷ text)
+    at true h = omega arith
+    at false h = omega (arith, h)
+
+few_dropped : (text : List ℕ) → length (drop 1 text) ≤ length text
+few_dropped [] = omega arith
+few_dropped (c ∷ text) = omega arith
+
+few_behind : (starts : Bool) (text : List ℕ) → length (behind_prompt starts text) ≤ length text
+few_behind starts [] = omega arith
+few_behind starts (c ∷ text) = at (is_mark starts c text) (few_behind (is_line_end c) text)
+  where
+    at : (b : Bool) → length (behind_prompt (is_line_end c) text) ≤ length text → length (if b then drop 1 text else behind_prompt (is_line_end c) text) ≤ length (c ∷ text)
+    at true h = let few = few_dropped text in omega (arith, few)
+    at false h = omega (arith, h)
+
+none : (text : List ℕ) → length {A = ℕ} [] ≤ length text
+none text = omega arith
+
+few_if : (b : Bool) (x y text : List ℕ) → length x ≤ length text → length y ≤ length text → length (if b then x else y) ≤ length text
+few_if true x y text h k = h
+few_if false x y text h k = k
+
+few_released : (m : Carries) (text : List ℕ) → length (released m text) ≤ length text
+few_released Idle text = none text
+few_released (Lines kept) text = none text
+few_released (Ended by) text = none text
+few_released Data text = none text
+few_released (Prompts starts) text = none text
+few_released Marked [] = none []
+few_released Marked (c ∷ text) = at (c == 32)
+  where
+    at : (b : Bool) → length (mark_if (not b)) ≤ length (c ∷ text)
+    at true = omega arith
+    at false = omega arith
+few_released Sends text = none text
+few_released Owes [] = none []
+few_released Owes (c ∷ text) = omega arith
+
+few_first : (m : Carries) (text : List ℕ) → length (before_of m text) ≤ length text
+few_first Idle text = omega arith
+few_first (Lines kept) text = few_from kept text
+few_first (Ended by) text = none text
+few_first Data text = none text
+few_first (Prompts starts) text = few_before starts text
+few_first Marked text = few_if (may_prompt text) [] (before_prompt false text) text (none text) (few_before false text)
+few_first Sends text = omega arith
+few_first Owes text = omega arith
+
+few_last : (m : Carries) (text : List ℕ) → length (behind_of m text) ≤ length text
+few_last Idle text = none text
+few_last (Lines kept) text = none text
+few_last (Ended by) text = none text
+few_last Data text = none text
+few_last (Prompts starts) text = few_behind starts text
+few_last Marked text = few_if (may_prompt text) (drop 1 text) (behind_prompt false text) text (few_dropped text) (few_behind false text)
+few_last Sends text = none text
+few_last Owes text = none text
 
 most_uih : (n1 n m : ℕ) (k : Kind) → is_kind k Uih ≡ true → n ≤ m → m ≤ most_info n1 k → (n ≤ most_info n1 k) × (n ≤ n1)
 most_uih n1 n m Sabm e few fits = cc
@@ -74,14 +132,22 @@ lines_spelled n1 f (c ∷ text) high h k few =
     let g : Frame = record f { info = c ∷ text } in
     All-cons (HasSpelling n1) g [] (record { octets = body_of g; spells = spells_body n1 g h.spells.dlci fits.0 (omega (arith, low, high)) }) (All-nil (HasSpelling n1))
 
+frames_spelled : (n1 : ℕ) (f : Frame) (m : Carries) → n1 ≤ 32767 → HasSpelling n1 f → is_kind f.kind Uih ≡ true → AreSpelled n1 (line_frames m f)
+frames_spelled n1 f m high h k =
+    let x = released m f.info in
+    let y = before_of m f.info in
+    let z = behind_of m f.info in
+    All-append (HasSpelling n1) (with_lines f x) (with_lines f y ++ with_lines f z) (lines_spelled n1 f x high h k (few_released m f.info))
+    (All-append (HasSpelling n1) (with_lines f y) (with_lines f z) (lines_spelled n1 f y high h k (few_first m f.info)) (lines_spelled n1 f z high h k (few_last m f.info)))
+
 due_spelled : (n1 : ℕ) (p : List Pass) (f : Frame) → n1 ≤ 32767 → HasSpelling n1 f → AreSpelled n1 (due p f)
 due_spelled n1 p f high h = at (is_data f.dlci p f) refl
   where
-    at : (b : Bool) → is_data f.dlci p f ≡ b → AreSpelled n1 (if b then with_lines f (lines_of (carries f.dlci p) f.info) else f ∷ [])
+    at : (b : Bool) → is_data f.dlci p f ≡ b → AreSpelled n1 (if b then line_frames (carries f.dlci p) f else f ∷ [])
     at true e =
         let info = (and_parts (is_info f.dlci p f) (not (is_idle (carries f.dlci p))) e).0 in
         let on = (and_parts (is_kind f.kind Uih && (f.dlci == f.dlci)) (is_open Initiator f.dlci (wire p)) info).0 in
-        lines_spelled n1 f (lines_of (carries f.dlci p) f.info) high h (and_parts (is_kind f.kind Uih) (f.dlci == f.dlci) on).0 (few_lines (carries f.dlci p) f.info)
+        frames_spelled n1 f (carries f.dlci p) high h (and_parts (is_kind f.kind Uih) (f.dlci == f.dlci) on).0
     at false e = All-cons (HasSpelling n1) f [] h (All-nil (HasSpelling n1))
 
 pub all_due_spelled : (n1 : ℕ) (hops : List Hop) → n1 ≤ 32767 → AreSpelled n1 (came hops) → AreSpelled n1 (for_driver hops)

@@ -4,19 +4,19 @@ ghost use Rattle.mux_station.specs.Opening.{is_open};
 ghost use Rattle.mux_station.specs.declared.role.Role.TheVariants.{Initiator};
 ghost use Rattle.modem_data.specs.declared.error.DataError.TheVariants as error;
 ghost use Rattle.modem_data.specs.DataLanes.{most_to_go};
-ghost use Rattle.modem_data.specs.Switching.{Idle as idle, Data as in_data, is_idle};
+ghost use Rattle.modem_data.specs.Switching.{Idle as idle, is_idle, takes_given};
 ghost use Rattle.modem_data.specs.Passing.{Began, EndedLane, Gave, Read, IsOver, carries, data_came, data_read, to_go, unread, wire};
 ghost use Rattle.modem_data.specs.PipeSets.{IsNotData, OfEachPast};
 ghost use Rattle.modem_data.specs.Hops.{Hops, Passed};
 
 use crate::data_endpoint::DataEndpoint;
-use modem_data::{DataError, Reading};
+use modem_data::{Begin, DataError, Reading};
 use mux_frame::Dlci;
 
 impl DataEndpoint {
     /// Begins a lane of a connection, as `Relay::begin` does.
-    pub fn begin(&mut self, dlci: Dlci, by_connect: bool) -> Result<(), DataError>
-        ensures began { OnOk result (Hops self.old.relay self.new.relay (Passed (Began dlci.number by_connect))) }
+    pub fn begin(&mut self, dlci: Dlci, how: Begin) -> Result<(), DataError>
+        ensures began { OnOk result (Hops self.old.relay self.new.relay (Passed (Began dlci.number how))) }
         ensures not_data { result ≡ Err error.NotData → IsNotData self.old.relay.pipes dlci.number }
         ensures under_way { result ≡ Err error.UnderWay → OfEachPast self.old.relay.pipes (λ past. is_idle (carries dlci.number past) ≡ false) }
         ensures unread { result ≡ Err error.Unread → OfEachPast self.old.relay.pipes (λ past.
@@ -24,7 +24,7 @@ impl DataEndpoint {
         ensures err { OnErr result (self.new ≡ self.old) }
         ensures beside { self.new.endpoint ≡ self.old.endpoint }
     {
-        self.relay.begin(dlci, by_connect)
+        self.relay.begin(dlci, how)
     }
 
     /// Ends the lane of a connection, as `Relay::lines` does.
@@ -57,7 +57,7 @@ impl DataEndpoint {
         ensures gave { IfOk result (λ count. Hops self.old.relay self.new.relay (Passed (Gave dlci.number (take count octets.now)))) }
         ensures not_data { result ≡ Err error.NotData → IsNotData self.old.relay.pipes dlci.number }
         ensures not_open { result ≡ Err error.NotOpen → OfEachPast self.old.relay.pipes (λ past. is_open Initiator dlci.number (wire past) ≡ false) }
-        ensures no_data { result ≡ Err error.Lines → OfEachPast self.old.relay.pipes (λ past. ¬ (carries dlci.number past ≡ in_data)) }
+        ensures takes_none { result ≡ Err error.Lines → OfEachPast self.old.relay.pipes (λ past. takes_given (carries dlci.number past) ≡ false) }
         ensures err { OnErr result (self.new ≡ self.old) }
         ensures beside { self.new.endpoint ≡ self.old.endpoint }
     {

@@ -4,7 +4,7 @@ ghost use Rattle.mux_station.specs.Opening.{is_open};
 ghost use Rattle.mux_station.specs.declared.role.Role.TheVariants.{Initiator};
 ghost use Rattle.modem_data.specs.declared.error.DataError.TheVariants as error;
 ghost use Rattle.modem_data.specs.DataLanes.{most_to_go};
-ghost use Rattle.modem_data.specs.Switching.{Idle as idle, Data as in_data, is_behind_lines, is_idle};
+ghost use Rattle.modem_data.specs.Switching.{Idle as idle, is_behind_lines, is_idle, takes_given};
 ghost use Rattle.modem_data.specs.Passing.{Began, EndedLane, Gave, Read, IsOver, carries, data_came, data_read, given, left, to_go, unread, wire};
 ghost use Rattle.modem_data.specs.PipeSets.{IsNotData, OfEachPast};
 ghost use Rattle.modem_data.specs.Hops.{Hops, Passed};
@@ -13,14 +13,14 @@ ghost use Rattle.modem_data_line.specs.DataLines.{LeadsBy, may_go, may_pass};
 ghost use Rattle.modem_data_line.specs.Moving.{IsLostBy, NothingGoes};
 
 use crate::data_line::DataLine;
-use modem_data::{DataError, Reading};
+use modem_data::{Begin, DataError, Reading};
 use mux_frame::Dlci;
 use serial_line::SerialLine;
 
 impl<L: SerialLine> DataLine<L> {
     /// Begins a lane of a connection, as `Relay::begin` does.
-    pub fn begin(&mut self, dlci: Dlci, by_connect: bool) -> Result<(), DataError>
-        ensures began { OnOk result (Hops self.old.relay self.new.relay (Passed (Began dlci.number by_connect))) }
+    pub fn begin(&mut self, dlci: Dlci, how: Begin) -> Result<(), DataError>
+        ensures began { OnOk result (Hops self.old.relay self.new.relay (Passed (Began dlci.number how))) }
         ensures not_data { result ≡ Err error.NotData → IsNotData self.old.relay.pipes dlci.number }
         ensures under_way { result ≡ Err error.UnderWay → OfEachPast self.old.relay.pipes (λ past. is_idle (carries dlci.number past) ≡ false) }
         ensures unread { result ≡ Err error.Unread → OfEachPast self.old.relay.pipes (λ past.
@@ -28,7 +28,7 @@ impl<L: SerialLine> DataLine<L> {
         ensures err { OnErr result (self.new ≡ self.old) }
         ensures beside { self.new ≡ record self.old { relay = self.new.relay } }
     {
-        self.relay.begin(dlci, by_connect)
+        self.relay.begin(dlci, how)
     }
 
     /// Ends the lane of a connection, as `Relay::lines` does.
@@ -69,7 +69,7 @@ impl<L: SerialLine> DataLine<L> {
         ensures gave { IfOk result (λ count. Hops self.old.relay self.new.relay (Passed (Gave dlci.number (take count octets.now)))) }
         ensures not_data { result ≡ Err error.NotData → IsNotData self.old.relay.pipes dlci.number }
         ensures not_open { result ≡ Err error.NotOpen → OfEachPast self.old.relay.pipes (λ past. is_open Initiator dlci.number (wire past) ≡ false) }
-        ensures no_data { result ≡ Err error.Lines → OfEachPast self.old.relay.pipes (λ past. ¬ (carries dlci.number past ≡ in_data)) }
+        ensures takes_none { result ≡ Err error.Lines → OfEachPast self.old.relay.pipes (λ past. takes_given (carries dlci.number past) ≡ false) }
         ensures others { OnErr result ((result ≡ Err error.NotData) ⊎ ((result ≡ Err error.NotOpen) ⊎ (result ≡ Err error.Lines))) }
         ensures err { OnErr result (self.new ≡ self.old) }
         ensures beside { self.new ≡ record self.old { relay = self.new.relay } }

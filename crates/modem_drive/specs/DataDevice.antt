@@ -6,6 +6,8 @@ use Rattle.at_text.specs.Rules.{Rules}
 use Rattle.modem_desk.specs.declared.settling.Settled.{Settled}
 use Rattle.modem_history.specs.Sessions.{LineView}
 use Rattle.mux_capture.specs.Passing.{CaptureState}
+use Rattle.modem_data.specs.declared.begin.Begin.{Begin}
+use Rattle.modem_data.specs.declared.begin.Begin.TheVariants.{AtOnce, ByConnect}
 use Rattle.data_files.specs.Files.{FileState, FiledState, HasMoved, new_file}
 use Rattle.data_files.specs.Moves.{HadTurns}
 use Rattle.modem_drive.specs.Asking.{NamesRead}
@@ -62,9 +64,14 @@ DroveFilesLine true look received sent gave took empty_reads stalled_writes rule
 
 -- ## On a device
 
+-- how a lane begins: behind a CONNECT line or at once
+abbrev pub begin_of : (by_connect : Bool) → Begin
+begin_of true = ByConnect
+begin_of false = AtOnce
+
 -- a file beside a connection, between two rings, at which nothing has passed
 abbrev pub opened_file : DataPath → FileState StreamState
-opened_file p = new_file p.dlci.number p.by_connect (new_stream None None Ended)
+opened_file p = new_file p.dlci.number (begin_of p.by_connect) (new_stream None None Ended)
 
 abbrev pub opened_files : List DataPath → List (FileState StreamState)
 opened_files data_paths = map (λ p. opened_file p) data_paths

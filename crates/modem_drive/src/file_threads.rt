@@ -1,6 +1,6 @@
 //! The threads of files beside connections that carry data.
 ghost use Rattle.std.specs.Prelude.{◌≡◌, ◌++◌, [], ◌∷◌, IfErr, IfOk, OnOk};
-ghost use Rattle.modem_drive.specs.DataDevice.{IsFileOf, SaysFull, opened_file, opened_files};
+ghost use Rattle.modem_drive.specs.DataDevice.{IsFileOf, SaysFull, begin_of, opened_file, opened_files};
 
 use crate::device::{DeviceThreads, line_beside};
 use crate::fault::DriveFault;
@@ -12,6 +12,7 @@ use crate::settings::DataPath;
 use bell::Bell;
 use data_files::DataFile;
 use device_line::DeviceLine;
+use modem_data::Begin;
 use serial_line::ZeroRead;
 use std::alloc::AllocGlobal;
 use std::fs::File;
@@ -32,6 +33,17 @@ pub struct Refused<'a> {
     pub why: DriveFault,
 }
 
+/// How a lane begins: behind a CONNECT line or at once.
+fn begin_of(by_connect: bool) -> Begin
+    ensures { result ≡ begin_of by_connect }
+{
+    if by_connect {
+        Begin::ByConnect
+    } else {
+        Begin::AtOnce
+    }
+}
+
 /// Opens the file of this path, and has two threads read and write it.
 fn start_file<R>(
     rt: &R,
@@ -44,7 +56,7 @@ where
 {
     let (reader, writer) = open_device(rt, one.path)?;
     let (line, threads) = line_beside(rt, reader, writer, ZeroRead::Quiet, bell)?;
-    let made = DataFile::new(rt.alloc(), one.dlci, one.by_connect, line);
+    let made = DataFile::new(rt.alloc(), one.dlci, begin_of(one.by_connect), line);
     let (file, threads) = beside(made, threads)?;
     Ok((file, threads))
 }

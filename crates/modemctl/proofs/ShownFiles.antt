@@ -1,6 +1,6 @@
 -- What is shown of the files that the words name.
-use Rattle.std.specs.Prelude.{◌≡◌, ℕ, Bool, List, [], ◌==◌, map, Option, None, Some, codes, option_map, refl, true, if◌then◌else◌}
-use Rattle.std.proofs.Common.{ap, sym, ◌∙◌, subst, inr}
+use Rattle.std.specs.Prelude.{◌≡◌, ◌⊎◌, ◌<◌, ◌≤◌, ℕ, Bool, List, [], ◌==◌, map, Option, None, Some, IfSome, codes, length, option_map, refl, true, if◌then◌else◌}
+use Rattle.std.proofs.Common.{⊎_elim, ap, arith, sym, ◌∙◌, subst, inr}
 use Rattle.std.specs.Fmt.{decimal}
 use Rattle.std.specs.Io.Buffered.{reader_buffer, reader_capacity, reader_inner, reader_remaining}
 use Rattle.std.specs.Io.KnownBytes.{prepend_known}
@@ -13,14 +13,16 @@ use Rattle.modem_runs.specs.Statuses.{stop_line}
 use Rattle.modem_runs.specs.declared.stop.Stop.TheVariants as Stop
 use Rattle.modem_runs.proofs.outputs.SaidLines.{begun_line}
 use Rattle.modem_texts.specs.Writing.{IsBegun}
+use Rattle.modem_texts.proofs.Written.{appends_none}
 use Rattle.show_texts.specs.Captures.{HasShown, SaysFault}
 use Rattle.show_texts.specs.Merging.{HasShownUntimed}
+use Rattle.show_texts.specs.Progress.{HasTold, ProgressState, TellsRead}
 use Rattle.show_texts.specs.Telling.{Setting}
 use Rattle.show_texts.specs.declared.run.ShowOptions.{ShowOptions}
 use Rattle.modemctl.specs.Benches.{IsFlag}
 use Rattle.modemctl.specs.Dialects.{IsGivenDialect}
 use Rattle.modemctl.specs.Files.{IsNoText, SaysWhy}
-use Rattle.modemctl.specs.Shows.{AreChannels, AreWantedBy, SaysUnread, SaysUnreadOf, SaysUnshown, ShowsFiles, ShowsWith, closed, cut, no_memory}
+use Rattle.modemctl.specs.Shows.{AreChannels, AreWantedBy, SaysUnread, SaysUnreadOf, SaysUnshown, ShowsFiles, ShowsWith, TellsFiles, TellsShow, closed, cut, no_memory}
 use Rattle.modemctl.specs.declared.words.file_faults.FileFault.TheVariants as FileFault
 
 -- ## The connections of data
@@ -96,3 +98,47 @@ files_unread dialect raw raw_word file path before after status path_is raw_is s
   path_is = sym path_is;
   says = subst (λ (r : Option Text). SaysUnreadOf r path before after status) raw_is says;
 })
+
+-- ## What is told of how much was read
+
+none_told : (p : ProgressState) → HasTold p.shown p 0
+none_told p = record {
+  whole = λ on. appends_none p.shown;
+  begun = record { part = []; left = []; split = refl; appended = appends_none p.shown };
+}
+
+none_within : (input : Option (List ℕ)) → IfSome input (λ all. 0 ≤ length all)
+none_within None = tt
+none_within (Some all) = omega arith
+
+bad : (status : ℕ) → 0 < status → status ≤ 2 → (status ≡ 0) ⊎ (status ≡ 3) → ⊥
+bad status some few good = ⊎_elim (λ (zero : status ≡ 0). omega (arith, some, zero)) (λ (three : status ≡ 3). omega (arith, few, three)) good
+
+-- of a file that isn't read nothing is told
+pub not_read : (input before : Option (List ℕ)) (p : ProgressState) (status : ℕ) → p.shown ≡ before → 0 < status → status ≤ 2 → TellsRead input before p status
+not_read input before p status same some few = record {
+  count = 0;
+  within = none_within input;
+  all = λ good. absurd (bad status some few good);
+  told = subst (λ (o : Option (List ℕ)). HasTold o p 0) same (none_told p);
+}
+
+pub read_of_reader : {T A : Type 0} (remaining : T → Option (List ℕ)) (r : BufReader T A) (inner : T) (before : Option (List ℕ)) (p : ProgressState) (status : ℕ)
+    → reader_inner r ≡ inner → reader_buffer r ≡ [] → reader_capacity r ≡ 8192 → TellsRead (reader_remaining remaining r) before p status → TellsRead (remaining inner) before p status
+read_of_reader remaining r inner before p status e b c h =
+    subst (λ (o : Option (List ℕ)). TellsRead o before p status) (unread remaining r inner 8192 e b c refl) h
+
+pub read_of_file : (file text before : Option (List ℕ)) (p : ProgressState) (status : ℕ) → file ≡ text → TellsRead file before p status → TellsRead text before p status
+read_of_file file text before p status e h = subst (λ (o : Option (List ℕ)). TellsRead o before p status) e h
+
+-- where no file is read, nothing is told
+pub not_shown : (texts : Text → Option (List ℕ)) (raw file : Option Text) (before : Option (List ℕ)) (p : ProgressState) (status : ℕ) → p.shown ≡ before → 0 < status → status ≤ 2
+    → TellsShow texts raw file before p status
+not_shown texts raw None before p status same some few = same
+not_shown texts None (Some path) before p status same some few = not_read (texts path) before p status same some few
+not_shown texts (Some from) (Some path) before p status same some few = same
+
+pub shown_by : (texts : Text → Option (List ℕ)) (raw raw_word file : Option Text) (path : Text) (before : Option (List ℕ)) (p : ProgressState) (status : ℕ) → Some path ≡ file → raw ≡ raw_word
+    → TellsFiles texts raw path before p status → TellsShow texts raw_word file before p status
+shown_by texts raw raw_word file path before p status path_is raw_is tells =
+    subst (λ (f : Option Text). TellsShow texts raw_word f before p status) path_is (subst (λ (r : Option Text). TellsFiles texts r path before p status) raw_is tells)

@@ -11,6 +11,7 @@ use Rattle.modem_texts.specs.Writing.{IsBegun}
 use Rattle.show_texts.specs.Captures.{HasShown, SaysFault}
 use Rattle.show_texts.specs.Merging.{HasShownUntimed}
 use Rattle.show_texts.specs.Options.{setting_by}
+use Rattle.show_texts.specs.Progress.{ProgressState, TellsRead}
 use Rattle.show_texts.specs.declared.run.ShowOptions.{ShowOptions}
 use Rattle.modemctl.specs.Benches.{IsFlag}
 use Rattle.modemctl.specs.Dialects.{IsGivenDialect}
@@ -62,6 +63,18 @@ pub record ShowsWith (texts : Text → Option (List ℕ)) (n1 : ℕ) (m : ArgMat
   pub path : Text
   pub path_is : first_value (found_of m) (codes "file") ≡ Some path
   pub shown : ShowsFiles texts options (first_value (found_of m) (codes "raw")) path before after status
+
+-- ## Progress
+
+-- of the capture in this file it was told, where that is wanted, how much was read; of the octets of both ways nothing is told
+abbrev pub TellsFiles : (texts : Text → Option (List ℕ)) (raw : Option Text) (path : Text) (before : Option (List ℕ)) → ProgressState → (status : ℕ) → Type 0
+TellsFiles texts None path before p status = TellsRead (texts path) before p status
+TellsFiles texts (Some from) path before p status = p.shown ≡ before
+
+-- that was told of the files that the words name
+abbrev pub TellsShow : (texts : Text → Option (List ℕ)) (raw file : Option Text) (before : Option (List ℕ)) → ProgressState → (status : ℕ) → Type 0
+TellsShow texts raw None before p status = p.shown ≡ before
+TellsShow texts raw (Some path) before p status = TellsFiles texts raw path before p status
 
 -- ## Faults
 

@@ -12,6 +12,7 @@ pub use modem_runs::{
 };
 use modem_runs::{Stop, give_up};
 pub use modem_serve::sim_run;
+use show_texts::Progress;
 use std::env;
 use std::io::{ErrorKind, IsTerminal};
 use std::process::ExitCode;
@@ -19,6 +20,9 @@ use std::process::ExitCode;
 fn main(rt: HostRuntime) -> ExitCode {
     let mut faults = rt.stderr();
     let terminal = faults.is_terminal();
+    // On a terminal the output itself shows how far it is.
+    let is_told = terminal && !rt.stdout().is_terminal();
+    let mut progress = Progress::new(rt.stderr(), is_told);
     let arguments = match env::args(&rt) {
         Ok(arguments) => arguments.collect::<Vec<String>>(rt.alloc()),
         Err(error) if error.kind() == ErrorKind::InvalidData => {
@@ -36,6 +40,7 @@ fn main(rt: HostRuntime) -> ExitCode {
             rt.stdin(),
             &mut rt.stdout(),
             &mut faults,
+            &mut progress,
             terminal,
         ),
         Err(_) => give_up(&mut faults, Stop::NoMemory),

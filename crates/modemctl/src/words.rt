@@ -14,7 +14,7 @@ ghost use Rattle.modemctl.specs.Dialects.{IsShut};
 ghost use Rattle.modemctl.specs.Drives.{PrintsDrive};
 ghost use Rattle.modemctl.specs.Files.{NamesCause};
 ghost use Rattle.modemctl.specs.Sims.{FailsClient, HasBadMatched, HasNoCapture, IsNotBegun, LeavesClient, LeavesWith, RefusesClient, SaysBadAnswer, SaysBadStep, ServesClient, ServesWith, files_given, files_matched, number_line};
-ghost use Rattle.modemctl.specs.Shows.{IsShutFile, PrintsShow, SaysUnshown};
+ghost use Rattle.modemctl.specs.Shows.{IsShutFile, PrintsShow, SaysUnshown, TellsShow};
 ghost use Rattle.modemctl.specs.Words.{fault_in, met_in, raw_in, AreFor, AsksNoHelp, HasNoNumber, is_explained};
 
 mod answers;
@@ -45,6 +45,7 @@ use modem_sim::{Script, Steps};
 use modem_texts::say_line;
 use numbers::{Numbers, numbers_of};
 use reasons::wants_reason;
+use show_texts::Progress;
 use showing::show_words;
 use sims::{echo_of, pin_of};
 use std::alloc::{AllocGlobal, Global};
@@ -246,7 +247,7 @@ where
 }
 
 /// Runs the subcommand that a parse met.
-fn run_named<R, I: Read, J, W: Write, E: Write>(
+fn run_named<R, I: Read, J, W: Write, E: Write, P: Write>(
     rt: &R,
     alloc: Global,
     matches: &ArgMatches<'_>,
@@ -254,6 +255,7 @@ fn run_named<R, I: Read, J, W: Write, E: Write>(
     lines: J,
     output: &mut W,
     faults: &mut E,
+    progress: &mut Progress<P>,
     terminal: bool,
 ) -> u8
 where
@@ -329,6 +331,11 @@ where
         ⊎ (IsShutFile (R.is_shut rt.now) (raw_in (subcommand_rows_of matches.now) (codes "file"))
         ⊎ IsShutFile (R.is_shut rt.now) (raw_in (subcommand_rows_of matches.now) (codes "raw")))
         → (0 < result) × ((result ≤ 2) × (output.new ≡ output.old)) }
+    ensures show_read { subcommand_name_of matches.now ≡ Some (codes "show")
+        → TellsShow (R.text_of rt.now) (raw_in (subcommand_rows_of matches.now) (codes "raw"))
+        (raw_in (subcommand_rows_of matches.now) (codes "file")) progress.old.shown progress.new result }
+    ensures untold { progress.old.is_on ≡ false → progress.new ≡ progress.old }
+    ensures others { subcommand_name_of matches.now ≢ Some (codes "show") → progress.new ≡ progress.old }
 {
     let Some((name, given)) = matches.subcommand() else {
         return 2;
@@ -346,15 +353,16 @@ where
         "bench" => bench_plain(rt, alloc, numbers, input, output, faults, explained),
         "sim" => sim_words(rt, alloc, given, numbers.n1, input, output, faults),
         "drive" => drive_words(rt, given, numbers.n1, lines, output, faults),
-        "show" => show_words(rt, alloc, given, numbers.n1, output, faults),
+        "show" => show_words(rt, alloc, given, numbers.n1, output, faults, progress),
         _ => 2,
     }
 }
 
 /// Runs the subcommand that the words name; before them stands the program's own name. Gives the exit status: 0 where it is
 /// done, 1 at a fault, 2 at bad words or a bad line, 3 at a complaint of a strict `show`. `lines` reads the same input from the
-/// thread that `drive` starts. Where `terminal` says that `faults` writes to a terminal, the reason of a fault is said too.
-pub fn run<R, I: Read, J, W: Write, E: Write>(
+/// thread that `drive` starts. Where `terminal` says that `faults` writes to a terminal, the reason of a fault is said too. `show` tells
+/// on `progress` how much of a capture was read.
+pub fn run<R, I: Read, J, W: Write, E: Write, P: Write>(
     rt: &R,
     alloc: Global,
     words: &[String],
@@ -362,6 +370,7 @@ pub fn run<R, I: Read, J, W: Write, E: Write>(
     lines: J,
     output: &mut W,
     faults: &mut E,
+    progress: &mut Progress<P>,
     terminal: bool,
 ) -> u8
 where
@@ -442,13 +451,20 @@ where
         ⊎ (IsShutFile (R.is_shut rt.now) (raw_in (met_in (map string_bytes words.now)) (codes "file"))
         ⊎ IsShutFile (R.is_shut rt.now) (raw_in (met_in (map string_bytes words.now)) (codes "raw")))
         → (0 < result) × ((result ≤ 2) × (output.new ≡ output.old)) }
+    ensures show_read { AreFor (codes "show") (map string_bytes words.now)
+        → TellsShow (R.text_of rt.now) (raw_in (met_in (map string_bytes words.now)) (codes "raw"))
+        (raw_in (met_in (map string_bytes words.now)) (codes "file")) progress.old.shown progress.new result }
+    ensures untold { progress.old.is_on ≡ false → progress.new ≡ progress.old }
+    ensures others { (AreFor (codes "show") (map string_bytes words.now) → ⊥) → progress.new ≡ progress.old }
 {
     let command = match program(alloc) {
         Ok(command) => command,
         Err(_) => return give_up(faults, Stop::NoMemory),
     };
     match command.try_get_matches_from(words) {
-        Ok(matches) => run_named(rt, alloc, &matches, input, lines, output, faults, terminal),
+        Ok(matches) => run_named(
+            rt, alloc, &matches, input, lines, output, faults, progress, terminal,
+        ),
         Err(error) => explain(output, faults, &error, words),
     }
 }

@@ -3,3 +3,4 @@ mod LineEnds
 mod RowFacts
 mod Shown
 mod Merged
+mod Progressing

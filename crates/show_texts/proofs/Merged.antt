@@ -112,17 +112,21 @@ both_printed first last closed wrong to from x y h c e q k =
       is_wrong = q ∙ (c.is_wrong [] h.items fits ∙ ap (λ (s : Setting). has_complaint s h.items) h.setting);
     }
 
+-- frames of both ways, by what a teller that was made for them does
+pub prints_whole : (s : Setting) (t : Teller) (wrong was : Bool) (to from : List Frame) (before after : Option (List ℕ)) → setting_of t ≡ s → TellerFits [] t []
+    → (TellerFits [] t [] → PrintsBoth (setting_of t) was to from before after) → wrong ≡ was → PrintsBoth s wrong to from before after
+prints_whole s t wrong was to from before after same fits p w =
+    subst (λ (x : Setting × Bool). PrintsBoth x.0 x.1 to from before after) (λ i. (same i, sym w i)) (p fits)
+
 -- the octets of both ways
-pub shown_untimed : (s : Setting) (t : Teller) (wrong was : Bool) (to from before after : Option (List ℕ)) (bs cs ds es : List FrameBuf) → HasFrames to (map kept_frame bs) → HasFrames from (map kept_frame cs)
-    → ds ≡ bs → es ≡ cs → setting_of t ≡ s → TellerFits [] t []
-    → (TellerFits [] t [] → PrintsBoth (setting_of t) was (map kept_frame ds) (map kept_frame es) before after) → wrong ≡ was
-    → IsShownUntimed s wrong to from before after
-shown_untimed s t wrong was to from before after bs cs ds es h k ed ee es2 fits p w = record {
+pub shown_untimed : (s : Setting) (wrong : Bool) (to from before after : Option (List ℕ)) (bs cs ds es : List FrameBuf) → HasFrames to (map kept_frame bs) → HasFrames from (map kept_frame cs)
+    → ds ≡ bs → es ≡ cs → PrintsBoth s wrong (map kept_frame ds) (map kept_frame es) before after → IsShownUntimed s wrong to from before after
+shown_untimed s wrong to from before after bs cs ds es h k ed ee p = record {
   to_frames = map kept_frame bs;
   from_frames = map kept_frame cs;
   to_read = h;
   from_read = k;
   prints =
-      subst (λ (x : Setting × Bool × List FrameBuf × List FrameBuf). PrintsBoth x.0 x.1 (map kept_frame x.2) (map kept_frame x.3) before after)
-      (λ i. (es2 i, sym w i, ed i, ee i)) (p fits);
+      subst (λ (x : List FrameBuf × List FrameBuf). PrintsBoth s wrong (map kept_frame x.0) (map kept_frame x.1) before after)
+      (λ i. (ed i, ee i)) p;
 }

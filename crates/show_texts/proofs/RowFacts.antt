@@ -5,6 +5,7 @@ use Rattle.hex.specs.Hex.{encode_with}
 use Rattle.mux_frame.specs.CheckOctet.{check_octet_of}
 use Rattle.mux_frame.specs.Spelling.{body_of}
 use Rattle.show_texts.specs.Complaints.{complaint_if}
+use Rattle.show_texts.specs.Progress.{AreTold}
 use Rattle.show_texts.specs.Rows.{ArePrinted}
 
 pub are_printed : ArePrinted
@@ -28,3 +29,7 @@ are_printed = record {
   total = refl;
   no_total = refl;
 }
+
+pub are_told : AreTold
+unfolding digits
+are_told = record { none = refl; one = refl; three = refl }

@@ -8,3 +8,4 @@ pub mod Captures
 pub mod Options
 pub mod Rows
 pub mod Merging
+pub mod Progress

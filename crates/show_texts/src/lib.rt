@@ -3,7 +3,7 @@
 //!
 //! # Layout
 //!
-//! - `run`, `untimed`: over readers and writers. Under them `reading`, `packets`: packets one after the other; `fault`.
+//! - `run`, `untimed`: over readers and writers. Under them `reading`, `packets`: packets one after the other; `progress`; `fault`.
 //! - `teller`: item by item. Under it `event`, `line`, `complaint`, `tally`, `closing`, `words`: what is printed.
 //! - `laws`.
 #![tactic(auto)]
@@ -15,6 +15,7 @@ mod fault;
 pub mod laws;
 mod line;
 mod packets;
+mod progress;
 mod reading;
 mod run;
 mod tally;
@@ -23,6 +24,7 @@ mod untimed;
 mod words;
 
 pub use fault::ShowFault;
+pub use progress::Progress;
 pub use run::{ShowOptions, show_run};
 pub use tally::Tally;
 pub use teller::Teller;

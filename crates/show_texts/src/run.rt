@@ -1,12 +1,14 @@
 //! Shows a capture, over a reader and two writers.
-ghost use Rattle.std.specs.Prelude.{◌≡◌, ◌≤◌, ◌≢◌, ◌⊎◌, [], Err, OnOk, IfOk};
+ghost use Rattle.std.specs.Prelude.{◌≡◌, ◌≤◌, ◌≢◌, ◌⊎◌, [], Err, OnOk, IfOk, false};
 ghost use Rattle.modem_texts.specs.Writing.{IsBegun};
 ghost use Rattle.show_texts.specs.Captures.{HasShown, IsShown, IsToldWhole, SaysFault, ShowsOctets, TellsOctets, fault_line, fault_status};
 ghost use Rattle.show_texts.specs.Options.{setting_by};
+ghost use Rattle.show_texts.specs.Progress.{CountsAll, CountsPart, TellsRead};
 ghost use Rattle.show_texts.specs.Telling.{TellerFits, setting_of};
 ghost use Rattle.show_texts.specs.declared.fault.ShowFault.TheVariants as ShowFault;
 
 use crate::fault::ShowFault;
+use crate::progress::Progress;
 use crate::reading::{read_head, read_octets};
 use crate::teller::Teller;
 use at_text::Dialect;
@@ -59,16 +61,20 @@ fn show_octets<W: Write>(
     teller.write_much(output)
 }
 
-#[tactic(auto, using(crate::proofs::Shown::none_so_far, crate::proofs::Shown::more_so_far, crate::proofs::Shown::whole_told))]
-/// Tells all packets of the input, and writes the text as it grows.
-fn show_packets<I: Read, W: Write>(
+#[tactic(auto, using(crate::proofs::Shown::none_so_far, crate::proofs::Shown::more_so_far, crate::proofs::Shown::whole_told, crate::proofs::Progressing::part_read, crate::proofs::Progressing::all_read, crate::proofs::Progressing::read_none_counted))]
+/// Tells all packets of the input, writes the text as it grows, and tells how much was read.
+fn show_packets<I: Read, W: Write, P: Write>(
     alloc: Global,
     teller: &mut Teller,
     input: &mut I,
     output: &mut W,
+    progress: &mut Progress<P>,
 ) -> Result<(), ShowFault>
     ensures told { OnOk result (IsToldWhole teller.old teller.new (I.remaining input.old) (W.contents output.old) (W.contents output.new)) }
     ensures others { result ≢ Err ShowFault.NoCapture }
+    ensures part { CountsPart (I.remaining input.old) progress.old progress.new }
+    ensures all { OnOk result (CountsAll (I.remaining input.old) progress.old progress.new) }
+    ensures off { progress.old.is_on ≡ false → progress.new ≡ progress.old }
 {
     let mut octets = Vec::new(alloc);
     for _ in 0..u64::MAX {
@@ -76,25 +82,31 @@ fn show_packets<I: Read, W: Write>(
             return Ok(());
         }
         show_octets(teller, octets.as_slice(), output)?;
+        progress.add(octets.len());
     }
     Err(ShowFault::Endless)
 }
 
-#[tactic(auto, using(crate::proofs::Shown::shown_whole))]
+#[tactic(auto, using(crate::proofs::Shown::shown_whole, crate::proofs::Progressing::part_none, crate::proofs::Progressing::part_behind, crate::proofs::Progressing::all_behind))]
 /// Shows the packets of the input and what is said at its end, from its beginning on.
-fn show_by<I: Read, W: Write>(
+fn show_by<I: Read, W: Write, P: Write>(
     alloc: Global,
     teller: &mut Teller,
     input: &mut I,
     output: &mut W,
+    progress: &mut Progress<P>,
 ) -> Result<(), ShowFault>
     ensures shown { OnOk result (TellerFits [] teller.old [] → IsShown (setting_of teller.old) teller.new.is_wrong
         (I.remaining input.old) (W.contents output.old) (W.contents output.new)) }
     ensures bad { result ≡ Err ShowFault.NoCapture → output.new ≡ output.old }
+    ensures part { CountsPart (I.remaining input.old) progress.old progress.new }
+    ensures all { OnOk result (CountsAll (I.remaining input.old) progress.old progress.new) }
+    ensures off { progress.old.is_on ≡ false → progress.new ≡ progress.old }
 {
     let mut head = Vec::new(alloc);
     read_head(input, &mut head)?;
-    if let Err(fault) = show_packets(alloc, teller, input, output) {
+    progress.add(head.len());
+    if let Err(fault) = show_packets(alloc, teller, input, output, progress) {
         let _ = teller.write(output);
         return Err(fault);
     }
@@ -102,19 +114,24 @@ fn show_by<I: Read, W: Write>(
     teller.write(output)
 }
 
+#[tactic(auto, using(crate::proofs::Progressing::part_none, crate::proofs::Progressing::part_all))]
 /// Shows a capture, and says whether there is a complaint.
-fn show<I: Read, W: Write>(
+fn show<I: Read, W: Write, P: Write>(
     alloc: Global,
     options: ShowOptions,
     input: &mut I,
     output: &mut W,
+    progress: &mut Progress<P>,
 ) -> Result<bool, ShowFault>
     ensures shown { IfOk result (λ wrong. IsShown (setting_by options) wrong
         (I.remaining input.old) (W.contents output.old) (W.contents output.new)) }
     ensures bad { result ≡ Err ShowFault.NoCapture → output.new ≡ output.old }
+    ensures part { CountsPart (I.remaining input.old) progress.old progress.new }
+    ensures all { OnOk result (CountsAll (I.remaining input.old) progress.old progress.new) }
+    ensures off { progress.old.is_on ≡ false → progress.new ≡ progress.old }
 {
     let mut teller = Teller::new(alloc, options.n1, options.dialect, options.data_channels)?;
-    show_by(alloc, &mut teller, input, output)?;
+    show_by(alloc, &mut teller, input, output, progress)?;
     Ok(teller.is_wrong())
 }
 
@@ -127,17 +144,21 @@ pub(crate) fn give_up<E: Write>(faults: &mut E, fault: ShowFault) -> u8
     fault.status()
 }
 
+#[tactic(auto, using(crate::proofs::Progressing::tells_part, crate::proofs::Progressing::tells_all))]
 /// Shows the capture that the input has: writes a line for each event and each complaint, and at the end what was counted of each
 /// connection. It goes over the input once.
 ///
 /// The status is 0, or 3 where there is a complaint and the options are strict. It is 2 where the input doesn't begin with a header of a
 /// capture, and then nothing is written. It is 1 where the reader or the writer fails, memory is refused, or a packet is cut short or of
 /// another form; then a part may be written. At 1 and 2 it says on `faults` why.
-pub fn show_run<I: Read, W: Write, E: Write>(
+///
+/// On `progress` it tells how much was read, and clears that at the end, before it says anything on `faults`.
+pub fn show_run<I: Read, W: Write, E: Write, P: Write>(
     alloc: Global,
     input: &mut I,
     output: &mut W,
     faults: &mut E,
+    progress: &mut Progress<P>,
     options: ShowOptions,
 ) -> u8
     ensures status { result ≤ 3 }
@@ -146,9 +167,14 @@ pub fn show_run<I: Read, W: Write, E: Write>(
     ensures bad { result ≡ 2 → output.new ≡ output.old }
     ensures said { (result ≡ 1) ⊎ (result ≡ 2) → SaysFault (E.contents faults.old) (E.contents faults.new) result }
     ensures silent { (result ≡ 0) ⊎ (result ≡ 3) → faults.new ≡ faults.old }
+    ensures read { TellsRead (I.remaining input.old) progress.old.shown progress.new result }
+    ensures untold { progress.old.is_on ≡ false → progress.new ≡ progress.old }
 {
     let strict = options.strict;
-    match show(alloc, options, input, output) {
+    progress.begin();
+    let shown = show(alloc, options, input, output, progress);
+    progress.end();
+    match shown {
         Ok(wrong) => { if strict && wrong { 3 } else { 0 } }
         Err(fault) => give_up(faults, fault),
     }

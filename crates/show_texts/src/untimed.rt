@@ -163,6 +163,24 @@ fn show_both<W: Write>(
     teller.write(output)
 }
 
+/// Shows frames of both ways, and says whether there is a complaint.
+#[tactic(auto, using(crate::proofs::Merged::prints_whole))]
+fn show_frames<W: Write>(
+    alloc: Global,
+    options: ShowOptions,
+    to: &[FrameBuf],
+    from: &[FrameBuf],
+    output: &mut W,
+) -> Result<bool, ShowFault>
+    ensures shown { IfOk result (λ wrong. PrintsBoth (setting_by options) wrong (map kept_frame to.now) (map kept_frame from.now)
+        (W.contents output.old) (W.contents output.new)) }
+    ensures others { result ≢ Err ShowFault.NoCapture }
+{
+    let mut teller = Teller::new(alloc, options.n1, options.dialect, options.data_channels)?;
+    show_both(&mut teller, to, from, output)?;
+    Ok(teller.is_wrong())
+}
+
 /// Shows the octets of both ways, and says whether there is a complaint.
 fn show_untimed<I: Read, J: Read, W: Write>(
     alloc: Global,
@@ -177,14 +195,13 @@ fn show_untimed<I: Read, J: Read, W: Write>(
 {
     let to_frames = frames_in(alloc, to)?;
     let from_frames = frames_in(alloc, from)?;
-    let mut teller = Teller::new(alloc, options.n1, options.dialect, options.data_channels)?;
-    show_both(
-        &mut teller,
+    show_frames(
+        alloc,
+        options,
         to_frames.as_slice(),
         from_frames.as_slice(),
         output,
-    )?;
-    Ok(teller.is_wrong())
+    )
 }
 
 /// Shows the octets of both ways where it isn't known when they passed: `to` has those to the modem, `from` those from there. It writes

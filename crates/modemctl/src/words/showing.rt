@@ -8,10 +8,11 @@ ghost use Rattle.modem_texts.specs.Writing.{IsBegun};
 ghost use Rattle.show_texts.specs.Captures.{HasShown};
 ghost use Rattle.show_texts.specs.Merging.{HasShownUntimed};
 ghost use Rattle.show_texts.specs.Options.{setting_by};
+ghost use Rattle.show_texts.specs.Progress.{TellsRead};
 ghost use Rattle.modemctl.specs.Benches.{IsFlag};
 ghost use Rattle.modemctl.specs.Dialects.{IsShut};
 ghost use Rattle.modemctl.specs.Files.{IsNoText};
-ghost use Rattle.modemctl.specs.Shows.{AreChannels, AreWantedBy, IsShutFile, SaysUnread, SaysUnreadOf, SaysUnshown, ShowsFiles, ShowsWith};
+ghost use Rattle.modemctl.specs.Shows.{AreChannels, AreWantedBy, IsShutFile, SaysUnread, SaysUnreadOf, SaysUnshown, ShowsFiles, ShowsWith, TellsFiles, TellsShow};
 ghost use Rattle.modemctl.specs.Words.{data_rule, file_rule, raw_rule, show_app, strict_rule};
 
 use crate::words::dialects::{dialect_option, given_dialect};
@@ -23,7 +24,7 @@ use crate::words::{help, refuse};
 use clap::{Arg, ArgAction, ArgMatches, Command, value_parser};
 use modem_runs::{Stop, give_up};
 use mux_frame::Dlci;
-use show_texts::{ShowOptions, show_run, show_untimed_run};
+use show_texts::{Progress, ShowOptions, show_run, show_untimed_run};
 use std::alloc::{AllocError, AllocFailed, Global};
 use std::io::{BufReader, ErrorKind, Read, Write};
 
@@ -190,14 +191,15 @@ fn wanted<R: TextFiles, E: Write>(
     })
 }
 
-#[tactic(auto, using(crate::proofs::ShownFiles::shown_of_reader, crate::proofs::ShownFiles::says_memory, crate::proofs::ShownFiles::says_cut))]
+#[tactic(auto, using(crate::proofs::ShownFiles::shown_of_reader, crate::proofs::ShownFiles::says_memory, crate::proofs::ShownFiles::says_cut, crate::proofs::ShownFiles::read_of_reader, crate::proofs::ShownFiles::not_read))]
 /// Shows the capture that a reader has.
-fn show_reader<I: Read + Drop, W: Write, E: Write>(
+fn show_reader<I: Read + Drop, W: Write, E: Write, P: Write>(
     alloc: Global,
     input: I,
     options: ShowOptions,
     output: &mut W,
     faults: &mut E,
+    progress: &mut Progress<P>,
 ) -> u8
     ensures status { result ≤ 3 }
     ensures shown { (result ≡ 0) ⊎ (result ≡ 3) → HasShown (setting_by options) options.strict (I.remaining input)
@@ -205,22 +207,25 @@ fn show_reader<I: Read + Drop, W: Write, E: Write>(
     ensures bad { result ≡ 2 → output.new ≡ output.old }
     ensures said { result ≡ 1 → (what path : List ℕ) → SaysUnread what path (E.contents faults.old) (E.contents faults.new) result }
     ensures silent { (result ≡ 0) ⊎ (result ≡ 3) → faults.new ≡ faults.old }
+    ensures read { TellsRead (I.remaining input) progress.old.shown progress.new result }
+    ensures untold { progress.old.is_on ≡ false → progress.new ≡ progress.old }
 {
     match BufReader::new(alloc, input) {
-        Ok(mut reader) => show_run(alloc, &mut reader, output, faults, options),
+        Ok(mut reader) => show_run(alloc, &mut reader, output, faults, progress, options),
         Err(_) => give_up(faults, Stop::NoMemory),
     }
 }
 
-#[tactic(auto, using(crate::proofs::ShownFiles::shown_of_file, crate::proofs::ShownFiles::says_closed))]
+#[tactic(auto, using(crate::proofs::ShownFiles::shown_of_file, crate::proofs::ShownFiles::says_closed, crate::proofs::ShownFiles::read_of_file, crate::proofs::ShownFiles::not_read))]
 /// Shows the capture in the file of this path.
-fn show_file<R: TextFiles, W: Write, E: Write>(
+fn show_file<R: TextFiles, W: Write, E: Write, P: Write>(
     rt: &R,
     alloc: Global,
     path: &str,
     options: ShowOptions,
     output: &mut W,
     faults: &mut E,
+    progress: &mut Progress<P>,
 ) -> u8
     ensures status { result ≤ 3 }
     ensures shown { (result ≡ 0) ⊎ (result ≡ 3) → HasShown (setting_by options) options.strict (R.text_of rt.now path.now)
@@ -229,9 +234,11 @@ fn show_file<R: TextFiles, W: Write, E: Write>(
     ensures said { result ≡ 1 → SaysUnread (codes "capture") path.now (E.contents faults.old) (E.contents faults.new) result }
     ensures shut { R.is_shut rt.now path.now ≡ true → (result ≡ 1) × (output.new ≡ output.old) }
     ensures silent { (result ≡ 0) ⊎ (result ≡ 3) → faults.new ≡ faults.old }
+    ensures read { TellsRead (R.text_of rt.now path.now) progress.old.shown progress.new result }
+    ensures untold { progress.old.is_on ≡ false → progress.new ≡ progress.old }
 {
     match rt.open_text(path) {
-        Ok(file) => show_reader(alloc, file, options, output, faults),
+        Ok(file) => show_reader(alloc, file, options, output, faults, progress),
         Err(error) => {
             let fault = FileFault::Closed(error.kind());
             refuse_file(alloc, faults, "fault: ", "capture", path, fault)
@@ -309,7 +316,7 @@ fn show_octets<R: TextFiles, W: Write, E: Write>(
 }
 
 /// Shows the capture in a file, or the octets of both ways in two.
-fn show_files<R: TextFiles, W: Write, E: Write>(
+fn show_files<R: TextFiles, W: Write, E: Write, P: Write>(
     rt: &R,
     alloc: Global,
     raw: Option<&str>,
@@ -317,6 +324,7 @@ fn show_files<R: TextFiles, W: Write, E: Write>(
     options: ShowOptions,
     output: &mut W,
     faults: &mut E,
+    progress: &mut Progress<P>,
 ) -> u8
     ensures status { result ≤ 3 }
     ensures shown { (result ≡ 0) ⊎ (result ≡ 3) → ShowsFiles (R.text_of rt.now) options (option_map (λ t. t.now) raw.entry) path.now
@@ -327,27 +335,33 @@ fn show_files<R: TextFiles, W: Write, E: Write>(
     ensures shut { (R.is_shut rt.now path.now ≡ true) ⊎ IsShutFile (R.is_shut rt.now) (option_map (λ t. t.now) raw.entry)
         → (result ≡ 1) × (output.new ≡ output.old) }
     ensures silent { (result ≡ 0) ⊎ (result ≡ 3) → faults.new ≡ faults.old }
+    ensures read { TellsFiles (R.text_of rt.now) (option_map (λ t. t.now) raw.entry) path.now progress.old.shown progress.new result }
+    ensures untold { progress.old.is_on ≡ false → progress.new ≡ progress.old }
 {
     match raw {
         Some(from) => show_octets(rt, alloc, path, from, options, output, faults),
-        None => show_file(rt, alloc, path, options, output, faults),
+        None => show_file(rt, alloc, path, options, output, faults, progress),
     }
 }
 
-#[tactic(auto, using(crate::proofs::ShownFiles::shows_with, crate::proofs::ShownFiles::files_unread))]
+#[tactic(auto, using(crate::proofs::ShownFiles::shows_with, crate::proofs::ShownFiles::files_unread, crate::proofs::ShownFiles::not_shown, crate::proofs::ShownFiles::shown_by))]
 /// Shows the files that the words name.
-pub fn show_words<R: TextFiles, W: Write, E: Write>(
+pub fn show_words<R: TextFiles, W: Write, E: Write, P: Write>(
     rt: &R,
     alloc: Global,
     matches: &ArgMatches<'_>,
     n1: u16,
     output: &mut W,
     faults: &mut E,
+    progress: &mut Progress<P>,
 ) -> u8
     ensures status { result ≤ 3 }
     ensures shown { (result ≡ 0) ⊎ (result ≡ 3) → ShowsWith (R.text_of rt.now) n1 matches.now (W.contents output.old)
         (W.contents output.new) result }
     ensures silent { (result ≡ 0) ⊎ (result ≡ 3) → faults.new ≡ faults.old }
+    ensures read { TellsShow (R.text_of rt.now) (first_value (found_of matches.now) (codes "raw"))
+        (first_value (found_of matches.now) (codes "file")) progress.old.shown progress.new result }
+    ensures untold { progress.old.is_on ≡ false → progress.new ≡ progress.old }
     ensures bad { result ≡ 2 → output.new ≡ output.old }
     ensures said { result ≡ 1 → SaysUnshown (first_value (found_of matches.now) (codes "dialect"))
         (first_value (found_of matches.now) (codes "raw")) (first_value (found_of matches.now) (codes "file"))
@@ -369,6 +383,7 @@ pub fn show_words<R: TextFiles, W: Write, E: Write>(
             options,
             output,
             faults,
+            progress,
         ),
         Err(status) => status,
     }

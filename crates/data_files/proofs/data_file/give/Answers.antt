@@ -8,7 +8,7 @@ use Rattle.data_files.proofs.data_file.give.Goals as goal
 
 pub returns-in_err-count-clause-gives : goal.returns-in_err-count-clause-gives
 returns-in_err-count-clause-gives g c = gives_err c.args.line.now.relay.pipes c.args.dlci.number c.args.octets.now (Err c.in_err-count.field-0.0)
-    c.in_err-count.ensures.others c.in_err-count.ensures.not_data c.in_err-count.ensures.not_open c.in_err-count.ensures.no_data
+    c.in_err-count.ensures.others c.in_err-count.ensures.not_data c.in_err-count.ensures.not_open c.in_err-count.ensures.takes_none
 
 pub returns-clause-gives : goal.returns-clause-gives
 returns-clause-gives g c = gives_ok c.args.line.now.relay.pipes c.args.dlci.number c.in_ok-count.count c.min-count.result c.args.octets.now c.pass.new.self

@@ -5,7 +5,7 @@ use Rattle.mux_station.specs.Opening.{is_open}
 use Rattle.mux_station.specs.declared.role.Role.TheVariants.{Initiator}
 use Rattle.modem_data.specs.declared.error.DataError.{DataError}
 use Rattle.modem_data.specs.declared.error.DataError.TheVariants.{NotData, NotOpen, Lines}
-use Rattle.modem_data.specs.Switching.{Data}
+use Rattle.modem_data.specs.Switching.{takes_given}
 use Rattle.modem_data.specs.Passing.{carries, wire}
 use Rattle.modem_data.specs.PipeSets.{IsNotData, OfEachPast}
 use Rattle.modem_data_c.proofs.Numbered.{IsOneOf, one_of, not_ok, not_bad, the_last, is_not_data, is_not_open, is_lines}
@@ -24,7 +24,7 @@ returns-in-Err c =
       bad = (λ q. absurd (not_bad 6 9 10 c.number.result (omega arith) (omega arith) (omega arith) one q), λ far. absurd (omega (arith, near, far)));
       not_data = λ q. subst (λ (d : ℕ). IsNotData pipes d) number (c.in-Err.ensures.not_data (ap (λ (e : DataError). Err e) (is_not_data why (sym c.number.ensures ∙ q))));
       not_open = λ q. subst (λ (d : ℕ). OfEachPast pipes (λ past. is_open Initiator d (wire past) ≡ false)) number (c.in-Err.ensures.not_open (ap (λ (e : DataError). Err e) (is_not_open why (sym c.number.ensures ∙ q))));
-      no_data = λ q. subst (λ (d : ℕ). OfEachPast pipes (λ past. ¬ (carries d past ≡ Data))) number (c.in-Err.ensures.no_data (ap (λ (e : DataError). Err e) (is_lines why (sym c.number.ensures ∙ q))));
+      takes_none = λ q. subst (λ (d : ℕ). OfEachPast pipes (λ past. takes_given (carries d past) ≡ false)) number (c.in-Err.ensures.takes_none (ap (λ (e : DataError). Err e) (is_lines why (sym c.number.ensures ∙ q))));
       same = λ q. refl;
       refused = λ q. c.in-Err.ensures.err;
       others = λ a b. the_last 6 9 10 c.number.result one;

@@ -14,7 +14,8 @@ use Rattle.modemctl.specs.Dialects.{IsShut}
 use Rattle.modemctl.specs.Drives.{PrintsDrive}
 use Rattle.modemctl.specs.Files.{NamesCause}
 use Rattle.modemctl.specs.Sims.{IsNotBegun, LeavesClient, RefusesClient, ServesClient, files_given}
-use Rattle.modemctl.specs.Shows.{IsShutFile, PrintsShow, SaysUnshown, all_in}
+use Rattle.modemctl.specs.Shows.{IsShutFile, PrintsShow, SaysUnshown, TellsShow, all_in}
+use Rattle.modemctl.proofs.ShownFiles.{not_shown}
 use Rattle.modemctl.proofs.words.run.Goals as goal
 
 simple : is_simple program_app ≡ true
@@ -342,6 +343,31 @@ returns-in-Err-try_get_matches_from-clause-show_shut g c for is =
 pub returns-in-Err-clause-unshown : goal.returns-in-Err-clause-unshown
 returns-in-Err-clause-unshown g c one for =
     stopped _ _ _ _ _ _ _ _ (gave_up true Stop.NoMemory c.args.output.now c.args.output.now _ _ _ c.give_up.ensures.status (begun_line true Stop.NoMemory _ _ c.give_up.ensures.said) (λ other. refl))
+
+-- ## What is told of how much was read
+
+pub returns-in-Ok-try_get_matches_from-clause-show_read :
+    goal.returns-in-Ok-try_get_matches_from-clause-show_read
+returns-in-Ok-try_get_matches_from-clause-show_read g c for =
+    subst (λ (m : Option (Text × List Row)). TellsShow (g.R.TextFiles.text_of c.args.rt.now) (raw_in m (codes "raw")) (raw_in m (codes "file")) c.args.progress.now.shown c.run_named.new.progress c.run_named.result)
+    (met c.in-Ok-try_get_matches_from.matches _ _ c.in-Ok.ensures (λ e. (c.in-Ok-try_get_matches_from.ensures.matches e).1))
+    (c.run_named.ensures.show_read (named c.in-Ok-try_get_matches_from.matches _ _ c.in-Ok.ensures (λ e. (c.in-Ok-try_get_matches_from.ensures.matches e).1) ∙ for.1))
+
+pub returns-in-Err-try_get_matches_from-clause-show_read :
+    goal.returns-in-Err-try_get_matches_from-clause-show_read
+returns-in-Err-try_get_matches_from-clause-show_read g c for =
+    let one = c.explain.ensures.memory (by_memory _ _ (at_program (λ kinds. HasKind kinds c.in-Err-try_get_matches_from.error) _ _ c.in-Ok.ensures c.in-Err-try_get_matches_from.ensures.kinds) for.0) in
+    not_shown _ _ _ _ c.args.progress.now _ refl (omega (arith, one)) (omega (arith, one))
+
+pub returns-in-Err-clause-show_read : goal.returns-in-Err-clause-show_read
+returns-in-Err-clause-show_read g c for =
+    let one = c.give_up.ensures.status in
+    not_shown _ _ _ _ c.args.progress.now _ refl (omega (arith, one)) (omega (arith, one))
+
+pub returns-in-Ok-try_get_matches_from-clause-others :
+    goal.returns-in-Ok-try_get_matches_from-clause-others
+returns-in-Ok-try_get_matches_from-clause-others g c other =
+    c.run_named.ensures.others (λ is. other (at_program (λ kinds. kinds ≡ []) _ _ c.in-Ok.ensures c.in-Ok-try_get_matches_from.ensures.kinds, sym (named c.in-Ok-try_get_matches_from.matches _ _ c.in-Ok.ensures (λ e. (c.in-Ok-try_get_matches_from.ensures.matches e).1)) ∙ is))
 
 -- ## Rows
 

@@ -1,5 +1,5 @@
 -- What was printed, by the numbers that the matches of the subcommand give.
-use Rattle.std.proofs.Common.{◌≡◌, ◌∙◌, ◌⊎◌, ◌||◌, ⊎_elim, ℕ, Bool, ap, arith, is_some, sym, subst, inl, inr, List, Option, None, Some, option_map, codes, true}
+use Rattle.std.proofs.Common.{◌≡◌, ◌∙◌, ◌⊎◌, ◌||◌, ⊎_elim, ℕ, Bool, ap, arith, is_some, sym, subst, inl, inr, List, Option, None, Some, option_map, codes, refl, true}
 use Rattle.clap.specs.Words.{Row, Text, all_of, first_of, first_value, found_of, matched_of, one_of, one_text, raw_values, rows_of, subcommand_rows_of}
 use Rattle.clap.specs.declared.ArgMatches.{ArgMatches}
 use Rattle.clap.proofs.WalkLemmas.{first_value-rows, one_text-rows, raw_values-rows}
@@ -13,8 +13,10 @@ use Rattle.modem_drive.specs.Entry.{entry_for}
 use Rattle.modemctl.specs.Dialects.{IsGivenDialect, IsShut, PrintsActs}
 use Rattle.modemctl.specs.Drives.{DrivesWith, IsDriveDialect, PrintsDrive, RanGiven}
 use Rattle.modemctl.specs.Files.{NamesCause}
-use Rattle.modemctl.specs.Shows.{AreChannels, AreWanted, AreWantedBy, IsShutFile, PrintsShow, SaysUnshown, ShowsFiles, ShowsWith, all_in}
+use Rattle.modemctl.specs.Shows.{AreChannels, AreWanted, AreWantedBy, IsShutFile, PrintsShow, SaysUnshown, ShowsFiles, ShowsWith, TellsShow, all_in}
+use Rattle.show_texts.specs.Progress.{ProgressState}
 use Rattle.show_texts.specs.declared.run.ShowOptions.{ShowOptions}
+use Rattle.modemctl.proofs.ShownFiles.{not_shown}
 use Rattle.modemctl.proofs.words.run_named.Goals as goal
 
 of_rows : (met : Option (Text × List Row)) (rows : List Row) (option : Text) → Some rows ≡ option_map (λ p. p.1) met → one_of option rows ≡ text_in met option
@@ -276,3 +278,19 @@ returns-in-show-clause-show_shut g c named is =
     (⊎_elim (λ dialect. inl (shut c.args.matches.now c.in-Some.given.now (g.R.TextFiles.is_shut c.args.rt.now) c.in-Some.ensures.rows dialect))
     (λ files. inr (⊎_elim (λ file. inl (shut_word c.args.matches.now c.in-Some.given.now (g.R.TextFiles.is_shut c.args.rt.now) (codes "file") c.in-Some.ensures.rows file))
     (λ raw. inr (shut_word c.args.matches.now c.in-Some.given.now (g.R.TextFiles.is_shut c.args.rt.now) (codes "raw") c.in-Some.ensures.rows raw)) files)) is)
+
+shows_read : (texts : Text → Option (List ℕ)) (top m : ArgMatches) (before : Option (List ℕ)) (p : ProgressState) (status : ℕ) → Some (rows_of (found_of m)) ≡ option_map (λ p. p.1) (subcommand_rows_of top)
+    → TellsShow texts (first_value (found_of m) (codes "raw")) (first_value (found_of m) (codes "file")) before p status
+    → TellsShow texts (raw_in (subcommand_rows_of top) (codes "raw")) (raw_in (subcommand_rows_of top) (codes "file")) before p status
+shows_read texts top m before p status rows tells =
+    subst (λ (t : Option Text × Option Text). TellsShow texts t.0 t.1 before p status)
+    (λ i. (word_given top m (codes "raw") rows i, word_given top m (codes "file") rows i)) tells
+
+pub returns-in-show-clause-show_read : goal.returns-in-show-clause-show_read
+returns-in-show-clause-show_read g c named =
+    shows_read (g.R.TextFiles.text_of c.args.rt.now) c.args.matches.now c.in-Some.given.now _ _ _ c.in-Some.ensures.rows c.show_words.ensures.read
+
+pub returns-in-Err-clause-show_read : goal.returns-in-Err-clause-show_read
+returns-in-Err-clause-show_read g c named =
+    let two = c.refuse.ensures.status in
+    not_shown _ _ _ _ c.args.progress.now _ refl (omega (arith, two)) (omega (arith, two))

@@ -9,4 +9,4 @@ pub returns-clause-leads : goal.returns-clause-leads
 returns-clause-leads c =
     let old : Pipe = record { watch = c.self.inside.watch; lane = c.self.inside.lane; held = c.self.inside.held; by_driver = c.self.inside.by_driver } in
     let new : Pipe = record old { lane = c.begin.new.self } in
-    subst (λ v. Leads v new (Began v.watch.dlci c.args.by_connect)) c.self.view_is (leads_began old c.begin.new.self c.args.by_connect (search rules) (search rules) c.begin.ensures)
+    subst (λ v. Leads v new (Began v.watch.dlci c.args.how)) c.self.view_is (leads_began old c.begin.new.self c.args.how (search rules) (search rules) c.begin.ensures)

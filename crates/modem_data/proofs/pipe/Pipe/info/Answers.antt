@@ -15,4 +15,4 @@ returns-clause-leads c =
     let new : Pipe = record old { lane = c.take.new.self } in
     let on : is_on Uih c.self.inside.watch.dlci (frame_of c.args.frame) ≡ true = subst (λ (v : Pipe). is_on Uih v.watch.dlci (frame_of c.args.frame) ≡ true) (sym c.self.view_is) c.requires in
     let up : (is_on Uih c.self.inside.watch.dlci (frame_of c.args.frame) && c.self.inside.watch.own.is_open) ≡ true = search rules in
-    subst (λ v. Leads v new (Came (frame_of c.args.frame))) c.self.view_is (leads_info old c.take.new.self (frame_of c.args.frame) c.in_ok-count.count on up c.in_ok-count.ensures.takes)
+    subst (λ v. Leads v new (Came (frame_of c.args.frame))) c.self.view_is (leads_info old c.take.new.self (frame_of c.args.frame) c.in_ok-cut.cut on up c.in_ok-cut.ensures.takes)

@@ -4,12 +4,12 @@ use Rattle.std.specs.Prelude.{ℕ, ◌-◌, min, take, false, IfOk}
 use Rattle.mux_station.specs.declared.role.Role.TheVariants.{Initiator}
 use Rattle.mux_station.specs.Opening.{is_open}
 use Rattle.std.proofs.lemmas.List.{get_or_default}
-use Rattle.modem_data.specs.Switching.{Data}
+use Rattle.modem_data.specs.Switching.{takes_given}
 use Rattle.modem_data.specs.DataLanes.{most_to_go}
 use Rattle.modem_data.specs.Passing.{Gave, carries, given, left, wire}
-use Rattle.modem_data.specs.Pipes.{Pipe, Leads, IsShut, HasNoData}
+use Rattle.modem_data.specs.Pipes.{Pipe, Leads, IsShut, TakesNone}
 use Rattle.modem_data.specs.PipeSets.{PipeSet, AllLead, OfEachPast}
-use Rattle.modem_data.proofs.PipeSetCalls.{gave_by, gives_by, shut_at, no_data_at}
+use Rattle.modem_data.proofs.PipeSetCalls.{gave_by, gives_by, shut_at, takes_none_at}
 use Rattle.modem_data.proofs.pipe_set.Pipes.give.Goals as goal
 
 pub returns-clause-count : goal.returns-clause-count
@@ -48,12 +48,12 @@ returns-clause-not_open c =
     let it : c.index_mut.result.now ≡ get_or old.each place p = c.index_mut.ensures.value ∙ get_or_default old.each place c.index_mut.result.now p there in
     λ e. subst (λ (v : PipeSet). OfEachPast v (λ past. is_open Initiator c.args.dlci.number (wire past) ≡ false)) c.self.view_is (shut_at old place p c.args.dlci.number there here (subst IsShut it (c.give.ensures.not_open e)))
 
-pub returns-clause-no_data : goal.returns-clause-no_data
-returns-clause-no_data c =
+pub returns-clause-takes_none : goal.returns-clause-takes_none
+returns-clause-takes_none c =
     let old : PipeSet = record { each = c.self.inside.each.items; turn = c.self.inside.turn } in
     let p = c.give.new.self in
     let place = c.in-Some.place in
     let there : place < length old.each = search rules in
     let here : (get_or old.each place p).watch.dlci ≡ c.args.dlci.number = search rules in
     let it : c.index_mut.result.now ≡ get_or old.each place p = c.index_mut.ensures.value ∙ get_or_default old.each place c.index_mut.result.now p there in
-    λ e. subst (λ (v : PipeSet). OfEachPast v (λ past. ¬ (carries c.args.dlci.number past ≡ Data))) c.self.view_is (no_data_at old place p c.args.dlci.number there here (subst HasNoData it (c.give.ensures.no_data e)))
+    λ e. subst (λ (v : PipeSet). OfEachPast v (λ past. takes_given (carries c.args.dlci.number past) ≡ false)) c.self.view_is (takes_none_at old place p c.args.dlci.number there here (subst TakesNone it (c.give.ensures.takes_none e)))
