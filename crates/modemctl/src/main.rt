@@ -20,9 +20,7 @@ use std::process::ExitCode;
 fn main(rt: HostRuntime) -> ExitCode {
     let mut faults = rt.stderr();
     let terminal = faults.is_terminal();
-    // On a terminal the output itself shows how far it is.
-    let is_told = terminal && !rt.stdout().is_terminal();
-    let mut progress = Progress::new(rt.stderr(), is_told);
+    let mut progress = Progress::new(rt.stderr(), terminal);
     let arguments = match env::args(&rt) {
         Ok(arguments) => arguments.collect::<Vec<String>>(rt.alloc()),
         Err(error) if error.kind() == ErrorKind::InvalidData => {

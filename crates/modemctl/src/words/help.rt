@@ -26,4 +26,4 @@ pub const DRIVE: &str =
 
 /// Behind the help of `show`.
 pub const SHOW: &str =
-    "Where standard error is a terminal and standard output isn't, it tells each 4 MiB that it read of a capture.\n\nExample: modemctl show --strict capture.pcap\n\nExit status: 0 all is shown; 1 a fault; 2 bad words, or no capture; 3 there is a complaint, where --strict is given.\ndocs/FORMATS.md has the lines, under \"show\".";
+    "Where standard error is a terminal, it tells there each 4 MiB that it read of a capture.\n\nExample: modemctl show --strict capture.pcap\n\nExit status: 0 all is shown; 1 a fault; 2 bad words, or no capture; 3 there is a complaint, where --strict is given.\ndocs/FORMATS.md has the lines, under \"show\".";
