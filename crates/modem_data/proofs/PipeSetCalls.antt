@@ -9,6 +9,7 @@ use Rattle.mux_station.specs.Acts as station
 use Rattle.mux_station.specs.declared.role.Role.TheVariants.{Initiator}
 use Rattle.mux_station.specs.Opening.{is_open}
 use Rattle.modem_data.specs.declared.begin.Begin.{Begin}
+use Rattle.modem_data.specs.declared.begin.Until.{Until}
 use Rattle.modem_data.specs.Switching.{Carries, Idle, ended_by_call, is_behind_lines, is_idle, lets_leave, takes_given}
 use Rattle.modem_data.specs.DataLanes.{most_to_go}
 use Rattle.modem_data.specs.Watching.{Watch}
@@ -26,14 +27,15 @@ use Rattle.modem_data.proofs.PipeSets.{all_by, one_by, one_info, number_at}
 apart_from : (d e : ℕ) → (d == e) ≡ false → (e == d) ≡ false
 apart_from d e x = ne_eqb e d (λ q. eqb-false d e x (sym q))
 
-other_began : (n1 d e : ℕ) (how : Begin) (past : List Pass) (p : Pipe) → (e == d) ≡ false → AllowsPass n1 past (Began e how) → PipeFits n1 d p past → PipeFits n1 d p (Began e how ∷ past)
+other_began : (n1 d e : ℕ) (how : Begin) (until : Until) (past : List Pass) (p : Pipe) → (e == d) ≡ false → AllowsPass n1 past (Began e how until) → PipeFits n1 d p past → PipeFits n1 d p (Began e how until ∷ past)
 unfolding LawfulPasses
-other_began n1 d e how past p x allowed h = record {
+other_began n1 d e how until past p x allowed h = record {
   dlci_is = h.dlci_is;
   not_control = h.not_control;
   lawful = (allowed, h.lawful);
   watched = h.watched;
   carries_is = rw x h.carries_is;
+  until_is = rw x h.until_is;
   came_is = rw x h.came_is;
   to_go_is = rw x h.to_go_is;
   held_is = h.held_is;
@@ -48,6 +50,7 @@ other_ended n1 d e past p x h = record {
   lawful = (tt, h.lawful);
   watched = h.watched;
   carries_is = rw x h.carries_is;
+  until_is = h.until_is;
   came_is = h.came_is;
   to_go_is = h.to_go_is;
   held_is = h.held_is;
@@ -62,6 +65,7 @@ other_gave n1 d e octets past p x allowed h = record {
   lawful = (allowed, h.lawful);
   watched = h.watched;
   carries_is = h.carries_is;
+  until_is = h.until_is;
   came_is = h.came_is;
   to_go_is = rw x h.to_go_is;
   held_is = h.held_is;
@@ -76,6 +80,7 @@ other_read n1 d e octets past p x allowed h = record {
   lawful = (allowed, h.lawful);
   watched = h.watched;
   carries_is = h.carries_is;
+  until_is = h.until_is;
   came_is = rw x h.came_is;
   to_go_is = h.to_go_is;
   held_is = h.held_is;
@@ -96,15 +101,15 @@ each_is v w ps is = ap (λ (x : PipeSet). x.each) is
 turn_is : (v w : PipeSet) (ps : List Pipe) → w ≡ record v { each = ps } → w.turn ≡ v.turn
 turn_is v w ps is = ap (λ (x : PipeSet). x.turn) is
 
-pub one_began : (v w : PipeSet) (i : ℕ) (p : Pipe) (e : ℕ) (how : Begin) → i < length v.each → (slice_index_or v.each i p).watch.dlci ≡ e → Leads (slice_index_or v.each i p) p (Began e how) → p.watch ≡ (slice_index_or v.each i p).watch → w ≡ record v { each = slice_set v.each i p } → AllLead v w (Began e how)
+pub one_began : (v w : PipeSet) (i : ℕ) (p : Pipe) (e : ℕ) (how : Begin) (until : Until) → i < length v.each → (slice_index_or v.each i p).watch.dlci ≡ e → Leads (slice_index_or v.each i p) p (Began e how until) → p.watch ≡ (slice_index_or v.each i p).watch → w ≡ record v { each = slice_set v.each i p } → AllLead v w (Began e how until)
 unfolding AllLead Leads
-one_began v w i p e how there here leads same is n1 ds past h =
+one_began v w i p e how until there here leads same is n1 ds past h =
     let one = ap (λ (x : Watch). x.dlci) same in
     let it = one ∙ here in
-    let fits = subst (λ d. PipeFits n1 d p (Began e how ∷ past)) (sym it) (leads n1 e past (fits_at n1 ds past v i p e there here h)) in
+    let fits = subst (λ d. PipeFits n1 d p (Began e how until ∷ past)) (sym it) (leads n1 e past (fits_at n1 ds past v i p e there here h)) in
     let off : (c : ℕ) → (c == p.watch.dlci) ≡ false → (e == c) ≡ false = λ c x. apart_from c e (subst (λ d. (c == d) ≡ false) it x) in
-    one_by n1 ds past (Began e how) v w i p there one (each_is v w (slice_set v.each i p) is) (turn_is v w (slice_set v.each i p) is ∙ h.turn_is) fits
-    (λ q x k. other_began n1 q.watch.dlci e how past q (off q.watch.dlci x) (first_allowed n1 past (Began e how) fits.lawful) k)
+    one_by n1 ds past (Began e how until) v w i p there one (each_is v w (slice_set v.each i p) is) (turn_is v w (slice_set v.each i p) is ∙ h.turn_is) fits
+    (λ q x k. other_began n1 q.watch.dlci e how until past q (off q.watch.dlci x) (first_allowed n1 past (Began e how until) fits.lawful) k)
     (λ c x idle. rw (off c x) idle) h
 
 pub still_idle : (b : Bool) (c : Carries) → c ≡ Idle → (if b then ended_by_call c else c) ≡ Idle
@@ -335,6 +340,7 @@ other_left n1 d f past p x z allowed h = record {
   lawful = (allowed, h.lawful);
   watched = watched_sent_info p.watch (wire past) f (ap (λ (g : Frame). g.kind) allowed.as_written) z h.watched;
   carries_is = h.carries_is;
+  until_is = h.until_is;
   came_is = h.came_is;
   to_go_is = rw x h.to_go_is;
   held_is = h.held_is;
@@ -409,9 +415,9 @@ nones_more ps from i p there none before j q late near = at (nat_lt j i) refl
 
 -- ## What a call answers
 
-pub began_by : {A X : Type 0} (v w : PipeSet) (i : ℕ) (p : Pipe) (e : ℕ) (how : Begin) (r : Result A X) → i < length v.each → (slice_index_or v.each i p).watch.dlci ≡ e → OnOk r (Leads (slice_index_or v.each i p) p (Began e how)) → p.watch ≡ (slice_index_or v.each i p).watch → w ≡ record v { each = slice_set v.each i p } → OnOk r (AllLead v w (Began e how))
-began_by v w i p e how (Ok x) there here leads same is = one_began v w i p e how there here leads same is
-began_by v w i p e how (Err x) there here leads same is = tt
+pub began_by : {A X : Type 0} (v w : PipeSet) (i : ℕ) (p : Pipe) (e : ℕ) (how : Begin) (until : Until) (r : Result A X) → i < length v.each → (slice_index_or v.each i p).watch.dlci ≡ e → OnOk r (Leads (slice_index_or v.each i p) p (Began e how until)) → p.watch ≡ (slice_index_or v.each i p).watch → w ≡ record v { each = slice_set v.each i p } → OnOk r (AllLead v w (Began e how until))
+began_by v w i p e how until (Ok x) there here leads same is = one_began v w i p e how until there here leads same is
+began_by v w i p e how until (Err x) there here leads same is = tt
 
 pub gave_by : {X : Type 0} (v w : PipeSet) (i : ℕ) (p : Pipe) (e : ℕ) (octets : List ℕ) (r : Result ℕ X) → i < length v.each → (slice_index_or v.each i p).watch.dlci ≡ e → IfOk r (λ count. Leads (slice_index_or v.each i p) p (Gave e (take count octets))) → p.watch ≡ (slice_index_or v.each i p).watch → w ≡ record v { each = slice_set v.each i p } → IfOk r (λ count. AllLead v w (Gave e (take count octets)))
 gave_by v w i p e octets (Ok count) there here leads same is = one_gave v w i p e (take count octets) there here leads same is

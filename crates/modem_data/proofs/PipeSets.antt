@@ -13,7 +13,7 @@ use Rattle.mux_station.specs.Written.{is_on, is_kind, is_data_frame}
 use Rattle.modem_data.specs.declared.switch.LineCut.{LineCut}
 use Rattle.modem_data.specs.Switching.{Idle, is_idle}
 use Rattle.modem_data.specs.Watching.{Watch}
-use Rattle.modem_data.specs.Passing.{Pass, wire, Came, Went, Lost, is_info, is_data, ends_here, carries, LawfulPasses}
+use Rattle.modem_data.specs.Passing.{Pass, wire, Came, Went, Lost, is_info, is_data, ends_here, drops_here, carries, LawfulPasses}
 use Rattle.modem_data.specs.Pipes.{Pipe, PipeFits, Leads, HandsOn, saw_pipe, sent_pipe, lost_pipe}
 use Rattle.modem_data.specs.PipeSets.{PipeSet, PipesFit, AllLead, AllHand, BeginsAll, NoneOf, AreApart, connections, turn_of}
 use Rattle.modem_data.proofs.Pipes.{saw_fits, went_fits, lost_fits, kind_of, other_came, idle_behind, idle_sent}
@@ -77,7 +77,7 @@ off d f z none = at (is_kind f.kind Uih) (f.dlci == 0) refl none
 
 pub all_saw : (v w : PipeSet) (f : Frame) → is_data_frame f ≡ false → w ≡ record v { each = map (saw_pipe f) v.each } → AllLead v w (Came f)
 unfolding AllLead LawfulPasses
-all_saw v w f none e n1 ds past h = all_by n1 ds past (Came f) (saw_pipe f) v w e (λ p. refl) (λ p k. saw_fits n1 p.watch.dlci p past f (off p.watch.dlci f k.not_control none) k) (tt, h.lawful) (λ c i. idle_behind (is_info c past f) (ends_here c past (station.Got f)) (carries c past) f.info i) refl h
+all_saw v w f none e n1 ds past h = all_by n1 ds past (Came f) (saw_pipe f) v w e (λ p. refl) (λ p k. saw_fits n1 p.watch.dlci p past f (off p.watch.dlci f k.not_control none) k) (tt, h.lawful) (λ c i. idle_behind (is_info c past f) (ends_here c past (station.Got f)) (drops_here c past f) (carries c past) f.info i) refl h
 
 -- ## One of them
 
@@ -147,7 +147,7 @@ one_info v w i p f e there here leads same is n1 ds past h =
     let old = All-get_or (λ q. PipeFits n1 q.watch.dlci q past) v.each i p there h.each in
     one_by n1 ds past (Came f) v w i p there one (ap (λ (x : PipeSet). x.each) is) (ap (λ (x : PipeSet). x.turn) is ∙ h.turn_is) (subst (λ d. PipeFits n1 d p (Came f ∷ past)) (sym one) (leads n1 (slice_index_or v.each i p).watch.dlci past old))
     (λ q other k. other_came n1 q.watch.dlci q past f (data_kind f e) (data_dlci f e) (other_info q.watch.dlci past f (subst (λ d. (q.watch.dlci == d) ≡ false) it other)) k)
-    (λ c other i. idle_behind (is_info c past f) (ends_here c past (station.Got f)) (carries c past) f.info i) h
+    (λ c other i. idle_behind (is_info c past f) (ends_here c past (station.Got f)) (drops_here c past f) (carries c past) f.info i) h
 
 pub one_hand : (v : PipeSet) (i : ℕ) (p : Pipe) (f : Frame) (cut : Option LineCut) → i < length v.each → (slice_index_or v.each i p).watch.dlci ≡ f.dlci → HandsOn (slice_index_or v.each i p) f cut → AllHand v f cut
 unfolding AllHand HandsOn
@@ -191,7 +191,7 @@ none_came v f e none n1 ds past h = record {
   connections_are = h.connections_are;
   apart = h.apart;
   each = λ j p there. other_came n1 (slice_index_or v.each j p).watch.dlci (slice_index_or v.each j p) past f (data_kind f e) (data_dlci f e) (other_info (slice_index_or v.each j p).watch.dlci past f (other_than v.each f.dlci j p none there)) (All-get_or (λ q. PipeFits n1 q.watch.dlci q past) v.each j p there h.each);
-  others = λ c off. idle_behind (is_info c past f) (ends_here c past (station.Got f)) (carries c past) f.info (h.others c off);
+  others = λ c off. idle_behind (is_info c past f) (ends_here c past (station.Got f)) (drops_here c past f) (carries c past) f.info (h.others c off);
   turn_is = h.turn_is;
 }
 

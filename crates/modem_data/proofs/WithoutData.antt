@@ -5,7 +5,7 @@ use Rattle.std.proofs.lemmas.List.{append-nil}
 use Rattle.mux_frame.specs.Frames.{Frame}
 use Rattle.mux_station.specs.Acts as station
 use Rattle.modem_data.specs.Switching.{Idle, is_idle}
-use Rattle.modem_data.specs.Passing.{Pass, Came, Went, Flowed, Left, Lost, Began, EndedLane, Gave, Read, is_info, ends_here, carries, LawfulPasses}
+use Rattle.modem_data.specs.Passing.{Pass, Came, Went, Flowed, Left, Lost, Began, EndedLane, Gave, Read, is_info, ends_here, drops_here, carries, LawfulPasses}
 use Rattle.modem_data.specs.Hops.{Hop, Fed, Handed, Took, Wrote, Passed, LawfulHops, PassesAll, AddsNothing, passes, came, due, for_driver, for_line, went}
 use Rattle.modem_data.proofs.Pipes.{idle_behind, idle_sent}
 use Rattle.modem_data.proofs.PipeSetCalls.{still_idle}
@@ -13,12 +13,12 @@ use Rattle.modem_data.proofs.PipeSetCalls.{still_idle}
 idle : (n1 : ℕ) (past : List Hop) → LawfulHops n1 [] past → (e : ℕ) → carries e (passes past) ≡ Idle
 unfolding LawfulHops
 idle n1 [] h e = refl
-idle n1 (Passed (Came f) ∷ past) h e = idle_behind (is_info e (passes past) f) (ends_here e (passes past) (station.Got f)) (carries e (passes past)) f.info (idle n1 past h.1 e)
+idle n1 (Passed (Came f) ∷ past) h e = idle_behind (is_info e (passes past) f) (ends_here e (passes past) (station.Got f)) (drops_here e (passes past) f) (carries e (passes past)) f.info (idle n1 past h.1 e)
 idle n1 (Passed (Went f) ∷ past) h e = idle_sent (ends_here e (passes past) (station.Sent f)) (carries e (passes past)) (idle n1 past h.1 e)
 idle n1 (Passed (Flowed f) ∷ past) h e = idle_sent (ends_here e (passes past) (station.Sent f)) (carries e (passes past)) (idle n1 past h.1 e)
 idle n1 (Passed (Left f) ∷ past) h e = idle n1 past h.1 e
 idle n1 (Passed Lost ∷ past) h e = refl
-idle n1 (Passed (Began d how) ∷ past) h e = let none = h.0.there in absurd (omega (arith, none))
+idle n1 (Passed (Began d how until) ∷ past) h e = let none = h.0.there in absurd (omega (arith, none))
 idle n1 (Passed (EndedLane d) ∷ past) h e = still_idle (d == e) (carries e (passes past)) (idle n1 past h.1 e)
 idle n1 (Passed (Gave d octets) ∷ past) h e = idle n1 past h.1 e
 idle n1 (Passed (Read d octets) ∷ past) h e = idle n1 past h.1 e
@@ -59,7 +59,7 @@ all n1 (Passed (Flowed f) ∷ past) h k =
     cc
 all n1 (Passed (Left f) ∷ past) h k = let none = h.0.1.there in absurd (omega (arith, none))
 all n1 (Passed Lost ∷ past) h k = by_it past (Passed Lost) (all n1 past h.1 k.1) refl refl refl refl
-all n1 (Passed (Began d c) ∷ past) h k = by_it past (Passed (Began d c)) (all n1 past h.1 k.1) refl refl refl refl
+all n1 (Passed (Began d c u) ∷ past) h k = by_it past (Passed (Began d c u)) (all n1 past h.1 k.1) refl refl refl refl
 all n1 (Passed (EndedLane d) ∷ past) h k = by_it past (Passed (EndedLane d)) (all n1 past h.1 k.1) refl refl refl refl
 all n1 (Passed (Gave d o) ∷ past) h k = by_it past (Passed (Gave d o)) (all n1 past h.1 k.1) refl refl refl refl
 all n1 (Passed (Read d o) ∷ past) h k = by_it past (Passed (Read d o)) (all n1 past h.1 k.1) refl refl refl refl

@@ -6,6 +6,7 @@ use Rattle.mux_station.specs.declared.role.Role.TheVariants.{Initiator, Responde
 use Rattle.mux_frame.specs.Spelling.{spelled}
 use Rattle.mux_station.specs.Written.{written}
 use Rattle.modem_data.specs.declared.begin.Begin.TheVariants.{AtOnce, ByConnect, ByPrompt}
+use Rattle.modem_data.specs.declared.begin.Until.TheVariants.{Close}
 use Rattle.modem_data.specs.Switching.{Data, Idle, Owes, lets_leave, takes_given, is_behind_lines}
 use Rattle.modem_data.specs.Watching.{may_leave}
 use Rattle.modem_data.specs.Passing.{Came, Went, Flowed, Left, Lost, Began, EndedLane, wire, carries, data_came, holds, driver_holds, flow_by, flow_frame}
@@ -33,7 +34,7 @@ abbrev pub opened : List Hop
 opened = Passed (Came (ua 2)) ∷ Passed (Went (sabm 2)) ∷ Passed (Came (ua 1)) ∷ Passed (Went (sabm 1)) ∷ Passed (Came (ua 0)) ∷ Passed (Went (sabm 0)) ∷ []
 
 abbrev pub armed : List Hop
-armed = Passed (Began 2 ByConnect) ∷ opened
+armed = Passed (Began 2 ByConnect Close) ∷ opened
 
 abbrev pub connect : List ℕ
 connect = codes "CONNECT" ++ (13 ∷ 10 ∷ [])
@@ -54,7 +55,7 @@ pub record RelaysSo : Type 0 where
   -- then a frame of data on 2 is nothing to the driver
   pub no_lines : for_driver (Passed (Came (says 2 (13 ∷ 10 ∷ []))) ∷ between armed) ≡ for_driver (between armed)
   -- with data at once, the first octets that come are data
-  pub at_once : data_came 2 (passes (Passed (Came (says 2 (65 ∷ 13 ∷ []))) ∷ Passed (Began 2 AtOnce) ∷ opened)) ≡ 65 ∷ 13 ∷ []
+  pub at_once : data_came 2 (passes (Passed (Came (says 2 (65 ∷ 13 ∷ []))) ∷ Passed (Began 2 AtOnce Close) ∷ opened)) ≡ 65 ∷ 13 ∷ []
   -- data goes to the line between two frames of the driver's
   pub between_two : for_line (Passed (Went (told 1 (65 ∷ []))) ∷ Passed (Left (told 2 (1 ∷ 2 ∷ []))) ∷ Passed (Went (told 1 (66 ∷ []))) ∷ []) ≡ told 1 (66 ∷ []) ∷ told 2 (1 ∷ 2 ∷ []) ∷ told 1 (65 ∷ []) ∷ []
   -- behind a DISC of 2 that went, one of 0, or a loss, no data may leave, and the lane is over
@@ -98,7 +99,7 @@ pub record RelaysSo : Type 0 where
 -- ## A lane by prompt
 
 abbrev pub prompted : List Hop
-prompted = Passed (Began 2 ByPrompt) ∷ opened
+prompted = Passed (Began 2 ByPrompt Close) ∷ opened
 
 -- CR LF and the prompt, cut between its two octets
 abbrev pub half : List Hop
