@@ -1,14 +1,14 @@
 -- What a caller of a pipe does leads on, and what it is answered holds of every past.
-use Rattle.std.specs.Prelude.{◌≡◌, ℕ, ◌+◌, ◌-◌, ◌≤◌, ◌==◌, ◌&&◌, Bool, true, false, List, [], ◌∷◌, ◌++◌, take, drop, length, nat_le, IsTrue, Option, Some, None, refl}
+use Rattle.std.specs.Prelude.{◌≡◌, ℕ, ◌+◌, ◌-◌, ◌≤◌, ◌==◌, ◌&&◌, Bool, true, false, List, [], ◌∷◌, ◌++◌, take, drop, length, nat_le, IsTrue, if◌then◌else◌, Option, Some, None, refl}
 use Rattle.std.proofs.Common.{ap, sym, ◌∙◌, subst, arith}
 use Rattle.std.proofs.lemmas.Bool.{eqb-true, eq-eqb}
 use Rattle.std.proofs.lemmas.List.{append_assoc, append-nil, nil_from_length, take-append-drop, length-append, length-take}
 use Rattle.modem_data.specs.declared.begin.Begin.{Begin}
 use Rattle.modem_data.specs.declared.begin.Until.{Until}
 use Rattle.modem_data.specs.Switching.{ended_by_call, is_idle, lets_leave, takes_given, is_behind_lines}
-use Rattle.modem_data.specs.DataLanes.{DataLane, begun_lane, left_lane, most_to_go}
+use Rattle.modem_data.specs.DataLanes.{DataLane, begun_lane, lane_waiting, left_lane, most_to_go}
 use Rattle.modem_data.specs.Watching.{SaysMayLeave, may_leave}
-use Rattle.modem_data.specs.Passing.{Pass, Began, EndedLane, Gave, Read, wire, begin_of, carries, data_came, data_read, given, left, holds, driver_holds, flow_by, unread, IsOver, AllowsPass, LawfulPasses}
+use Rattle.modem_data.specs.Passing.{Pass, Began, EndedLane, Gave, Read, wire, begin_of, carries, data_came, data_read, given, left, holds, driver_holds, flow_by, waiting, IsOver, AllowsPass, LawfulPasses}
 use Rattle.modem_data.specs.Pipes.{Pipe, PipeFits, Leads, LeadsLeft, HasNoneToSend, MayLeave, next_data, SaysOver, SaysLane, SaysBehind, HasUnread, IsShut, TakesNone, SaysFlow}
 use Rattle.modem_data.proofs.Watching.{watched_sent_info}
 use Rattle.modem_data.proofs.Pipes.{open_there, idle_is}
@@ -162,24 +162,21 @@ unread_is x y z e =
     let m = ap (λ (xs : List ℕ). length xs) e in
     omega (arith, n, m)
 
-due_is : (n1 d : ℕ) (v : Pipe) (past : List Pass) → PipeFits n1 d v past → flow_by v.held v.by_driver (length v.lane.came) ≡ flow_by (holds d past) (driver_holds d past) (unread d past)
-due_is n1 d v past h = rw (h.held_is, h.by_driver_is) (ap (λ n. flow_by (holds d past) (driver_holds d past) n) (unread_is (data_read d past) v.lane.came (data_came d past) h.came_is))
+due_is : (n1 d : ℕ) (v : Pipe) (past : List Pass) → PipeFits n1 d v past → flow_by v.held v.by_driver (lane_waiting v.lane) ≡ flow_by (holds d past) (driver_holds d past) (waiting d past)
+due_is n1 d v past h =
+    rw (h.held_is, h.by_driver_is)
+    (ap (λ n. flow_by (holds d past) (driver_holds d past) n)
+    (ap (λ c. if is_idle c then 0 else length v.lane.came) h.carries_is
+    ∙ ap (λ n. if is_idle (carries d past) then 0 else n) (unread_is (data_read d past) v.lane.came (data_came d past) h.came_is)))
 
-pub says_flow : (v : Pipe) (o : Option Bool) → is_idle v.lane.carries ≡ false → v.watch.own.is_open ≡ true → o ≡ flow_by v.held v.by_driver (length v.lane.came) → SaysFlow v o
+pub says_flow : (v : Pipe) (o : Option Bool) → v.watch.own.is_open ≡ true → o ≡ flow_by v.held v.by_driver (lane_waiting v.lane) → SaysFlow v o
 unfolding SaysFlow
-says_flow v (Some go) lane up e = λ n1 d past h. record {
+says_flow v (Some go) up e = λ n1 d past h. record {
   open_there = sym (open_there n1 d v past h) ∙ up;
-  lane = ap is_idle (sym h.carries_is) ∙ lane;
   due = sym (due_is n1 d v past h) ∙ sym e;
 }
-says_flow v None lane up e = λ n1 d past go h due.
+says_flow v None up e = λ n1 d past go h due.
     let x : None ≡ Some go = e ∙ (due_is n1 d v past h ∙ due.due) in
-    cc
-
-pub idle_flow : (v : Pipe) → is_idle v.lane.carries ≡ true → SaysFlow v None
-unfolding SaysFlow
-idle_flow v idle n1 d past go h due =
-    let x : true ≡ false = sym idle ∙ (ap is_idle h.carries_is ∙ due.lane) in
     cc
 
 pub shut_flow : (v : Pipe) → v.watch.own.is_open ≡ false → SaysFlow v None

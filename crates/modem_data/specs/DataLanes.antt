@@ -1,13 +1,17 @@
 -- What is kept of the data of a connection, from the beginning of a lane to its end.
-use Rattle.std.specs.Prelude.{◌≡◌, ◌≤◌, ℕ, List, [], ◌++◌}
+use Rattle.std.specs.Prelude.{◌≡◌, ◌≤◌, ℕ, List, [], ◌++◌, length, if◌then◌else◌}
 use Rattle.modem_data.specs.declared.switch.LineCut.{LineCut}
-use Rattle.modem_data.specs.Switching.{Carries, Idle, IsCut, data_of, carries_after, ended_by_call, without_carrier}
+use Rattle.modem_data.specs.Switching.{Carries, Idle, IsCut, is_idle, data_of, carries_after, ended_by_call, without_carrier}
 
 -- what it carries, the data that came and was not read yet, and the octets that were given and have not left yet
 pub record DataLane : Type 0 where
   pub carries : Carries
   pub came : List ℕ
   pub to_go : List ℕ
+
+-- how many octets hold the other end back: none once the lane is over
+abbrev pub lane_waiting : DataLane → ℕ
+lane_waiting l = if is_idle l.carries then 0 else length l.came
 
 -- how many octets may wait to leave
 abbrev pub most_to_go : ℕ

@@ -161,6 +161,10 @@ driver_holds d (_ ∷ past) = driver_holds d past
 abbrev pub unread : ℕ → List Pass → ℕ
 unread d past = length (data_came d past) - length (data_read d past)
 
+-- how many of them hold d back: none behind the end of a lane, since lines are to come then
+abbrev pub waiting : ℕ → List Pass → ℕ
+waiting d past = if is_idle (carries d past) then 0 else unread d past
+
 -- What is to be said: stop, where 8192 octets wait; go on, where fewer than 4096 do, unless the driver holds d by its lines.
 abbrev pub flow_by : (held by_driver : Bool) → (waiting : ℕ) → Option Bool
 flow_by false by_driver waiting = if nat_le 8192 waiting then Some false else None
@@ -171,11 +175,10 @@ flow_by true false waiting = if nat_lt waiting 4096 then Some true else None
 abbrev pub flow_frame : ℕ → (go : Bool) → Frame
 flow_frame d go = msc_frame Initiator d (if go then ready else held_up)
 
--- d is open and carries a lane, and this is to be said of it
+-- d is open, and this is to be said of it
 pub record IsDue (d : ℕ) (past : List Pass) (go : Bool) : Type 0 where
   pub open_there : is_open Initiator d (wire past) ≡ true
-  pub lane : is_idle (carries d past) ≡ false
-  pub due : flow_by (holds d past) (driver_holds d past) (unread d past) ≡ Some go
+  pub due : flow_by (holds d past) (driver_holds d past) (waiting d past) ≡ Some go
 
 -- ## The laws
 

@@ -256,19 +256,16 @@ impl Pipe {
         self.lane.to_go().len()
     }
 
-    /// What the other end is due to be told: to stop (`false`) where 8192 octets wait to be read, then to go on (`true`) where fewer than
-    /// 4096 do and the driver doesn't hold the connection.
-    #[tactic(auto, using(crate::proofs::PipeCalls::says_flow, crate::proofs::PipeCalls::idle_flow, crate::proofs::PipeCalls::shut_flow))]
+    /// What the other end is due to be told: to stop (`false`) where 8192 octets of a lane wait to be read, then to go on (`true`) where
+    /// fewer than 4096 do or the lane is over, and the driver doesn't hold the connection.
+    #[tactic(auto, using(crate::proofs::PipeCalls::says_flow, crate::proofs::PipeCalls::shut_flow))]
     pub fn flow(&self) -> Option<bool>
         ensures { SaysFlow self.now result }
     {
-        if self.lane.is_idle() {
-            return None;
-        }
         if !self.watch.is_open() {
             return None;
         }
-        flow_by(self.held, self.by_driver, self.lane.waiting())
+        flow_by(self.held, self.by_driver, self.lane.holding())
     }
 
     /// Whether a frame of data may leave.

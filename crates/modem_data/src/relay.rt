@@ -330,7 +330,7 @@ impl Relay {
     }
 
     /// Says to the other end that it may not go on with data of a connection, where 8192 octets wait, or that it may, where fewer than
-    /// 4096 do, by an MSC, and answers whether it said anything. Requires that every frame of the driver's has gone, and that no octets
+    /// 4096 do or the lane is over, by an MSC, and answers whether it said anything. Requires that every frame of the driver's has gone, and that no octets
     /// wait.
     #[tactic(auto, using(crate::proofs::FrameRoom::room_for))]
     fn put_flow(&mut self) -> bool
