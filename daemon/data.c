@@ -106,7 +106,7 @@ static bool take(struct data *d, struct lane *l, bool is_dropped, bool all)
 static void begin_next(struct data *d, struct lane *l)
 {
 	if (d->modem->stage == MODEM_UP)
-		cimbaloty_data_begin(&d->modem->relay, (uint8_t)l->dlci, is_dialled(d, l));
+		cimbaloty_data_begin(&d->modem->relay, (uint8_t)l->dlci, is_dialled(d, l), CIMBALOTY_DATA_UNTIL_CLOSE);
 	l->has_carried = false;
 }
 

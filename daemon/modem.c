@@ -108,7 +108,7 @@ static bool begin_relay(struct modem *m)
 	if (cimbaloty_data_new_at(&m->relay, (uint16_t)o->n1, o->data, o->lanes) != CIMBALOTY_DATA_OK)
 		return false;
 	for (unsigned i = 0; i < o->lanes; i++)
-		cimbaloty_data_begin(&m->relay, o->data[i], o->carries[o->data[i]] == DATA_BEHIND_CONNECT);
+		cimbaloty_data_begin(&m->relay, o->data[i], o->carries[o->data[i]] == DATA_BEHIND_CONNECT, CIMBALOTY_DATA_UNTIL_CLOSE);
 	return true;
 }
 

@@ -3,7 +3,8 @@
  *
  * A relay takes the octets of the line and hands the driver all frames but data; it takes the octets of the driver and puts data
  * between its frames. It does no I/O. Up to 8 connections may carry data. On one of them a lane begins by a call, and is over where
- * the connection's opening ends. This is one round of a program:
+ * the connection's opening ends, the line is lost, a call ends it, or, if it was begun so, the modem loses the carrier. This is one
+ * round of a program:
  *
  *     octets came:  cimbaloty_data_from_line(&d, octets, count, &taken);
  *     while ((count = cimbaloty_data_for_driver(&d, room, sizeof room)) > 0) {
@@ -51,7 +52,7 @@ enum cimbaloty_data_status {
 	CIMBALOTY_DATA_NO_RELAY = 16,       /* there is no relay */
 	CIMBALOTY_DATA_HAS_RELAY = 17,      /* there is a relay already */
 	CIMBALOTY_DATA_BAD_DLCI = 18,       /* a connection is 0 to 61 */
-	CIMBALOTY_DATA_BAD_BEGIN = 19       /* how a lane begins is 0 to 2 */
+	CIMBALOTY_DATA_BAD_BEGIN = 19       /* how a lane begins is 0 to 2, and until when it lasts 0 or 1 */
 };
 
 /* How a lane begins. */
@@ -59,6 +60,12 @@ enum cimbaloty_data_how {
 	CIMBALOTY_DATA_AT_ONCE = 0,    /* all that comes is data */
 	CIMBALOTY_DATA_BY_CONNECT = 1, /* data comes behind the next CONNECT line (V.250, 6.3.1) */
 	CIMBALOTY_DATA_BY_PROMPT = 2   /* a text leaves behind the next prompt: `>` and a blank that begin a line (27.005, 3.3.1, 3.5.1) */
+};
+
+/* Until when a lane lasts, unless the connection's opening ends, the line is lost or a call ends it before. */
+enum cimbaloty_data_until {
+	CIMBALOTY_DATA_UNTIL_CLOSE = 0,       /* nothing else ends it */
+	CIMBALOTY_DATA_UNTIL_CARRIER_LOSS = 1 /* the modem loses the carrier: DV falls in its MSC (27.010, 5.4.6.3.7) */
 };
 
 /* What was read: how many octets, and whether the lane is over and all of its data was read. */
@@ -80,8 +87,12 @@ void cimbaloty_data_free(struct cimbaloty_data *d);
  * By a prompt it is for a command that asks for a text, as AT+CMGS. Begin the lane, give the text with the octet that ends it (1A, or
  * 1B to give up), and have the driver send the command. The text leaves once the prompt has come. The prompt goes nowhere; all else that
  * comes goes to the driver, and nothing is data. End the lane where the command has its answer: if that came in place of the prompt,
- * nothing of the text is sent. */
-uint8_t cimbaloty_data_begin(struct cimbaloty_data *d, uint8_t dlci, uint8_t how);
+ * nothing of the text is sent.
+ *
+ * Until the loss of the carrier: where data is under way, an MSC of the modem with DV 0 ends the lane, as cimbaloty_data_lines does, if
+ * the last one before it, of this opening, had DV 1. So NO CARRIER comes to the driver as a line. A DV that falls while the modem
+ * dials, or was never 1, ends nothing. */
+uint8_t cimbaloty_data_begin(struct cimbaloty_data *d, uint8_t dlci, uint8_t how, uint8_t until);
 
 /* The lane of a connection is over, from the next frame on: lines come and go again. What was given and hasn't left isn't sent. Of a
  * lane by a prompt a `>` may be held back, which may be the prompt's: it goes before the next octets, and the lane is over with these. */
@@ -91,7 +102,7 @@ uint8_t cimbaloty_data_lines(struct cimbaloty_data *d, uint8_t dlci);
 void cimbaloty_data_lost(struct cimbaloty_data *d);
 
 /* Data that came, and data to be sent: at most 4096 octets wait to be sent. The modem is asked to send no more where 8192 octets
- * wait to be read, and to go on where fewer than 4096 do. */
+ * wait to be read, and to go on where fewer than 4096 do or the lane is over. */
 uint8_t cimbaloty_data_read_at(struct cimbaloty_data *d, uint8_t dlci, uint8_t *room, size_t length, struct cimbaloty_data_got *got);
 uint8_t cimbaloty_data_give_at(struct cimbaloty_data *d, uint8_t dlci, const uint8_t *octets, size_t length, size_t *taken);
 

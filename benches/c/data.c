@@ -1,4 +1,5 @@
 /* data.c - the relay for data and a driver in one program, with each allocation refused in turn: what passes is the same each time.
+ * Then a call that the modem hangs up: DV falls in its MSC, and lines come again.
  * Link with both libraries and -Wl,--wrap=malloc,--wrap=realloc. */
 #define _POSIX_C_SOURCE 200809L
 #include "cimbaloty.h"
@@ -127,7 +128,7 @@ static void converse(struct run *r)
 		data[at] = (uint8_t)(at * 7 + at / 251);
 	REQUEST(cimbaloty_data_new_at(&r->d, N1, named, 1));
 	REQUEST(cimbaloty_new(&r->c, N1, CIMBALOTY_ALL_KINDS, 1));
-	CHECK(cimbaloty_data_begin(&r->d, 2, CIMBALOTY_DATA_AT_ONCE) == CIMBALOTY_DATA_OK);
+	CHECK(cimbaloty_data_begin(&r->d, 2, CIMBALOTY_DATA_AT_ONCE, CIMBALOTY_DATA_UNTIL_CLOSE) == CIMBALOTY_DATA_OK);
 	for (uint8_t dlci = 0; dlci < 3; dlci++) {
 		REQUEST(cimbaloty_open(&r->c, dlci, &number));
 		pass(r);
@@ -155,6 +156,82 @@ static void converse(struct run *r)
 	cimbaloty_data_free(&r->d);
 }
 
+/* ---- A call that the modem hangs up ---- */
+
+static void open_to_2(struct run *r)
+{
+	static struct octets o;
+	uint64_t number;
+
+	for (uint8_t dlci = 0; dlci < 3; dlci++) {
+		CHECK(cimbaloty_open(&r->c, dlci, &number) == CIMBALOTY_OK);
+		pass(r);
+		o.length = 0;
+		put_frame(&o, (uint8_t)(dlci << 2 | 3), 0x73, NULL, 0);
+		hear(r, &o);
+	}
+}
+
+/* The modem says this on 2, in a frame of its own; or of 2, by an MSC. */
+static void say(struct run *r, const char *text)
+{
+	static struct octets o;
+
+	o.length = 0;
+	put_frame(&o, 2 << 2 | 1, 0xEF, (const uint8_t *)text, strlen(text));
+	hear(r, &o);
+}
+
+static void signal_2(struct run *r, uint8_t signals)
+{
+	const uint8_t msc[] = { 0xE3, 5, 2 << 2 | 3, signals };
+	static struct octets o;
+
+	o.length = 0;
+	put_frame(&o, 1, 0xEF, msc, sizeof msc);
+	hear(r, &o);
+}
+
+/* The lines that the driver told since the last call are this one, or none. */
+static void expect_lines(struct run *r, const char *text)
+{
+	take_all(r);
+	CHECK(r->lines.length == strlen(text) && !memcmp(r->lines.at, text, r->lines.length));
+	r->lines.length = 0;
+}
+
+/* 2 is dialled until the carrier is lost. Its first MSC has DV 0, as many modems' has, and that ends nothing. */
+static void hang_up(struct run *r, uint8_t until, bool ends)
+{
+	const char *sends = "ok", *came = "\r\nNO CARRIER\r\n";
+	uint8_t named[] = { 2 };
+	size_t taken;
+
+	CHECK(cimbaloty_data_new_at(&r->d, N1, named, 1) == CIMBALOTY_DATA_OK);
+	CHECK(cimbaloty_new(&r->c, N1, CIMBALOTY_ALL_KINDS, 1) == CIMBALOTY_OK);
+	CHECK(cimbaloty_data_begin(&r->d, 2, CIMBALOTY_DATA_BY_CONNECT, 2) == CIMBALOTY_DATA_BAD_BEGIN);
+	CHECK(cimbaloty_data_begin(&r->d, 2, CIMBALOTY_DATA_BY_CONNECT, until) == CIMBALOTY_DATA_OK);
+	open_to_2(r);
+	signal_2(r, 0x0D);
+	signal_2(r, 0x8D);
+	signal_2(r, 0x0D);
+	say(r, "\r\nCONNECT\r\n");
+	expect_lines(r, "CONNECT");
+	signal_2(r, 0x0D);
+	signal_2(r, 0x8D);
+	say(r, came);
+	expect_lines(r, "");
+	CHECK(r->data.length == strlen(came) && !memcmp(r->data.at, came, r->data.length));
+	CHECK(cimbaloty_data_give_at(&r->d, 2, (const uint8_t *)sends, 2, &taken) == CIMBALOTY_DATA_OK && taken == 2);
+	signal_2(r, 0x0D);
+	say(r, came);
+	expect_lines(r, ends ? "NO CARRIER" : "");
+	CHECK(r->data.length == (ends ? 1 : 2) * strlen(came));
+	CHECK((cimbaloty_data_give_at(&r->d, 2, (const uint8_t *)sends, 2, &taken) == CIMBALOTY_DATA_LINES) == ends);
+	cimbaloty_free(&r->c);
+	cimbaloty_data_free(&r->d);
+}
+
 int main(void)
 {
 	struct run *first = calloc(1, sizeof *first), *r = calloc(1, sizeof *r);
@@ -172,6 +249,11 @@ int main(void)
 			break;
 		CHECK(refused > 0);
 	}
+	left = -1;
+	memset(r, 0, sizeof *r);
+	hang_up(r, CIMBALOTY_DATA_UNTIL_CARRIER_LOSS, true);
+	memset(r, 0, sizeof *r);
+	hang_up(r, CIMBALOTY_DATA_UNTIL_CLOSE, false);
 	free(first);
 	free(r);
 	printf("data: %ld allocations refused in turn\n", place);

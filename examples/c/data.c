@@ -1,8 +1,9 @@
 /* data.c - data beside a driver: data LINE DRIVER DLCI
  *
  * LINE is the tty of a modem in the multiplexer, DRIVER one at whose other end a driver of the multiplexer works as if it were the
- * modem's. Behind a CONNECT line on this connection standard input goes there, and what comes there goes to standard output. It goes
- * on until a tty ends, or until the lane is over and nothing came for a second in all: so what answers the lane's end passes too. */
+ * modem's. Behind a CONNECT line on this connection standard input goes there, and what comes there goes to standard output, until the
+ * connection is closed or the modem loses the carrier. It goes on until a tty ends, or until the lane is over and nothing came for a
+ * second in all: so what answers the lane's end passes too. */
 #define _DEFAULT_SOURCE
 #include "cimbaloty_data.h"
 #include <fcntl.h>
@@ -84,7 +85,7 @@ int main(int argc, char **argv)
 	unsigned left = PAUSES;
 	bool holds = true;
 
-	if (fd[LINE] < 0 || fd[DRIVER] < 0 || cimbaloty_data_new_at(&d, 512, &dlci, 1) != CIMBALOTY_DATA_OK || cimbaloty_data_begin(&d, dlci, CIMBALOTY_DATA_BY_CONNECT) != CIMBALOTY_DATA_OK) {
+	if (fd[LINE] < 0 || fd[DRIVER] < 0 || cimbaloty_data_new_at(&d, 512, &dlci, 1) != CIMBALOTY_DATA_OK || cimbaloty_data_begin(&d, dlci, CIMBALOTY_DATA_BY_CONNECT, CIMBALOTY_DATA_UNTIL_CARRIER_LOSS) != CIMBALOTY_DATA_OK) {
 		fprintf(stderr, "usage: data LINE DRIVER DLCI\n");
 		return 2;
 	}

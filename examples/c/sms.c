@@ -102,7 +102,7 @@ static bool sends(struct sms *s, const char *to, const char *text)
 	char command[64];
 	size_t taken, last;
 	bool is_sent = snprintf(command, sizeof command, "AT+CMGS=\"%s\"", to) < (int)sizeof command
-		&& cimbaloty_data_begin(&s->d, DLCI, CIMBALOTY_DATA_BY_PROMPT) == CIMBALOTY_DATA_OK
+		&& cimbaloty_data_begin(&s->d, DLCI, CIMBALOTY_DATA_BY_PROMPT, CIMBALOTY_DATA_UNTIL_CLOSE) == CIMBALOTY_DATA_OK
 		&& cimbaloty_data_give_at(&s->d, DLCI, (const uint8_t *)text, strlen(text), &taken) == CIMBALOTY_DATA_OK && taken == strlen(text)
 		&& cimbaloty_data_give_at(&s->d, DLCI, &end, 1, &last) == CIMBALOTY_DATA_OK && last == 1
 		&& asks(s, command);

@@ -15,18 +15,18 @@ pub begins_none : {X Y : Type 0} (r s : X → List ℕ) (files : List (FileState
 begins_none r s files v = record { leads = λ n1 ds b past h. h; same = refl }
 
 begun_one : {Y : Type 0} (files : List (FileState Y)) (f : FileState Y) (past : List Hop)
-    → begun (files ++ f ∷ []) past ≡ Passed (Began f.dlci f.how) ∷ begun files past
+    → begun (files ++ f ∷ []) past ≡ Passed (Began f.dlci f.how f.until) ∷ begun files past
 begun_one [] f past = refl
-begun_one (g ∷ files) f past = begun_one files f (Passed (Began g.dlci g.how) ∷ past)
+begun_one (g ∷ files) f past = begun_one files f (Passed (Began g.dlci g.how g.until) ∷ past)
 
 pub begins_more : {X Y : Type 0} (r s : X → List ℕ) (files : List (FileState Y)) (i : ℕ) (f : FileState Y) (u v w : DataLineState X)
     → i < length files → HasBegunTo r s (take i files) u v
-    → Hops v.relay w.relay (Passed (Began (slice_index_or files i f).dlci (slice_index_or files i f).how)) → w ≡ record v { relay = w.relay }
+    → Hops v.relay w.relay (Passed (Began (slice_index_or files i f).dlci (slice_index_or files i f).how (slice_index_or files i f).until)) → w ≡ record v { relay = w.relay }
     → HasBegunTo r s (take (i + 1) files) u w
 begins_more r s files i f u v w there h hops e = record {
   leads = λ n1 ds b past x. subst (λ (hs : List Hop). LineFits r s n1 ds b w hs)
       (sym (ap (λ (fs : List (FileState _)). begun fs past) (take_more files i f there) ∙ begun_one (take i files) (slice_index_or files i f) past))
-      (lane_leads r s v w (Began (slice_index_or files i f).dlci (slice_index_or files i f).how) hops e n1 ds b (begun (take i files) past) (h.leads n1 ds b past x));
+      (lane_leads r s v w (Began (slice_index_or files i f).dlci (slice_index_or files i f).how (slice_index_or files i f).until) hops e n1 ds b (begun (take i files) past) (h.leads n1 ds b past x));
   same = e ∙ ap (λ (x : DataLineState _). record x { relay = w.relay }) h.same;
 }
 
@@ -38,11 +38,11 @@ nil_if false xs e = e
 
 none_given : {Y : Type 0} (d : ℕ) (files : List (FileState Y)) (past : List Hop) → given d (passes past) ≡ [] → given d (passes (begun files past)) ≡ []
 none_given d [] past e = e
-none_given d (f ∷ files) past e = none_given d files (Passed (Began f.dlci f.how) ∷ past) (nil_if (f.dlci == d) (given d (passes past)) e)
+none_given d (f ∷ files) past e = none_given d files (Passed (Began f.dlci f.how f.until) ∷ past) (nil_if (f.dlci == d) (given d (passes past)) e)
 
 none_read : {Y : Type 0} (d : ℕ) (files : List (FileState Y)) (past : List Hop) → data_read d (passes past) ≡ [] → data_read d (passes (begun files past)) ≡ []
 none_read d [] past e = e
-none_read d (f ∷ files) past e = none_read d files (Passed (Began f.dlci f.how) ∷ past) (nil_if (f.dlci == d) (data_read d (passes past)) e)
+none_read d (f ∷ files) past e = none_read d files (Passed (Began f.dlci f.how f.until) ∷ past) (nil_if (f.dlci == d) (data_read d (passes past)) e)
 
 fresh_fits : {Y : Type 0} (g t : Y → List ℕ) (files : List (FileState Y)) (f : FileState Y) → IsFresh g t f → FileFits g t (passes (begun files [])) f
 fresh_fits g t files f h = record {

@@ -31,7 +31,7 @@ goes_passes true (Passed (Left f)) e = cc
 goes_passes true (Passed (Came f)) e = refl
 goes_passes true (Passed (Went f)) e = refl
 goes_passes true (Passed Lost) e = refl
-goes_passes true (Passed (Began d c)) e = cc
+goes_passes true (Passed (Began d c u)) e = cc
 goes_passes true (Passed (EndedLane d)) e = cc
 goes_passes true (Passed (Gave d o)) e = cc
 goes_passes true (Passed (Read d o)) e = cc
@@ -44,7 +44,7 @@ goes_passes false (Passed (Left f)) e = refl
 goes_passes false (Passed (Came f)) e = refl
 goes_passes false (Passed (Went f)) e = refl
 goes_passes false (Passed Lost) e = refl
-goes_passes false (Passed (Began d c)) e = cc
+goes_passes false (Passed (Began d c u)) e = cc
 goes_passes false (Passed (EndedLane d)) e = cc
 goes_passes false (Passed (Gave d o)) e = cc
 goes_passes false (Passed (Read d o)) e = cc
@@ -61,7 +61,7 @@ any_passes behind (Passed (Went f)) e = goes_passes behind (Passed (Went f)) e
 any_passes behind (Passed (Flowed f)) e = goes_passes behind (Passed (Flowed f)) e
 any_passes behind (Passed (Left f)) e = goes_passes behind (Passed (Left f)) e
 any_passes behind (Passed Lost) e = goes_passes behind (Passed Lost) e
-any_passes behind (Passed (Began d c)) e = goes_passes behind (Passed (Began d c)) e
+any_passes behind (Passed (Began d c u)) e = goes_passes behind (Passed (Began d c u)) e
 any_passes behind (Passed (EndedLane d)) e = goes_passes behind (Passed (EndedLane d)) e
 any_passes behind (Passed (Gave d o)) e = goes_passes behind (Passed (Gave d o)) e
 any_passes behind (Passed (Read d o)) e = goes_passes behind (Passed (Read d o)) e
@@ -77,7 +77,7 @@ driver_passes a e = goes_passes true a e
 abbrev pub is_beside : ℕ → Hop → Bool
 is_beside d (Passed (Gave e octets)) = if e == d then false else true
 is_beside d (Passed (Read e octets)) = if e == d then false else true
-is_beside d (Passed (Began e how)) = false
+is_beside d (Passed (Began e how until)) = false
 is_beside d a = true
 
 pub passes_beside : (d : ℕ) (a : Hop) → may_pass false a ≡ true → is_beside d a ≡ true
@@ -86,7 +86,7 @@ passes_beside d (Passed (Went f)) e = refl
 passes_beside d (Passed (Flowed f)) e = refl
 passes_beside d (Passed (Left f)) e = refl
 passes_beside d (Passed Lost) e = refl
-passes_beside d (Passed (Began c b)) e = cc
+passes_beside d (Passed (Began c b u)) e = cc
 passes_beside d (Passed (EndedLane c)) e = refl
 passes_beside d (Passed (Gave c o)) e = cc
 passes_beside d (Passed (Read c o)) e = cc
@@ -111,7 +111,7 @@ of_file_beside c d apart (Passed (Went f)) e = refl
 of_file_beside c d apart (Passed (Flowed f)) e = refl
 of_file_beside c d apart (Passed (Left f)) e = refl
 of_file_beside c d apart (Passed Lost) e = refl
-of_file_beside c d apart (Passed (Began b k)) e = cc
+of_file_beside c d apart (Passed (Began b k u)) e = cc
 of_file_beside c d apart (Passed (EndedLane b)) e = refl
 of_file_beside c d apart (Fed o) e = refl
 of_file_beside c d apart (Handed o) e = refl
@@ -130,7 +130,7 @@ given_stays d (Passed (Gave c o) ∷ hops) past e =
     given_if (c == d) (given d (passes hops ++ past) ++ o) (given d (passes hops ++ past)) both.0 ∙ given_stays d hops past both.1
 given_stays d (Passed (Read c o) ∷ hops) past e =
     given_stays d hops past (and_parts (is_beside d (Passed (Read c o))) (list_all (is_beside d) hops) e).1
-given_stays d (Passed (Began c b) ∷ hops) past e = cc
+given_stays d (Passed (Began c b u) ∷ hops) past e = cc
 given_stays d (Passed (Came f) ∷ hops) past e = given_stays d hops past e
 given_stays d (Passed (Went f) ∷ hops) past e = given_stays d hops past e
 given_stays d (Passed (Flowed f) ∷ hops) past e = given_stays d hops past e
@@ -149,7 +149,7 @@ read_stays d (Passed (Read c o) ∷ hops) past e =
     given_if (c == d) (data_read d (passes hops ++ past) ++ o) (data_read d (passes hops ++ past)) both.0 ∙ read_stays d hops past both.1
 read_stays d (Passed (Gave c o) ∷ hops) past e =
     read_stays d hops past (and_parts (is_beside d (Passed (Gave c o))) (list_all (is_beside d) hops) e).1
-read_stays d (Passed (Began c b) ∷ hops) past e = cc
+read_stays d (Passed (Began c b u) ∷ hops) past e = cc
 read_stays d (Passed (Came f) ∷ hops) past e = read_stays d hops past e
 read_stays d (Passed (Went f) ∷ hops) past e = read_stays d hops past e
 read_stays d (Passed (Flowed f) ∷ hops) past e = read_stays d hops past e
@@ -209,7 +209,7 @@ quiet c d (Passed (Gave b o) ∷ hops) past e =
 quiet c d (Passed (Read b o) ∷ hops) past e =
     let x = quiet c d hops past (and_parts (b == c) (list_all (is_of_file c) hops) e).1 in
     record { carries_is = x.carries_is; wire_is = x.wire_is; left_is = x.left_is; came_is = x.came_is }
-quiet c d (Passed (Began b k) ∷ hops) past e = cc
+quiet c d (Passed (Began b k u) ∷ hops) past e = cc
 quiet c d (Passed (Came f) ∷ hops) past e = cc
 quiet c d (Passed (Went f) ∷ hops) past e = cc
 quiet c d (Passed (Flowed f) ∷ hops) past e = cc

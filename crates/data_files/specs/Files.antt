@@ -1,6 +1,7 @@
 -- A line some of whose connections carry the data of files, as contracts see it. A past is written newest first.
 use Rattle.std.specs.Prelude.{◌≡◌, ℕ, Bool, false, List, [], ◌∷◌, ◌++◌, All, map}
 use Rattle.modem_data.specs.declared.begin.Begin.{Begin}
+use Rattle.modem_data.specs.declared.begin.Until.{Until}
 use Rattle.modem_data.specs.Passing.{Pass, Began, data_read, given}
 use Rattle.modem_data.specs.Hops.{Hop, Passed, Relay, passes}
 use Rattle.modem_data_line.specs.DataLines.{Before, DataLineState, LineFits, new_data_line}
@@ -10,6 +11,7 @@ use Rattle.modem_data_line.specs.LineLaws.{before_of}
 pub record FileState (Y : Type 0) : Type 0 where
   pub dlci : ℕ
   pub how : Begin  -- how its lane begins
+  pub until : Until  -- and until when it lasts
   pub file : Y
   pub ungiven : List ℕ  -- what the file gave, and the connection hasn't taken yet
   pub unwritten : List ℕ  -- what was read of the connection, and the file hasn't taken yet
@@ -18,10 +20,11 @@ pub record FileState (Y : Type 0) : Type 0 where
   pub is_over : Bool  -- the lane is over, and all of its data was read
 
 -- nothing has passed
-abbrev pub new_file : {Y : Type 0} → ℕ → (how : Begin) → Y → FileState Y
-new_file dlci how file = record {
+abbrev pub new_file : {Y : Type 0} → ℕ → (how : Begin) → (until : Until) → Y → FileState Y
+new_file dlci how until file = record {
   dlci = dlci;
   how = how;
+  until = until;
   file = file;
   ungiven = [];
   unwritten = [];
@@ -62,7 +65,7 @@ pub record IsFresh {Y : Type 0} (received sent : Y → List ℕ) (f : FileState 
 -- behind a past the lane of each file begins, in their order
 abbrev pub begun : {Y : Type 0} → List (FileState Y) → List Hop → List Hop
 begun [] past = past
-begun (f ∷ files) past = begun files (Passed (Began f.dlci f.how) ∷ past)
+begun (f ∷ files) past = begun files (Passed (Began f.dlci f.how f.until) ∷ past)
 
 -- This line has these files, and on it nothing has passed but that each file's lane began.
 pub record BeginsFiled {X Y : Type 0} (received sent : X → List ℕ) (line : X) (relay : Relay) (n1 : ℕ) (files : List (FileState Y))

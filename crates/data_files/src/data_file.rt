@@ -7,7 +7,7 @@ ghost use Rattle.data_files.specs.Files.{FileFits, new_file};
 ghost use Rattle.data_files.specs.Moves.{FileGrows, FileMoves, GaveFirst, GivesOn, HadTurn, IsAskedFile, IsOfferedFile, KeepsUnread, ReadsOn};
 
 use crate::unwritten::Unwritten;
-use modem_data::{Begin, DataError};
+use modem_data::{Begin, DataError, Until};
 use modem_data_line::DataLine;
 use mux_frame::Dlci;
 use serial_line::{ReadBuffer, SerialLine};
@@ -19,6 +19,7 @@ use std::marker::Model;
 pub struct DataFile<P: SerialLine> {
     dlci: Dlci,
     how: Begin,
+    until: Until,
     file: P,
     ungiven: ReadBuffer,
     unwritten: Unwritten,
@@ -35,6 +36,7 @@ impl<P: SerialLine> Model for DataFile<P> {
     ghost view = { λ f. record {
       dlci = f.dlci.number;
       how = f.how;
+      until = f.until;
       file = f.file;
       ungiven = f.ungiven;
       unwritten = f.unwritten;
@@ -66,14 +68,21 @@ fn give<L: SerialLine>(
 }
 
 impl<P: SerialLine + Drop> DataFile<P> {
-    /// This file beside this connection, whose lane begins so. Refusal: no memory.
-    pub fn new(alloc: Global, dlci: Dlci, how: Begin, file: P) -> Result<DataFile<P>, AllocError>
-        ensures { IfOk result (λ f. f ≡ new_file dlci.number how file) }
+    /// This file beside this connection, whose lane begins and lasts so. Refusal: no memory.
+    pub fn new(
+        alloc: Global,
+        dlci: Dlci,
+        how: Begin,
+        until: Until,
+        file: P,
+    ) -> Result<DataFile<P>, AllocError>
+        ensures { IfOk result (λ f. f ≡ new_file dlci.number how until file) }
     {
         let ungiven = ReadBuffer::new(alloc)?;
         Ok(DataFile {
             dlci,
             how,
+            until,
             file,
             ungiven,
             unwritten: Unwritten::new(),
@@ -105,6 +114,13 @@ impl<P: SerialLine> DataFile<P> {
         ensures { result ≡ self.now.how }
     {
         self.how
+    }
+
+    /// Until when its lane lasts.
+    pub fn until(&self) -> Until
+        ensures { result ≡ self.now.until }
+    {
+        self.until
     }
 
     /// Whether the file gives no more: a read of it failed.

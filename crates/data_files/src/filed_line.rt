@@ -56,7 +56,7 @@ fn begin_all<L: SerialLine, P: SerialLine>(
     let mut place = 0;
     while place < files.len() {
         let file = &files[place];
-        line.begin(file.dlci(), file.how())?;
+        line.begin(file.dlci(), file.how(), file.until())?;
         place += 1;
     }
     Ok(())

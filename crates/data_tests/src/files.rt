@@ -2,7 +2,7 @@
 ghost use Rattle.std.specs.Prelude.{◌≡◌, Ok};
 
 use data_files::{DataFile, FiledLine};
-use modem_data::{Begin, Relay};
+use modem_data::{Begin, Relay, Until};
 use mux_frame::Dlci;
 use serial_line::{CutLine, SerialLine};
 use std::alloc::Global;
@@ -43,7 +43,10 @@ fn line(rt: &impl Abort, alloc: Global, data: Dlci) -> FiledLine<CutLine, CutLin
     let line = made(rt, CutLine::new(alloc, CAME, &[], &[], 4096));
     let file = made(rt, CutLine::new(alloc, b"ok", &[], &[], 64));
     let relay = made(rt, Relay::new(alloc, 31, &[data]));
-    let file = made(rt, DataFile::new(alloc, data, Begin::AtOnce, file));
+    let file = made(
+        rt,
+        DataFile::new(alloc, data, Begin::AtOnce, Until::Close, file),
+    );
     let mut files = Vec::new(alloc);
     made(rt, files.push(file));
     made(rt, FiledLine::new(alloc, line, relay, 31, files))

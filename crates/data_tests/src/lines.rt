@@ -1,5 +1,5 @@
 //! Data on connection 2 of a line, beside a driver's frames.
-use modem_data::{Begin, Relay};
+use modem_data::{Begin, Relay, Until};
 use modem_data_line::DataLine;
 use mux_frame::Dlci;
 use serial_line::{CutLine, SerialLine};
@@ -42,7 +42,7 @@ fn line(rt: &impl Abort, alloc: Global, data: Dlci) -> DataLine<CutLine> {
     let line = made(rt, CutLine::new(alloc, CAME, &[], &[], 4096));
     let relay = made(rt, Relay::new(alloc, 31, &[data]));
     let mut line = made(rt, DataLine::new(alloc, line, relay));
-    assert!(rt; line.begin(data, Begin::AtOnce).is_ok());
+    assert!(rt; line.begin(data, Begin::AtOnce, Until::Close).is_ok());
     line
 }
 

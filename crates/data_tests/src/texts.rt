@@ -1,6 +1,6 @@
 //! A text for a prompt on connection 2 of a line: an SMS (27.005, 3.5.1).
 use crate::lines::{SABM_2, dlci, expect_read, made};
-use modem_data::{Begin, Relay};
+use modem_data::{Begin, Relay, Until};
 use modem_data_line::DataLine;
 use mux_frame::Dlci;
 use serial_line::{Cut, CutLine, SerialLine};
@@ -47,7 +47,7 @@ fn line(
     let line = made(rt, CutLine::new(alloc, says, cuts, &[], 4096));
     let relay = made(rt, Relay::new(alloc, 31, &[data]));
     let mut line = made(rt, DataLine::new(alloc, line, relay));
-    assert!(rt; line.begin(data, Begin::ByPrompt).is_ok());
+    assert!(rt; line.begin(data, Begin::ByPrompt, Until::Close).is_ok());
     line
 }
 

@@ -13,4 +13,5 @@ mod PromptRowFacts
 mod Prompting
 mod WholeLanes
 mod RelayRowFacts
+mod CarrierRowFacts
 pub mod FrameRoom

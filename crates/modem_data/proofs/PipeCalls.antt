@@ -1,13 +1,14 @@
 -- What a caller of a pipe does leads on, and what it is answered holds of every past.
-use Rattle.std.specs.Prelude.{◌≡◌, ℕ, ◌+◌, ◌-◌, ◌≤◌, ◌==◌, ◌&&◌, Bool, true, false, List, [], ◌∷◌, ◌++◌, take, drop, length, nat_le, IsTrue, Option, Some, None, refl}
+use Rattle.std.specs.Prelude.{◌≡◌, ℕ, ◌+◌, ◌-◌, ◌≤◌, ◌==◌, ◌&&◌, Bool, true, false, List, [], ◌∷◌, ◌++◌, take, drop, length, nat_le, IsTrue, if◌then◌else◌, Option, Some, None, refl}
 use Rattle.std.proofs.Common.{ap, sym, ◌∙◌, subst, arith}
 use Rattle.std.proofs.lemmas.Bool.{eqb-true, eq-eqb}
 use Rattle.std.proofs.lemmas.List.{append_assoc, append-nil, nil_from_length, take-append-drop, length-append, length-take}
 use Rattle.modem_data.specs.declared.begin.Begin.{Begin}
+use Rattle.modem_data.specs.declared.begin.Until.{Until}
 use Rattle.modem_data.specs.Switching.{ended_by_call, is_idle, lets_leave, takes_given, is_behind_lines}
-use Rattle.modem_data.specs.DataLanes.{DataLane, begun_lane, left_lane, most_to_go}
+use Rattle.modem_data.specs.DataLanes.{DataLane, begun_lane, lane_waiting, left_lane, most_to_go}
 use Rattle.modem_data.specs.Watching.{SaysMayLeave, may_leave}
-use Rattle.modem_data.specs.Passing.{Pass, Began, EndedLane, Gave, Read, wire, begin_of, carries, data_came, data_read, given, left, holds, driver_holds, flow_by, unread, IsOver, AllowsPass, LawfulPasses}
+use Rattle.modem_data.specs.Passing.{Pass, Began, EndedLane, Gave, Read, wire, begin_of, carries, data_came, data_read, given, left, holds, driver_holds, flow_by, waiting, IsOver, AllowsPass, LawfulPasses}
 use Rattle.modem_data.specs.Pipes.{Pipe, PipeFits, Leads, LeadsLeft, HasNoneToSend, MayLeave, next_data, SaysOver, SaysLane, SaysBehind, HasUnread, IsShut, TakesNone, SaysFlow}
 use Rattle.modem_data.proofs.Watching.{watched_sent_info}
 use Rattle.modem_data.proofs.Pipes.{open_there, idle_is}
@@ -23,9 +24,9 @@ is_none o e = nil_from_length o (eqb-true (length o) 0 e)
 all_read : (n1 d : ℕ) (v : Pipe) (past : List Pass) → v.lane.came ≡ [] → PipeFits n1 d v past → data_read d past ≡ data_came d past
 all_read n1 d v past none h = sym (append-nil (data_read d past)) ∙ (ap (λ x. data_read d past ++ x) (sym none) ∙ h.came_is)
 
-pub leads_began : (v : Pipe) (l : DataLane) (how : Begin) → is_idle v.lane.carries ≡ true → (length v.lane.came == 0) ≡ true → l ≡ begun_lane v.lane (begin_of how) → Leads v (record v { lane = l }) (Began v.watch.dlci how)
+pub leads_began : (v : Pipe) (l : DataLane) (how : Begin) (until : Until) → is_idle v.lane.carries ≡ true → (length v.lane.came == 0) ≡ true → l ≡ begun_lane v.lane (begin_of how) → Leads v (record v { lane = l; until = until }) (Began v.watch.dlci how until)
 unfolding Leads LawfulPasses
-leads_began v l how idle none e n1 d past h =
+leads_began v l how until idle none e n1 d past h =
     let here = same n1 d v past h in
     let empty = is_none v.lane.came none in
     rw e (record {
@@ -34,6 +35,7 @@ leads_began v l how idle none e n1 d past h =
       lawful = (subst (λ e. IsOver e past) (sym h.dlci_is) (record { idle = sym h.carries_is ∙ idle_is v.lane.carries idle; all_read = all_read n1 d v past empty h }), h.lawful);
       watched = h.watched;
       carries_is = rw here refl;
+      until_is = rw here refl;
       came_is = rw here empty;
       to_go_is = rw here refl;
       held_is = h.held_is;
@@ -50,6 +52,7 @@ leads_ended v w e n1 d past h =
       lawful = (tt, h.lawful);
       watched = h.watched;
       carries_is = rw here (ap ended_by_call h.carries_is);
+      until_is = h.until_is;
       came_is = h.came_is;
       to_go_is = h.to_go_is;
       held_is = h.held_is;
@@ -93,6 +96,7 @@ leads_read v l n octets e o n1 d past h =
       lawful = (record { later = drop n v.lane.came; is_next = subst (λ e. data_came e past ≡ data_read e past ++ (take n v.lane.came ++ drop n v.lane.came)) (sym h.dlci_is) split }, h.lawful);
       watched = h.watched;
       carries_is = h.carries_is;
+      until_is = h.until_is;
       came_is = rw here (append_assoc (data_read d past) (take n v.lane.came) (drop n v.lane.came) ∙ sym split);
       to_go_is = h.to_go_is;
       held_is = h.held_is;
@@ -135,6 +139,7 @@ leads_gave v l octets n up c few e n1 d past h =
       );
       watched = h.watched;
       carries_is = h.carries_is;
+      until_is = h.until_is;
       came_is = h.came_is;
       to_go_is = rw here (sym (append_assoc (left d past) v.lane.to_go (take n octets)) ∙ ap (λ o. o ++ take n octets) h.to_go_is);
       held_is = h.held_is;
@@ -157,24 +162,21 @@ unread_is x y z e =
     let m = ap (λ (xs : List ℕ). length xs) e in
     omega (arith, n, m)
 
-due_is : (n1 d : ℕ) (v : Pipe) (past : List Pass) → PipeFits n1 d v past → flow_by v.held v.by_driver (length v.lane.came) ≡ flow_by (holds d past) (driver_holds d past) (unread d past)
-due_is n1 d v past h = rw (h.held_is, h.by_driver_is) (ap (λ n. flow_by (holds d past) (driver_holds d past) n) (unread_is (data_read d past) v.lane.came (data_came d past) h.came_is))
+due_is : (n1 d : ℕ) (v : Pipe) (past : List Pass) → PipeFits n1 d v past → flow_by v.held v.by_driver (lane_waiting v.lane) ≡ flow_by (holds d past) (driver_holds d past) (waiting d past)
+due_is n1 d v past h =
+    rw (h.held_is, h.by_driver_is)
+    (ap (λ n. flow_by (holds d past) (driver_holds d past) n)
+    (ap (λ c. if is_idle c then 0 else length v.lane.came) h.carries_is
+    ∙ ap (λ n. if is_idle (carries d past) then 0 else n) (unread_is (data_read d past) v.lane.came (data_came d past) h.came_is)))
 
-pub says_flow : (v : Pipe) (o : Option Bool) → is_idle v.lane.carries ≡ false → v.watch.own.is_open ≡ true → o ≡ flow_by v.held v.by_driver (length v.lane.came) → SaysFlow v o
+pub says_flow : (v : Pipe) (o : Option Bool) → v.watch.own.is_open ≡ true → o ≡ flow_by v.held v.by_driver (lane_waiting v.lane) → SaysFlow v o
 unfolding SaysFlow
-says_flow v (Some go) lane up e = λ n1 d past h. record {
+says_flow v (Some go) up e = λ n1 d past h. record {
   open_there = sym (open_there n1 d v past h) ∙ up;
-  lane = ap is_idle (sym h.carries_is) ∙ lane;
   due = sym (due_is n1 d v past h) ∙ sym e;
 }
-says_flow v None lane up e = λ n1 d past go h due.
+says_flow v None up e = λ n1 d past go h due.
     let x : None ≡ Some go = e ∙ (due_is n1 d v past h ∙ due.due) in
-    cc
-
-pub idle_flow : (v : Pipe) → is_idle v.lane.carries ≡ true → SaysFlow v None
-unfolding SaysFlow
-idle_flow v idle n1 d past go h due =
-    let x : true ≡ false = sym idle ∙ (ap is_idle h.carries_is ∙ due.lane) in
     cc
 
 pub shut_flow : (v : Pipe) → v.watch.own.is_open ≡ false → SaysFlow v None
@@ -207,6 +209,7 @@ leads_left n1 v w n may some fits e dropped d past h =
       );
       watched = watched_sent_info v.watch (wire past) (next_data n1 v) refl (ap (λ e. e == 0) h.dlci_is ∙ h.not_control) h.watched;
       carries_is = h.carries_is;
+      until_is = h.until_is;
       came_is = h.came_is;
       to_go_is = rw here (ap (λ r. left d past ++ take n1 v.lane.to_go ++ r) dropped ∙ (append_assoc (left d past) (take n1 v.lane.to_go) (drop n1 v.lane.to_go) ∙ sym go));
       held_is = h.held_is;

@@ -5,35 +5,36 @@ use Rattle.std.proofs.lemmas.Bool.{eqb-true, eqb-false, ne_eqb, eq-eqb, and_part
 use Rattle.std.proofs.lemmas.List.{length-append, length-map, get_or_default}
 use Rattle.std.proofs.lemmas.List.Elements.{All-get_or, All-nil, All-cons}
 use Rattle.mux_frame.specs.Frames.{Frame}
-use Rattle.mux_station.specs.Acts as station
 use Rattle.mux_station.specs.declared.role.Role.TheVariants.{Initiator}
 use Rattle.mux_station.specs.Opening.{is_open}
 use Rattle.modem_data.specs.declared.begin.Begin.{Begin}
+use Rattle.modem_data.specs.declared.begin.Until.{Until}
 use Rattle.modem_data.specs.Switching.{Carries, Idle, ended_by_call, is_behind_lines, is_idle, lets_leave, takes_given}
 use Rattle.modem_data.specs.DataLanes.{most_to_go}
 use Rattle.modem_data.specs.Watching.{Watch}
-use Rattle.modem_data.specs.Passing.{Pass, wire, Came, Flowed, Left, Began, EndedLane, Gave, Read, AllowsPass, ends_here, carries, data_came, data_read, given, left, to_go, unread, LawfulPasses, IsOver, IsDue, flow_frame}
+use Rattle.modem_data.specs.Passing.{Pass, wire, Came, Flowed, Left, Began, EndedLane, Gave, Read, AllowsPass, carries, data_came, data_read, given, left, to_go, unread, LawfulPasses, IsOver, IsDue, flow_frame}
 use Rattle.modem_data.specs.Pipes.{Pipe, PipeFits, Leads, LeadsLeft, HasNoneToSend, MayLeave, IsShut, TakesNone, HasUnread, SaysBehind, SaysFlow, SaysLane, SaysOver, flowed_pipe}
-use Rattle.modem_data.specs.PipeSets.{PipeSet, PipesFit, AllLead, OfEachPast, HasPipe, IsNotData, NoneOf, NoneLeaves, AreApart, IsNext, IsFlowOf, LeavesInTurn, NonesIn, comes_before, connections, place_behind}
+use Rattle.modem_data.specs.PipeSets.{PipeSet, PipesFit, IsPlain, AllLead, OfEachPast, HasPipe, IsNotData, NoneOf, NoneLeaves, AreApart, IsNext, IsFlowOf, LeavesInTurn, NonesIn, comes_before, connections, place_behind}
 use Rattle.modem_data.proofs.Watching.{watched_sent_info}
-use Rattle.modem_data.proofs.Pipes.{flowed_fits, idle_sent}
+use Rattle.modem_data.proofs.Pipes.{flowed_fits}
 use Rattle.modem_data.specs.declared.pipe_set.Flow.{Flow}
 use Rattle.mux_station.specs.Written.{is_data_frame}
-use Rattle.modem_data.proofs.PipeSets.{all_by, one_by, one_info, number_at}
+use Rattle.modem_data.proofs.PipeSets.{all_by, one_by, one_info, number_at, plain_due, plain_flowed}
 
 -- ## A caller's call on one connection
 
 apart_from : (d e : ℕ) → (d == e) ≡ false → (e == d) ≡ false
 apart_from d e x = ne_eqb e d (λ q. eqb-false d e x (sym q))
 
-other_began : (n1 d e : ℕ) (how : Begin) (past : List Pass) (p : Pipe) → (e == d) ≡ false → AllowsPass n1 past (Began e how) → PipeFits n1 d p past → PipeFits n1 d p (Began e how ∷ past)
+other_began : (n1 d e : ℕ) (how : Begin) (until : Until) (past : List Pass) (p : Pipe) → (e == d) ≡ false → AllowsPass n1 past (Began e how until) → PipeFits n1 d p past → PipeFits n1 d p (Began e how until ∷ past)
 unfolding LawfulPasses
-other_began n1 d e how past p x allowed h = record {
+other_began n1 d e how until past p x allowed h = record {
   dlci_is = h.dlci_is;
   not_control = h.not_control;
   lawful = (allowed, h.lawful);
   watched = h.watched;
   carries_is = rw x h.carries_is;
+  until_is = rw x h.until_is;
   came_is = rw x h.came_is;
   to_go_is = rw x h.to_go_is;
   held_is = h.held_is;
@@ -48,6 +49,7 @@ other_ended n1 d e past p x h = record {
   lawful = (tt, h.lawful);
   watched = h.watched;
   carries_is = rw x h.carries_is;
+  until_is = h.until_is;
   came_is = h.came_is;
   to_go_is = h.to_go_is;
   held_is = h.held_is;
@@ -62,6 +64,7 @@ other_gave n1 d e octets past p x allowed h = record {
   lawful = (allowed, h.lawful);
   watched = h.watched;
   carries_is = h.carries_is;
+  until_is = h.until_is;
   came_is = h.came_is;
   to_go_is = rw x h.to_go_is;
   held_is = h.held_is;
@@ -76,6 +79,7 @@ other_read n1 d e octets past p x allowed h = record {
   lawful = (allowed, h.lawful);
   watched = h.watched;
   carries_is = h.carries_is;
+  until_is = h.until_is;
   came_is = rw x h.came_is;
   to_go_is = h.to_go_is;
   held_is = h.held_is;
@@ -96,16 +100,16 @@ each_is v w ps is = ap (λ (x : PipeSet). x.each) is
 turn_is : (v w : PipeSet) (ps : List Pipe) → w ≡ record v { each = ps } → w.turn ≡ v.turn
 turn_is v w ps is = ap (λ (x : PipeSet). x.turn) is
 
-pub one_began : (v w : PipeSet) (i : ℕ) (p : Pipe) (e : ℕ) (how : Begin) → i < length v.each → (slice_index_or v.each i p).watch.dlci ≡ e → Leads (slice_index_or v.each i p) p (Began e how) → p.watch ≡ (slice_index_or v.each i p).watch → w ≡ record v { each = slice_set v.each i p } → AllLead v w (Began e how)
+pub one_began : (v w : PipeSet) (i : ℕ) (p : Pipe) (e : ℕ) (how : Begin) (until : Until) → i < length v.each → (slice_index_or v.each i p).watch.dlci ≡ e → Leads (slice_index_or v.each i p) p (Began e how until) → p.watch ≡ (slice_index_or v.each i p).watch → w ≡ record v { each = slice_set v.each i p } → AllLead v w (Began e how until)
 unfolding AllLead Leads
-one_began v w i p e how there here leads same is n1 ds past h =
+one_began v w i p e how until there here leads same is n1 ds past h =
     let one = ap (λ (x : Watch). x.dlci) same in
     let it = one ∙ here in
-    let fits = subst (λ d. PipeFits n1 d p (Began e how ∷ past)) (sym it) (leads n1 e past (fits_at n1 ds past v i p e there here h)) in
+    let fits = subst (λ d. PipeFits n1 d p (Began e how until ∷ past)) (sym it) (leads n1 e past (fits_at n1 ds past v i p e there here h)) in
     let off : (c : ℕ) → (c == p.watch.dlci) ≡ false → (e == c) ≡ false = λ c x. apart_from c e (subst (λ d. (c == d) ≡ false) it x) in
-    one_by n1 ds past (Began e how) v w i p there one (each_is v w (slice_set v.each i p) is) (turn_is v w (slice_set v.each i p) is ∙ h.turn_is) fits
-    (λ q x k. other_began n1 q.watch.dlci e how past q (off q.watch.dlci x) (first_allowed n1 past (Began e how) fits.lawful) k)
-    (λ c x idle. rw (off c x) idle) h
+    one_by n1 ds past (Began e how until) v w i p there one (each_is v w (slice_set v.each i p) is) (turn_is v w (slice_set v.each i p) is ∙ h.turn_is) fits
+    (λ q x k. other_began n1 q.watch.dlci e how until past q (off q.watch.dlci x) (first_allowed n1 past (Began e how until) fits.lawful) k)
+    (λ c x k. record { idle = rw (off c x) k.idle; held_is = k.held_is }) h
 
 pub still_idle : (b : Bool) (c : Carries) → c ≡ Idle → (if b then ended_by_call c else c) ≡ Idle
 still_idle true c e = rw e refl
@@ -119,7 +123,7 @@ one_ended v w i p e there here leads same is n1 ds past h =
     let fits = subst (λ d. PipeFits n1 d p (EndedLane e ∷ past)) (sym it) (leads n1 e past (fits_at n1 ds past v i p e there here h)) in
     one_by n1 ds past (EndedLane e) v w i p there one (each_is v w (slice_set v.each i p) is) (turn_is v w (slice_set v.each i p) is ∙ h.turn_is) fits
     (λ q x k. other_ended n1 q.watch.dlci e past q (apart_from q.watch.dlci e (subst (λ d. (q.watch.dlci == d) ≡ false) it x)) k)
-    (λ c x idle. still_idle (e == c) (carries c past) idle) h
+    (λ c x k. record { idle = still_idle (e == c) (carries c past) k.idle; held_is = k.held_is }) h
 
 pub one_gave : (v w : PipeSet) (i : ℕ) (p : Pipe) (e : ℕ) (octets : List ℕ) → i < length v.each → (slice_index_or v.each i p).watch.dlci ≡ e → Leads (slice_index_or v.each i p) p (Gave e octets) → p.watch ≡ (slice_index_or v.each i p).watch → w ≡ record v { each = slice_set v.each i p } → AllLead v w (Gave e octets)
 unfolding AllLead Leads
@@ -129,7 +133,7 @@ one_gave v w i p e octets there here leads same is n1 ds past h =
     let fits = subst (λ d. PipeFits n1 d p (Gave e octets ∷ past)) (sym it) (leads n1 e past (fits_at n1 ds past v i p e there here h)) in
     one_by n1 ds past (Gave e octets) v w i p there one (each_is v w (slice_set v.each i p) is) (turn_is v w (slice_set v.each i p) is ∙ h.turn_is) fits
     (λ q x k. other_gave n1 q.watch.dlci e octets past q (apart_from q.watch.dlci e (subst (λ d. (q.watch.dlci == d) ≡ false) it x)) (first_allowed n1 past (Gave e octets) fits.lawful) k)
-    (λ c x idle. idle) h
+    (λ c x k. record { idle = k.idle; held_is = k.held_is }) h
 
 pub one_read : (v w : PipeSet) (i : ℕ) (p : Pipe) (e : ℕ) (octets : List ℕ) → i < length v.each → (slice_index_or v.each i p).watch.dlci ≡ e → Leads (slice_index_or v.each i p) p (Read e octets) → p.watch ≡ (slice_index_or v.each i p).watch → w ≡ record v { each = slice_set v.each i p } → AllLead v w (Read e octets)
 unfolding AllLead Leads
@@ -139,7 +143,7 @@ one_read v w i p e octets there here leads same is n1 ds past h =
     let fits = subst (λ d. PipeFits n1 d p (Read e octets ∷ past)) (sym it) (leads n1 e past (fits_at n1 ds past v i p e there here h)) in
     one_by n1 ds past (Read e octets) v w i p there one (each_is v w (slice_set v.each i p) is) (turn_is v w (slice_set v.each i p) is ∙ h.turn_is) fits
     (λ q x k. other_read n1 q.watch.dlci e octets past q (apart_from q.watch.dlci e (subst (λ d. (q.watch.dlci == d) ≡ false) it x)) (first_allowed n1 past (Read e octets) fits.lawful) k)
-    (λ c x idle. idle) h
+    (λ c x k. record { idle = k.idle; held_is = k.held_is }) h
 
 -- ## What it is answered
 
@@ -197,7 +201,7 @@ behind_at v i p e b there here says n1 ds past h = says n1 e past (fits_at n1 ds
 
 pub not_behind : (v : PipeSet) (e : ℕ) → NoneOf (connections v.each) e → OfEachPast v (λ past. false ≡ is_behind_lines (carries e past))
 unfolding OfEachPast
-not_behind v e none n1 ds past h = ap is_behind_lines (sym (h.others e (subst (λ cs. NoneOf cs e) h.connections_are none)))
+not_behind v e none n1 ds past h = ap is_behind_lines (sym (h.others e (subst (λ cs. NoneOf cs e) h.connections_are none)).idle)
 
 pub has_pipe : {A X : Type 0} (v : PipeSet) (i : ℕ) (p : Pipe) (e : ℕ) (r : Result A X) → i < length v.each → (slice_index_or v.each i p).watch.dlci ≡ e → OnOk r (HasPipe v e)
 unfolding HasPipe
@@ -233,7 +237,7 @@ find (p ∷ ps) e = at (p.watch.dlci == e) refl (find ps e)
     at false q (inr none) = inr (All-cons (λ d. (d == e) ≡ false) p.watch.dlci (connections ps) q none)
 
 -- what holds of the pipe of each connection, and of those that have none, holds of all
-pub each_one : (v : PipeSet) (P : List Pass → ℕ → Type 0) → ((j : ℕ) (p : Pipe) → j < length v.each → (n1 : ℕ) (past : List Pass) → PipeFits n1 (slice_index_or v.each j p).watch.dlci (slice_index_or v.each j p) past → P past (slice_index_or v.each j p).watch.dlci) → ((past : List Pass) (e : ℕ) → carries e past ≡ Idle → P past e) → OfEachPast v (λ past. (e : ℕ) → P past e)
+pub each_one : (v : PipeSet) (P : List Pass → ℕ → Type 0) → ((j : ℕ) (p : Pipe) → j < length v.each → (n1 : ℕ) (past : List Pass) → PipeFits n1 (slice_index_or v.each j p).watch.dlci (slice_index_or v.each j p) past → P past (slice_index_or v.each j p).watch.dlci) → ((past : List Pass) (e : ℕ) → IsPlain e past → P past e) → OfEachPast v (λ past. (e : ℕ) → P past e)
 unfolding OfEachPast
 each_one v P own other n1 ds past h e = at (find v.each e)
   where
@@ -262,16 +266,14 @@ unfolding SaysFlow
 none_due v say =
     each_one v (λ past e. (go : Bool) → ¬ IsDue e past go)
     (λ j p there n1 past k go due. say j p there n1 (slice_index_or v.each j p).watch.dlci past go k due)
-    (λ past e idle go due.
-    let x : true ≡ false = sym (ap is_idle idle) ∙ due.lane in
-    cc)
+    (λ past e plain go due. plain_due e past go plain due)
 
 -- what is due is said, and each pipe sees it
 pub all_flowed : (v w : PipeSet) (d : ℕ) (go : Bool) (f : Frame) → OfEachPast v (λ past. IsDue d past go) → f ≡ flow_frame d go → w ≡ record v { each = map (flowed_pipe f) v.each } → AllLead v w (Flowed f)
 unfolding AllLead LawfulPasses OfEachPast
 all_flowed v w d go f due written e n1 ds past h =
     let allowed : AllowsPass n1 past (Flowed f) = record { dlci = d; go = go; is_due = due n1 ds past h; as_written = written } in
-    all_by n1 ds past (Flowed f) (flowed_pipe f) v w e (λ p. refl) (λ p k. flowed_fits n1 p.watch.dlci p past f allowed k) (allowed, h.lawful) (λ c i. idle_sent (ends_here c past (station.Sent f)) (carries c past) i) refl h
+    all_by n1 ds past (Flowed f) (flowed_pipe f) v w e (λ p. refl) (λ p k. flowed_fits n1 p.watch.dlci p past f allowed k) (allowed, h.lawful) (λ c k. plain_flowed n1 c past f allowed k) refl h
 
 -- ## Data leaves
 
@@ -281,8 +283,8 @@ unfolding HasNoneToSend
 none_leaves v none =
     each_one v (λ past e. NoneLeaves past e)
     (λ j p there n1 past k. none j p there n1 (slice_index_or v.each j p).watch.dlci past k)
-    (λ past e idle lets may.
-    let x : false ≡ true = ap lets_leave (sym idle) ∙ lets in
+    (λ past e plain lets may.
+    let x : false ≡ true = ap lets_leave (sym plain.idle) ∙ lets in
     cc)
 
 -- the first that may send, from the turn on, or else from the beginning
@@ -335,6 +337,7 @@ other_left n1 d f past p x z allowed h = record {
   lawful = (allowed, h.lawful);
   watched = watched_sent_info p.watch (wire past) f (ap (λ (g : Frame). g.kind) allowed.as_written) z h.watched;
   carries_is = h.carries_is;
+  until_is = h.until_is;
   came_is = h.came_is;
   to_go_is = rw x h.to_go_is;
   held_is = h.held_is;
@@ -346,7 +349,7 @@ unfolding LeavesInTurn LeadsLeft AreApart HasNoneToSend
 leaves n1 v w i p f next leads on same is turn ds past h = (
   one_by n1 ds past (Left f) v w i p next.there one is (turn ∙ sym behind) fits
       (λ q x k. other_left n1 q.watch.dlci f past q (apart_from q.watch.dlci f.dlci (subst (λ d. (q.watch.dlci == d) ≡ false) it x)) not_zero (first_allowed n1 past (Left f) fits.lawful) k)
-      (λ c x idle. idle) h,
+      (λ c x k. record { idle = k.idle; held_is = k.held_is }) h,
   record {
     place = i;
     there = omega (arith, long, there);
@@ -409,9 +412,9 @@ nones_more ps from i p there none before j q late near = at (nat_lt j i) refl
 
 -- ## What a call answers
 
-pub began_by : {A X : Type 0} (v w : PipeSet) (i : ℕ) (p : Pipe) (e : ℕ) (how : Begin) (r : Result A X) → i < length v.each → (slice_index_or v.each i p).watch.dlci ≡ e → OnOk r (Leads (slice_index_or v.each i p) p (Began e how)) → p.watch ≡ (slice_index_or v.each i p).watch → w ≡ record v { each = slice_set v.each i p } → OnOk r (AllLead v w (Began e how))
-began_by v w i p e how (Ok x) there here leads same is = one_began v w i p e how there here leads same is
-began_by v w i p e how (Err x) there here leads same is = tt
+pub began_by : {A X : Type 0} (v w : PipeSet) (i : ℕ) (p : Pipe) (e : ℕ) (how : Begin) (until : Until) (r : Result A X) → i < length v.each → (slice_index_or v.each i p).watch.dlci ≡ e → OnOk r (Leads (slice_index_or v.each i p) p (Began e how until)) → p.watch ≡ (slice_index_or v.each i p).watch → w ≡ record v { each = slice_set v.each i p } → OnOk r (AllLead v w (Began e how until))
+began_by v w i p e how until (Ok x) there here leads same is = one_began v w i p e how until there here leads same is
+began_by v w i p e how until (Err x) there here leads same is = tt
 
 pub gave_by : {X : Type 0} (v w : PipeSet) (i : ℕ) (p : Pipe) (e : ℕ) (octets : List ℕ) (r : Result ℕ X) → i < length v.each → (slice_index_or v.each i p).watch.dlci ≡ e → IfOk r (λ count. Leads (slice_index_or v.each i p) p (Gave e (take count octets))) → p.watch ≡ (slice_index_or v.each i p).watch → w ≡ record v { each = slice_set v.each i p } → IfOk r (λ count. AllLead v w (Gave e (take count octets)))
 gave_by v w i p e octets (Ok count) there here leads same is = one_gave v w i p e (take count octets) there here leads same is

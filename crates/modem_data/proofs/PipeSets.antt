@@ -1,5 +1,5 @@
 -- Each call of several pipes leads on.
-use Rattle.std.specs.Prelude.{◌≡◌, ◌≢◌, ℕ, ◌+◌, ◌<◌, ◌≤◌, ◌==◌, ◌&&◌, nat_lt, not, Bool, true, false, List, [], ◌∷◌, length, map, All, Option, Some, None, refl, slice_index_or, slice_set}
+use Rattle.std.specs.Prelude.{◌≡◌, ◌≢◌, ℕ, ◌+◌, ◌*◌, ◌/◌, ◌<◌, ◌≤◌, ◌==◌, ◌&&◌, nat_lt, not, Bool, true, false, List, [], ◌∷◌, length, map, All, Option, Some, None, refl, if◌then◌else◌, unwrap_or, slice_index_or, slice_set}
 use Rattle.std.proofs.Common.{ap, sym, ◌∙◌, subst, arith, suc, zero}
 use Rattle.std.proofs.lemmas.Bool.{eqb-true, eqb-false, ne_eqb, eq-eqb, ltb-true, ltb-false}
 use Rattle.std.proofs.lemmas.List.{length-map, length-set, get_or-map, get_or-set_same, get_or-set_other}
@@ -9,13 +9,15 @@ use Rattle.mux_frame.specs.declared.frame.Kind.TheVariants.{Uih}
 use Rattle.mux_station.specs.Acts as station
 use Rattle.mux_station.specs.declared.role.Role.TheVariants.{Initiator}
 use Rattle.mux_station.specs.Opening.{is_open}
+use Rattle.mux_station.specs.Messages.{is_good_msc}
+use Rattle.mux_station.specs.Stopping.{got_says, if_message, msc_says}
 use Rattle.mux_station.specs.Written.{is_on, is_kind, is_data_frame}
 use Rattle.modem_data.specs.declared.switch.LineCut.{LineCut}
 use Rattle.modem_data.specs.Switching.{Idle, is_idle}
 use Rattle.modem_data.specs.Watching.{Watch}
-use Rattle.modem_data.specs.Passing.{Pass, wire, Came, Went, Lost, is_info, is_data, ends_here, carries, LawfulPasses}
+use Rattle.modem_data.specs.Passing.{Pass, wire, Came, Went, Flowed, Lost, is_info, is_data, opens_here, ends_here, drops_here, carries, holds, driver_holds, unread, waiting, flow_by, flow_frame, AllowsPass, IsDue, LawfulPasses}
 use Rattle.modem_data.specs.Pipes.{Pipe, PipeFits, Leads, HandsOn, saw_pipe, sent_pipe, lost_pipe}
-use Rattle.modem_data.specs.PipeSets.{PipeSet, PipesFit, AllLead, AllHand, BeginsAll, NoneOf, AreApart, connections, turn_of}
+use Rattle.modem_data.specs.PipeSets.{PipeSet, PipesFit, IsPlain, AllLead, AllHand, BeginsAll, NoneOf, AreApart, connections, turn_of}
 use Rattle.modem_data.proofs.Pipes.{saw_fits, went_fits, lost_fits, kind_of, other_came, idle_behind, idle_sent}
 
 -- ## Their connections
@@ -41,6 +43,53 @@ other_than : (ps : List Pipe) (e : ℕ) (j : ℕ) (p : Pipe) → NoneOf (connect
 unfolding NoneOf
 other_than ps e j p none there = subst (λ d. (d == e) ≡ false) (number_at ps j p p.watch.dlci there) (none j p.watch.dlci (in_there ps j there))
 
+-- ## A plain connection
+
+pub plain_came : (e : ℕ) (past : List Pass) (f : Frame) → IsPlain e past → IsPlain e (Came f ∷ past)
+plain_came e past f h = record {
+  idle = idle_behind (is_info e past f) (ends_here e past (station.Got f)) (drops_here e past f) (carries e past) f.info h.idle;
+  held_is = ap (λ b. if opens_here e past (station.Got f) then false else b) h.held_is;
+}
+
+pub plain_went : (e : ℕ) (past : List Pass) (f : Frame) → IsPlain e past → IsPlain e (Went f ∷ past)
+plain_went e past f h = record {
+  idle = idle_sent (ends_here e past (station.Sent f)) (carries e past) h.idle;
+  held_is = ap (λ b. unwrap_or (got_says (msc_says e) (station.Got f)) b) h.held_is;
+}
+
+-- nothing is to be said of it
+by_none : (b : Bool) → flow_by b b 0 ≡ None
+by_none true = refl
+by_none false = refl
+
+pub plain_due : (e : ℕ) (past : List Pass) (go : Bool) → IsPlain e past → ¬ IsDue e past go
+plain_due e past go h due =
+    let none : flow_by (holds e past) (driver_holds e past) (waiting e past) ≡ None = ap (λ c. flow_by (holds e past) (driver_holds e past) (if is_idle c then 0 else unread e past)) h.idle ∙ (ap (λ b. flow_by b (driver_holds e past) 0) h.held_is ∙ by_none (driver_holds e past)) in
+    let x : None ≡ Some go = sym none ∙ due.due in
+    cc
+
+-- an MSC of another connection says nothing of it
+its_number : (d : ℕ) → (4 * d + 3) / 4 ≡ d
+its_number d = omega arith
+
+by_good : (d e signals : ℕ) (bad : Bool) → (d == e) ≡ false → if_message (msc_says e) (if bad then None else Some (record { octet = 0xe3; value = (4 * d + 3) ∷ signals ∷ [] })) ≡ None
+by_good d e signals true other = refl
+by_good d e signals false other = rw (its_number d, other) refl
+
+pub none_said : (d e : ℕ) (go : Bool) → (d == e) ≡ false → got_says (msc_says e) (station.Got (flow_frame d go)) ≡ None
+none_said d e true other = by_good d e 0x8d (not (is_good_msc ((4 * d + 3) ∷ 0x8d ∷ []))) other
+none_said d e false other = by_good d e 0x8f (not (is_good_msc ((4 * d + 3) ∷ 0x8f ∷ []))) other
+
+pub plain_flowed : (n1 e : ℕ) (past : List Pass) (f : Frame) → AllowsPass n1 past (Flowed f) → IsPlain e past → IsPlain e (Flowed f ∷ past)
+plain_flowed n1 e past f allowed h = record {
+  idle = idle_sent (ends_here e past (station.Sent f)) (carries e past) h.idle;
+  held_is = rw (ap (λ g. got_says (msc_says e) (station.Got g)) allowed.as_written ∙ none_said allowed.dlci e allowed.go (not_it (allowed.dlci == e) refl)) h.held_is;
+}
+  where
+    not_it : (b : Bool) → (allowed.dlci == e) ≡ b → (allowed.dlci == e) ≡ false
+    not_it false q = q
+    not_it true q = absurd (plain_due e past allowed.go h (subst (λ d. IsDue d past allowed.go) (eqb-true allowed.dlci e q) allowed.is_due))
+
 -- ## All of them
 
 each_by : (n1 : ℕ) (past later : List Pass) (g : Pipe → Pipe) (ps : List Pipe) → ((p : Pipe) → (g p).watch.dlci ≡ p.watch.dlci) → ((p : Pipe) → PipeFits n1 p.watch.dlci p past → PipeFits n1 p.watch.dlci (g p) later) → All (λ p. PipeFits n1 p.watch.dlci p past) ps → All (λ p. PipeFits n1 p.watch.dlci p later) (map g ps)
@@ -48,7 +97,7 @@ each_by n1 past later g ps same fits each =
     All-map (λ p. PipeFits n1 p.watch.dlci p later) g ps
     (All-weaker (λ p. PipeFits n1 p.watch.dlci p past) (λ p. PipeFits n1 (g p).watch.dlci (g p) later) (λ p h. subst (λ d. PipeFits n1 d (g p) later) (sym (same p)) (fits p h)) ps each)
 
-pub all_by : (n1 : ℕ) (ds : List ℕ) (past : List Pass) (a : Pass) (g : Pipe → Pipe) (v w : PipeSet) → w ≡ record v { each = map g v.each } → ((p : Pipe) → (g p).watch.dlci ≡ p.watch.dlci) → ((p : Pipe) → PipeFits n1 p.watch.dlci p past → PipeFits n1 p.watch.dlci (g p) (a ∷ past)) → LawfulPasses n1 (a ∷ past) → ((e : ℕ) → carries e past ≡ Idle → carries e (a ∷ past) ≡ Idle) → turn_of ds (a ∷ past) ≡ turn_of ds past → PipesFit n1 ds v past → PipesFit n1 ds w (a ∷ past)
+pub all_by : (n1 : ℕ) (ds : List ℕ) (past : List Pass) (a : Pass) (g : Pipe → Pipe) (v w : PipeSet) → w ≡ record v { each = map g v.each } → ((p : Pipe) → (g p).watch.dlci ≡ p.watch.dlci) → ((p : Pipe) → PipeFits n1 p.watch.dlci p past → PipeFits n1 p.watch.dlci (g p) (a ∷ past)) → LawfulPasses n1 (a ∷ past) → ((e : ℕ) → IsPlain e past → IsPlain e (a ∷ past)) → turn_of ds (a ∷ past) ≡ turn_of ds past → PipesFit n1 ds v past → PipesFit n1 ds w (a ∷ past)
 all_by n1 ds past a g v w e same fits lawful idle turn h = rw e (record {
   lawful = lawful;
   connections_are = same_connections g v.each same ∙ h.connections_are;
@@ -60,11 +109,11 @@ all_by n1 ds past a g v w e same fits lawful idle turn h = rw e (record {
 
 pub all_went : (v w : PipeSet) (f : Frame) → w ≡ record v { each = map (sent_pipe f) v.each } → AllLead v w (Went f)
 unfolding AllLead LawfulPasses
-all_went v w f e n1 ds past h = all_by n1 ds past (Went f) (sent_pipe f) v w e (λ p. refl) (λ p k. went_fits n1 p.watch.dlci p past f k) (tt, h.lawful) (λ c i. idle_sent (ends_here c past (station.Sent f)) (carries c past) i) refl h
+all_went v w f e n1 ds past h = all_by n1 ds past (Went f) (sent_pipe f) v w e (λ p. refl) (λ p k. went_fits n1 p.watch.dlci p past f k) (tt, h.lawful) (λ c k. plain_went c past f k) refl h
 
 pub all_lost : (v w : PipeSet) → w ≡ record v { each = map lost_pipe v.each } → AllLead v w Lost
 unfolding AllLead LawfulPasses
-all_lost v w e n1 ds past h = all_by n1 ds past Lost lost_pipe v w e (λ p. refl) (λ p k. lost_fits n1 p.watch.dlci p past k) (tt, h.lawful) (λ c i. refl) refl h
+all_lost v w e n1 ds past h = all_by n1 ds past Lost lost_pipe v w e (λ p. refl) (λ p k. lost_fits n1 p.watch.dlci p past k) (tt, h.lawful) (λ c k. record { idle = refl; held_is = k.held_is }) refl h
 
 -- a frame that is no information, or is on 0, is none on another connection
 off : (d : ℕ) (f : Frame) → (d == 0) ≡ false → is_data_frame f ≡ false → is_on Uih d f ≡ false
@@ -77,12 +126,12 @@ off d f z none = at (is_kind f.kind Uih) (f.dlci == 0) refl none
 
 pub all_saw : (v w : PipeSet) (f : Frame) → is_data_frame f ≡ false → w ≡ record v { each = map (saw_pipe f) v.each } → AllLead v w (Came f)
 unfolding AllLead LawfulPasses
-all_saw v w f none e n1 ds past h = all_by n1 ds past (Came f) (saw_pipe f) v w e (λ p. refl) (λ p k. saw_fits n1 p.watch.dlci p past f (off p.watch.dlci f k.not_control none) k) (tt, h.lawful) (λ c i. idle_behind (is_info c past f) (ends_here c past (station.Got f)) (carries c past) f.info i) refl h
+all_saw v w f none e n1 ds past h = all_by n1 ds past (Came f) (saw_pipe f) v w e (λ p. refl) (λ p k. saw_fits n1 p.watch.dlci p past f (off p.watch.dlci f k.not_control none) k) (tt, h.lawful) (λ c k. plain_came c past f k) refl h
 
 -- ## One of them
 
 -- one pipe fits by itself what it took; the others fit what passes by them
-pub one_by : (n1 : ℕ) (ds : List ℕ) (past : List Pass) (a : Pass) (v w : PipeSet) (i : ℕ) (p : Pipe) → i < length v.each → p.watch.dlci ≡ (slice_index_or v.each i p).watch.dlci → w.each ≡ slice_set v.each i p → w.turn ≡ turn_of ds (a ∷ past) → PipeFits n1 p.watch.dlci p (a ∷ past) → ((q : Pipe) → (q.watch.dlci == p.watch.dlci) ≡ false → PipeFits n1 q.watch.dlci q past → PipeFits n1 q.watch.dlci q (a ∷ past)) → ((e : ℕ) → (e == p.watch.dlci) ≡ false → carries e past ≡ Idle → carries e (a ∷ past) ≡ Idle) → PipesFit n1 ds v past → PipesFit n1 ds w (a ∷ past)
+pub one_by : (n1 : ℕ) (ds : List ℕ) (past : List Pass) (a : Pass) (v w : PipeSet) (i : ℕ) (p : Pipe) → i < length v.each → p.watch.dlci ≡ (slice_index_or v.each i p).watch.dlci → w.each ≡ slice_set v.each i p → w.turn ≡ turn_of ds (a ∷ past) → PipeFits n1 p.watch.dlci p (a ∷ past) → ((q : Pipe) → (q.watch.dlci == p.watch.dlci) ≡ false → PipeFits n1 q.watch.dlci q past → PipeFits n1 q.watch.dlci q (a ∷ past)) → ((e : ℕ) → (e == p.watch.dlci) ≡ false → IsPlain e past → IsPlain e (a ∷ past)) → PipesFit n1 ds v past → PipesFit n1 ds w (a ∷ past)
 unfolding AreApart NoneOf
 one_by n1 ds past a v w i p there same is turn fits by idle h = record {
   lawful = fits.lawful;
@@ -147,7 +196,7 @@ one_info v w i p f e there here leads same is n1 ds past h =
     let old = All-get_or (λ q. PipeFits n1 q.watch.dlci q past) v.each i p there h.each in
     one_by n1 ds past (Came f) v w i p there one (ap (λ (x : PipeSet). x.each) is) (ap (λ (x : PipeSet). x.turn) is ∙ h.turn_is) (subst (λ d. PipeFits n1 d p (Came f ∷ past)) (sym one) (leads n1 (slice_index_or v.each i p).watch.dlci past old))
     (λ q other k. other_came n1 q.watch.dlci q past f (data_kind f e) (data_dlci f e) (other_info q.watch.dlci past f (subst (λ d. (q.watch.dlci == d) ≡ false) it other)) k)
-    (λ c other i. idle_behind (is_info c past f) (ends_here c past (station.Got f)) (carries c past) f.info i) h
+    (λ c other k. plain_came c past f k) h
 
 pub one_hand : (v : PipeSet) (i : ℕ) (p : Pipe) (f : Frame) (cut : Option LineCut) → i < length v.each → (slice_index_or v.each i p).watch.dlci ≡ f.dlci → HandsOn (slice_index_or v.each i p) f cut → AllHand v f cut
 unfolding AllHand HandsOn
@@ -167,7 +216,7 @@ of_them n1 ds v past e h none = subst (λ cs. NoneOf cs e) h.connections_are non
 
 pub none_hands : (v : PipeSet) (f : Frame) → NoneOf (connections v.each) f.dlci → AllHand v f None
 unfolding AllHand
-none_hands v f none n1 ds past h = no_lane_there f.dlci past f (h.others f.dlci (of_them n1 ds v past f.dlci h none))
+none_hands v f none n1 ds past h = no_lane_there f.dlci past f (h.others f.dlci (of_them n1 ds v past f.dlci h none)).idle
 
 none_zero : (n1 : ℕ) (ps : List Pipe) (past : List Pass) → All (λ p. PipeFits n1 p.watch.dlci p past) ps → NoneOf (connections ps) 0
 unfolding NoneOf
@@ -182,7 +231,7 @@ control_hands v f none n1 ds past h = at (is_kind f.kind Uih) (f.dlci == 0) refl
     at : (k c : Bool) → is_kind f.kind Uih ≡ k → (f.dlci == 0) ≡ c → k && not c ≡ false → is_data f.dlci past f ≡ false
     at false c ek ec x = rw ek refl
     at true false ek ec x = cc
-    at true true ek ec x = no_lane_there f.dlci past f (h.others f.dlci (of_them n1 ds v past f.dlci h (subst (λ d. NoneOf (connections v.each) d) (sym (eqb-true f.dlci 0 ec)) (none_zero n1 v.each past h.each))))
+    at true true ek ec x = no_lane_there f.dlci past f (h.others f.dlci (of_them n1 ds v past f.dlci h (subst (λ d. NoneOf (connections v.each) d) (sym (eqb-true f.dlci 0 ec)) (none_zero n1 v.each past h.each)))).idle
 
 pub none_came : (v : PipeSet) (f : Frame) → is_data_frame f ≡ true → NoneOf (connections v.each) f.dlci → AllLead v v (Came f)
 unfolding AllLead LawfulPasses
@@ -191,7 +240,7 @@ none_came v f e none n1 ds past h = record {
   connections_are = h.connections_are;
   apart = h.apart;
   each = λ j p there. other_came n1 (slice_index_or v.each j p).watch.dlci (slice_index_or v.each j p) past f (data_kind f e) (data_dlci f e) (other_info (slice_index_or v.each j p).watch.dlci past f (other_than v.each f.dlci j p none there)) (All-get_or (λ q. PipeFits n1 q.watch.dlci q past) v.each j p there h.each);
-  others = λ c off. idle_behind (is_info c past f) (ends_here c past (station.Got f)) (carries c past) f.info (h.others c off);
+  others = λ c off. plain_came c past f (h.others c off);
   turn_is = h.turn_is;
 }
 
@@ -204,7 +253,7 @@ all_begin v ds are apart each turn n1 = record {
   connections_are = are;
   apart = apart;
   each = All-weaker (λ p. (n : ℕ) → PipeFits n p.watch.dlci p []) (λ p. PipeFits n1 p.watch.dlci p []) (λ p h. h n1) v.each each;
-  others = λ e none. refl;
+  others = λ e none. record { idle = refl; held_is = refl };
   turn_is = turn;
 }
 

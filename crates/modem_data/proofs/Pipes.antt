@@ -11,17 +11,19 @@ use Rattle.mux_station.specs.Acts as station
 use Rattle.mux_station.specs.Written.{is_kind, is_on}
 use Rattle.mux_station.specs.Opening.{is_open}
 use Rattle.mux_station.specs.Stopping.{got_says, msc_says}
-use Rattle.modem_data.specs.Switching.{Carries, Idle, Lines, Ended, Data, Prompts, Marked, Sends, Owes, IsCut, is_idle, data_of, carries_after}
+use Rattle.modem_data.specs.Switching.{Carries, Idle, Lines, Ended, Data, Prompts, Marked, Sends, Owes, IsCut, is_idle, without_carrier, data_of, carries_after}
 use Rattle.modem_data.specs.declared.switch.LineCut.{LineCut}
+use Rattle.modem_data.specs.declared.begin.Until.{Until}
+use Rattle.modem_data.specs.declared.begin.Until.TheVariants.{Close}
 use Rattle.modem_data.specs.DataLanes.{DataLane, TakesInfo}
-use Rattle.modem_data.specs.Watching.{HasWatched, watched, watch_ends, watch_opens}
-use Rattle.modem_data.specs.Passing.{Pass, Came, Went, Flowed, Lost, wire, is_info, is_data, opens_here, ends_here, carries, carries_behind, data_came, data_read, left, holds, driver_holds, AllowsPass, LawfulPasses}
-use Rattle.modem_data.specs.Pipes.{Pipe, PipeFits, BeginsPipe, Leads, HandsOn, lane_over, saw_pipe, sent_pipe, flowed_pipe, lost_pipe}
-use Rattle.modem_data.proofs.Watching.{goes, info_said, open_said, opens_said, ends_said, watched_info, info_ends_none, info_opens_none}
+use Rattle.modem_data.specs.Watching.{HasWatched, loses_carrier, watched, watch_ends, watch_loses, watch_opens}
+use Rattle.modem_data.specs.Passing.{Pass, Came, Went, Flowed, Lost, wire, is_info, is_data, opens_here, ends_here, drops_here, until_of, is_by_carrier, carries, carries_behind, data_came, data_read, left, holds, driver_holds, AllowsPass, LawfulPasses}
+use Rattle.modem_data.specs.Pipes.{Pipe, PipeFits, BeginsPipe, Leads, HandsOn, lane_over, lane_behind, pipe_drops, saw_pipe, sent_pipe, flowed_pipe, lost_pipe}
+use Rattle.modem_data.proofs.Watching.{goes, info_said, open_said, opens_said, ends_said, loses_said, watched_info, info_ends_none, info_loses_none, info_opens_none}
 
-pub new_fits : (d : ℕ) (v : Pipe) → (d == 0) ≡ false → v.watch.dlci ≡ d → HasWatched v.watch [] → v.lane.carries ≡ Idle → v.lane.came ≡ [] → v.lane.to_go ≡ [] → v.held ≡ false → v.by_driver ≡ false → BeginsPipe d v
+pub new_fits : (d : ℕ) (v : Pipe) → (d == 0) ≡ false → v.watch.dlci ≡ d → HasWatched v.watch [] → v.lane.carries ≡ Idle → v.lane.came ≡ [] → v.lane.to_go ≡ [] → v.until ≡ Close → v.held ≡ false → v.by_driver ≡ false → BeginsPipe d v
 unfolding BeginsPipe LawfulPasses
-new_fits d v z e w c came go held by n1 = record { dlci_is = e; not_control = z; lawful = tt; watched = w; carries_is = c; came_is = came; to_go_is = go; held_is = held; by_driver_is = by }
+new_fits d v z e w c came go until held by n1 = record { dlci_is = e; not_control = z; lawful = tt; watched = w; carries_is = c; until_is = until; came_is = came; to_go_is = go; held_is = held; by_driver_is = by }
 
 -- ## What a watch says of a past that a pipe fits
 
@@ -36,6 +38,11 @@ opening n1 d v past a h = opens_said v.watch (wire past) a h.watched ∙ ap (λ 
 
 ending : (n1 d : ℕ) (v : Pipe) (past : List Pass) (a : station.Act) → PipeFits n1 d v past → watch_ends v.watch a ≡ ends_here d past a
 ending n1 d v past a h = ends_said v.watch (wire past) a h.watched ∙ ap (λ e. ends_here e past a) h.dlci_is
+
+dropping : (n1 d : ℕ) (v : Pipe) (past : List Pass) (f : Frame) → PipeFits n1 d v past → pipe_drops v f ≡ drops_here d past f
+dropping n1 d v past f h =
+    ap (λ (u : Until). is_by_carrier u && watch_loses v.watch (station.Got f)) h.until_is
+    ∙ ap (λ b. is_by_carrier (until_of d past) && b) (loses_said v.watch (wire past) (station.Got f) h.watched ∙ ap (λ e. loses_carrier e (wire past) (station.Got f)) h.dlci_is)
 
 watched_on : (n1 d : ℕ) (v : Pipe) (past : List Pass) (a : station.Act) → PipeFits n1 d v past → HasWatched (watched v.watch a) (a ∷ wire past)
 watched_on n1 d v past a h = goes v.watch (wire past) a h.watched
@@ -53,11 +60,20 @@ over_to_go : (b : Bool) (l : DataLane) → (lane_over b l).to_go ≡ l.to_go
 over_to_go true l = refl
 over_to_go false l = refl
 
-over_behind : (b c : Bool) (l : DataLane) (m : Carries) (info : List ℕ) → b ≡ c → l.carries ≡ m → (lane_over b l).carries ≡ carries_behind false c m info
-over_behind true true l m info e is = refl
-over_behind true false l m info e is = cc
-over_behind false true l m info e is = cc
-over_behind false false l m info e is = is
+behind_came : (b x : Bool) (l : DataLane) → (lane_behind b x l).came ≡ l.came
+behind_came true x l = refl
+behind_came false true l = refl
+behind_came false false l = refl
+
+behind_to_go : (b x : Bool) (l : DataLane) → (lane_behind b x l).to_go ≡ l.to_go
+behind_to_go true x l = refl
+behind_to_go false true l = refl
+behind_to_go false false l = refl
+
+behind_carries : (b x : Bool) (l : DataLane) (m : Carries) (info : List ℕ) → l.carries ≡ m → (lane_behind b x l).carries ≡ carries_behind false b x m info
+behind_carries true x l m info is = refl
+behind_carries false true l m info is = ap without_carrier is
+behind_carries false false l m info is = is
 
 over_sent : (b c : Bool) (l : DataLane) (m : Carries) → b ≡ c → l.carries ≡ m → (lane_over b l).carries ≡ (if c then Idle else m)
 over_sent true true l m e is = refl
@@ -73,14 +89,19 @@ unfolding LawfulPasses
 saw_fits n1 d v past f off h =
     let here = not_here d v.watch.dlci past f h.dlci_is off in
     let b = watch_ends v.watch (station.Got f) in
+    let x = pipe_drops v f in
     record {
       dlci_is = h.dlci_is;
       not_control = h.not_control;
       lawful = (tt, h.lawful);
       watched = watched_on n1 d v past (station.Got f) h;
-      carries_is = rw here (over_behind b (ends_here d past (station.Got f)) v.lane (carries d past) f.info (ending n1 d v past (station.Got f) h) h.carries_is);
-      came_is = rw here (ap (λ x. data_read d past ++ x) (over_came b v.lane) ∙ h.came_is);
-      to_go_is = ap (λ x. left d past ++ x) (over_to_go b v.lane) ∙ h.to_go_is;
+      carries_is = rw here
+          (ap (λ c. (lane_behind c x v.lane).carries) (ending n1 d v past (station.Got f) h)
+          ∙ (ap (λ y. (lane_behind (ends_here d past (station.Got f)) y v.lane).carries) (dropping n1 d v past f h)
+          ∙ behind_carries (ends_here d past (station.Got f)) (drops_here d past f) v.lane (carries d past) f.info h.carries_is));
+      until_is = h.until_is;
+      came_is = rw here (ap (λ y. data_read d past ++ y) (behind_came b x v.lane) ∙ h.came_is);
+      to_go_is = ap (λ y. left d past ++ y) (behind_to_go b x v.lane) ∙ h.to_go_is;
       held_is = held_behind (watch_opens v.watch (station.Got f)) (opens_here d past (station.Got f)) v.held (holds d past) (opening n1 d v past (station.Got f) h) h.held_is;
       by_driver_is = held_behind (watch_opens v.watch (station.Got f)) (opens_here d past (station.Got f)) v.by_driver (driver_holds d past) (opening n1 d v past (station.Got f) h) h.by_driver_is;
     }
@@ -103,6 +124,7 @@ went_fits n1 d v past f h =
       lawful = (tt, h.lawful);
       watched = watched_on n1 d v past (station.Sent f) h;
       carries_is = over_sent b (ends_here d past (station.Sent f)) v.lane (carries d past) (ending n1 d v past (station.Sent f) h) h.carries_is;
+      until_is = h.until_is;
       came_is = ap (λ x. data_read d past ++ x) (over_came b v.lane) ∙ h.came_is;
       to_go_is = ap (λ x. left d past ++ x) (over_to_go b v.lane) ∙ h.to_go_is;
       held_is = said_on n1 d v past f v.held (holds d past) h h.held_is;
@@ -123,6 +145,7 @@ flowed_fits n1 d v past f allowed h =
       lawful = (allowed, h.lawful);
       watched = watched_on n1 d v past (station.Sent f) h;
       carries_is = over_sent b (ends_here d past (station.Sent f)) v.lane (carries d past) (ending n1 d v past (station.Sent f) h) h.carries_is;
+      until_is = h.until_is;
       came_is = ap (λ x. data_read d past ++ x) (over_came b v.lane) ∙ h.came_is;
       to_go_is = ap (λ x. left d past ++ x) (over_to_go b v.lane) ∙ h.to_go_is;
       held_is = said_on n1 d v past f v.held (holds d past) h h.held_is;
@@ -137,6 +160,7 @@ lost_fits n1 d v past h = record {
   lawful = (tt, h.lawful);
   watched = watched_on n1 d v past station.Lost h;
   carries_is = refl;
+  until_is = h.until_is;
   came_is = h.came_is;
   to_go_is = h.to_go_is;
   held_is = h.held_is;
@@ -180,7 +204,7 @@ idle_is Sends e = cc
 idle_is Owes e = cc
 
 -- information that is no data of d changes nothing there
-stays_carried : (here : Bool) (c : Carries) (info : List ℕ) → here && not (is_idle c) ≡ false → c ≡ carries_behind here false c info
+stays_carried : (here : Bool) (c : Carries) (info : List ℕ) → here && not (is_idle c) ≡ false → c ≡ carries_behind here false false c info
 stays_carried true Idle info e = refl
 stays_carried true (Lines kept) info e = cc
 stays_carried true (Ended by) info e = cc
@@ -202,17 +226,26 @@ stays_came true Sends came info e = cc
 stays_came true Owes came info e = cc
 stays_came false c came info e = refl
 
+none_drops : (b : Bool) → b && false ≡ false
+none_drops true = refl
+none_drops false = refl
+
+info_drops_none : (d : ℕ) (past : List Pass) (f : Frame) → f.kind ≡ Uih → (f.dlci == 0) ≡ false → drops_here d past f ≡ false
+info_drops_none d past f k z = ap (λ b. is_by_carrier (until_of d past) && b) (info_loses_none d (wire past) f k z) ∙ none_drops (is_by_carrier (until_of d past))
+
 pub other_came : (n1 d : ℕ) (v : Pipe) (past : List Pass) (f : Frame) → f.kind ≡ Uih → (f.dlci == 0) ≡ false → is_data d past f ≡ false → PipeFits n1 d v past → PipeFits n1 d v (Came f ∷ past)
 unfolding LawfulPasses
 other_came n1 d v past f k z none h =
     let ends = info_ends_none d (wire past) f k z in
+    let drops = info_drops_none d past f k z in
     let opens = info_opens_none d (wire past) f k in
     record {
       dlci_is = h.dlci_is;
       not_control = h.not_control;
       lawful = (tt, h.lawful);
       watched = watched_info v.watch (wire past) f k z h.watched;
-      carries_is = rw ends (h.carries_is ∙ stays_carried (is_info d past f) (carries d past) f.info none);
+      carries_is = rw (ends, drops) (h.carries_is ∙ stays_carried (is_info d past f) (carries d past) f.info none);
+      until_is = h.until_is;
       came_is = h.came_is ∙ stays_came (is_info d past f) (carries d past) (data_came d past) f.info none;
       to_go_is = h.to_go_is;
       held_is = rw opens h.held_is;
@@ -257,6 +290,7 @@ leads_info v l f cut on up t n1 d past h =
       lawful = (tt, h.lawful);
       watched = watched_info v.watch (wire past) f k z h.watched;
       carries_is = rw here (t.stands ∙ ap (λ c. carries_after c f.info) h.carries_is);
+      until_is = h.until_is;
       came_is = rw here (ap (λ o. data_read d past ++ o) t.waits ∙ (sym (append_assoc (data_read d past) v.lane.came (data_of v.lane.carries f.info)) ∙ (ap (λ o. o ++ data_of v.lane.carries f.info) h.came_is ∙ ap (λ c. data_came d past ++ data_of c f.info) h.carries_is)));
       to_go_is = ap (λ o. left d past ++ o) t.stays ∙ h.to_go_is;
       held_is = rw opens h.held_is;
@@ -265,10 +299,11 @@ leads_info v l f cut on up t n1 d past h =
 
 -- ## A connection that carries no lane
 
-pub idle_behind : (info_here ending : Bool) (c : Carries) (info : List ℕ) → c ≡ Idle → carries_behind info_here ending c info ≡ Idle
-idle_behind true ending c info e = rw e refl
-idle_behind false true c info e = refl
-idle_behind false false c info e = e
+pub idle_behind : (info_here ending dropping : Bool) (c : Carries) (info : List ℕ) → c ≡ Idle → carries_behind info_here ending dropping c info ≡ Idle
+idle_behind true ending dropping c info e = rw e refl
+idle_behind false true dropping c info e = refl
+idle_behind false false true c info e = rw e refl
+idle_behind false false false c info e = e
 
 pub idle_sent : (ending : Bool) (c : Carries) → c ≡ Idle → (if ending then Idle else c) ≡ Idle
 idle_sent true c e = refl

@@ -9,6 +9,7 @@ use Rattle.mux_frame.specs.Spelling.{spelled}
 use Rattle.mux_frame.specs.Reading.{Reads}
 use Rattle.mux_frame.specs.Deframing.{Deframes, TakesIn, IsDeframed}
 use Rattle.modem_data.specs.declared.begin.Begin.{Begin}
+use Rattle.modem_data.specs.declared.begin.Until.{Until}
 use Rattle.modem_data.specs.declared.switch.LineCut.{LineCut}
 use Rattle.modem_data.specs.Prompts.{mark_if}
 use Rattle.modem_data.specs.Switching.{Carries, IsCut}
@@ -207,9 +208,9 @@ hops_lost v w leads e n1 ds past h = rw e (record {
   pipes_fit = leads n1 ds (passes past) h.pipes_fit;
 })
 
-pub hops_began : (v w : Relay) (d : ℕ) (how : Begin) → HasPipe v.pipes d → AllLead v.pipes w.pipes (Began d how) → w ≡ record v { pipes = w.pipes } → Hops v w (Passed (Began d how))
+pub hops_began : (v w : Relay) (d : ℕ) (how : Begin) (until : Until) → HasPipe v.pipes d → AllLead v.pipes w.pipes (Began d how until) → w ≡ record v { pipes = w.pipes } → Hops v w (Passed (Began d how until))
 unfolding Hops LawfulHops AllLead HasPipe
-hops_began v w d how has leads e n1 ds past h = rw e (record {
+hops_began v w d how until has leads e n1 ds past h = rw e (record {
   outer_n1 = h.outer_n1;
   inner_n1 = h.inner_n1;
   lawful = (has n1 ds (passes past) h.pipes_fit, h.lawful);
@@ -241,9 +242,9 @@ pub gave_by : {X : Type 0} (v w : Relay) (e : ℕ) (octets : List ℕ) (r : Resu
 gave_by v w e octets (Ok count) leads is = hops_gave v w e (take count octets) leads is
 gave_by v w e octets (Err x) leads is = tt
 
-pub began_by : {A X : Type 0} (v w : Relay) (d : ℕ) (how : Begin) (r : Result A X) → OnOk r (HasPipe v.pipes d) → OnOk r (AllLead v.pipes w.pipes (Began d how)) → w ≡ record v { pipes = w.pipes } → OnOk r (Hops v w (Passed (Began d how)))
-began_by v w d how (Ok x) has leads is = hops_began v w d how has leads is
-began_by v w d how (Err x) has leads is = tt
+pub began_by : {A X : Type 0} (v w : Relay) (d : ℕ) (how : Begin) (until : Until) (r : Result A X) → OnOk r (HasPipe v.pipes d) → OnOk r (AllLead v.pipes w.pipes (Began d how until)) → w ≡ record v { pipes = w.pipes } → OnOk r (Hops v w (Passed (Began d how until)))
+began_by v w d how until (Ok x) has leads is = hops_began v w d how until has leads is
+began_by v w d how until (Err x) has leads is = tt
 
 pub read_by : {X : Type 0} (v w : Relay) (d : ℕ) (octets : Reading → List ℕ) (r : Result Reading X) → IfOk r (λ x. AllLead v.pipes w.pipes (Read d (octets x))) → w ≡ record v { pipes = w.pipes } → IfOk r (λ x. Hops v w (Passed (Read d (octets x))))
 read_by v w d octets (Ok x) leads is = hops_read v w d (octets x) leads is

@@ -1,15 +1,16 @@
 -- A watch that has seen a past sees each act behind it.
-use Rattle.std.specs.Prelude.{◌≡◌, ℕ, ◌==◌, ◌&&◌, ◌||◌, not, Bool, true, false, List, [], ◌∷◌, Option, None, refl}
+use Rattle.std.specs.Prelude.{◌≡◌, ℕ, ◌==◌, ◌&&◌, ◌||◌, not, Bool, true, false, List, [], ◌∷◌, Option, None, refl, unwrap_or}
 use Rattle.std.proofs.Common.{ap, sym, subst, ◌∙◌}
 use Rattle.mux_station.specs.declared.role.Role.TheVariants.{Initiator}
 use Rattle.mux_station.specs.Acts.{Act, Got, Sent}
+use Rattle.mux_station.specs.Messages.{Message}
 use Rattle.mux_frame.specs.Frames.{Frame}
 use Rattle.mux_frame.specs.declared.frame.Kind.{Kind}
 use Rattle.mux_frame.specs.declared.frame.Kind.TheVariants.{Ua, Uih}
 use Rattle.mux_station.specs.Written.{is_on, is_kind}
 use Rattle.mux_station.specs.Opening.{Standing, standings, standing_after, since, since_after, opens, ends, opens_now, belongs, is_open}
 use Rattle.mux_station.specs.Stopping.{last_said, got_says, msc_says, flow_says}
-use Rattle.modem_data.specs.Watching.{Watch, HasWatched, Watches, watched, watch_opens, watch_ends, ends_now, stop_after, SaysMayLeave}
+use Rattle.modem_data.specs.Watching.{Watch, HasWatched, Watches, dv_says, has_carrier, loses_carrier, watched, watch_opens, watch_ends, watch_loses, ends_now, said_last, SaysMayLeave}
 
 -- 0 stands alike whatever connection is looked at
 zero_same : (d : ℕ) (past : List Act) → (standings Initiator 0 past).own ≡ (standings Initiator d past).zero
@@ -24,33 +25,35 @@ zero_same d (a ∷ past) = at (standings Initiator 0 past).own (standings Initia
     zero_alone (b ∷ past) = rw (zero_alone past) refl
 
 -- what the last of the acts says, one act further
-said_after : (say : Act → Option Bool) (opening belonging : Bool) (a : Act) (rest : List Act) → last_said say (since_after opening belonging a rest) ≡ stop_after opening belonging (say a) (last_said say rest)
+said_after : (say : Act → Option Bool) (opening belonging : Bool) (a : Act) (rest : List Act) → last_said say (since_after opening belonging a rest) ≡ said_last opening belonging (say a) (last_said say rest)
 said_after say true belonging a rest = refl
 said_after say false true a rest = refl
 said_after say false false a rest = refl
 
-own_stopped : (w : Watch) (past : List Act) (a : Act) → HasWatched w past → (watched w a).own_stop ≡ last_said (got_says (msc_says w.dlci)) (since Initiator w.dlci (a ∷ past))
-own_stopped w past a h =
+-- the same of what is said of the connection itself
+own_last : (say : Message → Option Bool) (was : Bool) (w : Watch) (past : List Act) (a : Act) → HasWatched w past → was ≡ last_said (got_says say) (since Initiator w.dlci past) → said_last (opens Initiator w.zero.is_open w.own.is_asked w.dlci a) (w.own.is_open && not (ends w.zero.is_open w.dlci a)) (got_says say a) was ≡ last_said (got_says say) (since Initiator w.dlci (a ∷ past))
+own_last say was w past a h is =
     let z : w.zero ≡ (standings Initiator w.dlci past).zero = h.zero_is ∙ zero_same w.dlci past in
-    ap (λ s. stop_after (opens Initiator s.is_open w.own.is_asked w.dlci a) (w.own.is_open && not (ends s.is_open w.dlci a)) (got_says (msc_says w.dlci) a) w.own_stop) z
-    ∙ (ap (λ s. stop_after (opens Initiator (standings Initiator w.dlci past).zero.is_open s.is_asked w.dlci a) (s.is_open && not (ends (standings Initiator w.dlci past).zero.is_open w.dlci a)) (got_says (msc_says w.dlci) a) w.own_stop) h.own_is
-    ∙ (ap (λ b. stop_after (opens_now Initiator w.dlci past a) (belongs Initiator w.dlci past a) (got_says (msc_says w.dlci) a) b) h.own_stop_is
-    ∙ sym (said_after (got_says (msc_says w.dlci)) (opens_now Initiator w.dlci past a) (belongs Initiator w.dlci past a) a (since Initiator w.dlci past))))
+    ap (λ s. said_last (opens Initiator s.is_open w.own.is_asked w.dlci a) (w.own.is_open && not (ends s.is_open w.dlci a)) (got_says say a) was) z
+    ∙ (ap (λ s. said_last (opens Initiator (standings Initiator w.dlci past).zero.is_open s.is_asked w.dlci a) (s.is_open && not (ends (standings Initiator w.dlci past).zero.is_open w.dlci a)) (got_says say a) was) h.own_is
+    ∙ (ap (λ b. said_last (opens_now Initiator w.dlci past a) (belongs Initiator w.dlci past a) (got_says say a) b) is
+    ∙ sym (said_after (got_says say) (opens_now Initiator w.dlci past a) (belongs Initiator w.dlci past a) a (since Initiator w.dlci past))))
 
 all_stopped : (w : Watch) (past : List Act) (a : Act) → HasWatched w past → (watched w a).all_stop ≡ last_said (got_says flow_says) (since Initiator 0 (a ∷ past))
 all_stopped w past a h =
     let z : w.zero ≡ (standings Initiator 0 past).zero = h.zero_is ∙ zero_same 0 past in
-    ap (λ s. stop_after (opens Initiator s.is_open w.zero.is_asked 0 a) (w.zero.is_open && not (ends s.is_open 0 a)) (got_says flow_says a) w.all_stop) z
-    ∙ (ap (λ s. stop_after (opens Initiator (standings Initiator 0 past).zero.is_open s.is_asked 0 a) (s.is_open && not (ends (standings Initiator 0 past).zero.is_open 0 a)) (got_says flow_says a) w.all_stop) h.zero_is
-    ∙ (ap (λ b. stop_after (opens_now Initiator 0 past a) (belongs Initiator 0 past a) (got_says flow_says a) b) h.all_stop_is
+    ap (λ s. said_last (opens Initiator s.is_open w.zero.is_asked 0 a) (w.zero.is_open && not (ends s.is_open 0 a)) (got_says flow_says a) w.all_stop) z
+    ∙ (ap (λ s. said_last (opens Initiator (standings Initiator 0 past).zero.is_open s.is_asked 0 a) (s.is_open && not (ends (standings Initiator 0 past).zero.is_open 0 a)) (got_says flow_says a) w.all_stop) h.zero_is
+    ∙ (ap (λ b. said_last (opens_now Initiator 0 past a) (belongs Initiator 0 past a) (got_says flow_says a) b) h.all_stop_is
     ∙ sym (said_after (got_says flow_says) (opens_now Initiator 0 past a) (belongs Initiator 0 past a) a (since Initiator 0 past))))
 
 pub goes : (w : Watch) (past : List Act) (a : Act) → HasWatched w past → HasWatched (watched w a) (a ∷ past)
 goes w past a h = record {
   zero_is = ap (λ s. standing_after Initiator s.is_open 0 s a) h.zero_is ∙ ap (λ s. standing_after Initiator s.is_open 0 (standings Initiator 0 past).own a) (zero_same 0 past);
   own_is = ap (λ s. standing_after Initiator s.is_open w.dlci w.own a) (h.zero_is ∙ zero_same w.dlci past) ∙ ap (λ s. standing_after Initiator (standings Initiator w.dlci past).zero.is_open w.dlci s a) h.own_is;
-  own_stop_is = own_stopped w past a h;
+  own_stop_is = own_last (msc_says w.dlci) w.own_stop w past a h h.own_stop_is;
   all_stop_is = all_stopped w past a h;
+  carrier_is = own_last (dv_says w.dlci) w.carrier w past a h h.carrier_is;
 }
 
 pub watches : (w v : Watch) (a : Act) → v ≡ watched w a → Watches w v a
@@ -89,6 +92,11 @@ ends_said w past a h =
     ∙ (ap (λ (s : Standing). w.own.is_open && (opens_now Initiator w.dlci past a || not (w.own.is_open && not (ends s.is_open w.dlci a)))) (h.zero_is ∙ zero_same w.dlci past)
     ∙ ap (λ (s : Standing). s.is_open && (opens_now Initiator w.dlci past a || not (s.is_open && not (ends (standings Initiator w.dlci past).zero.is_open w.dlci a)))) h.own_is)
 
+pub loses_said : (w : Watch) (past : List Act) (a : Act) → HasWatched w past → watch_loses w a ≡ loses_carrier w.dlci past a
+loses_said w past a h =
+    ap (λ (s : Standing). (s.is_open && w.carrier) && not (unwrap_or (got_says (dv_says w.dlci) a) true)) h.own_is
+    ∙ ap (λ b. (is_open Initiator w.dlci past && b) && not (unwrap_or (got_says (dv_says w.dlci) a) true)) h.carrier_is
+
 -- ## Data changes nothing
 
 no_command : (z : Bool) → (z && false) ≡ false
@@ -99,7 +107,7 @@ stays_on : (b : Bool) → (b && true) ≡ b
 stays_on true = refl
 stays_on false = refl
 
-none_stops : (b was : Bool) → stop_after false b None was ≡ was
+none_stops : (b was : Bool) → said_last false b None was ≡ was
 none_stops true was = refl
 none_stops false was = refl
 
@@ -113,7 +121,7 @@ ends_none z d e cr pf info n = rw n (rw (no_command z) (no_command (not (d == 0)
 same_watched : (w : Watch) (e : ℕ) (cr pf : Bool) (info : List ℕ) → (e == 0) ≡ false → watched w (Got (record { dlci = e; kind = Uih; cr = cr; pf = pf; info = info })) ≡ w
 same_watched w e cr pf info n =
     rw (ends_none w.zero.is_open 0 e cr pf info n, ends_none w.zero.is_open w.dlci e cr pf info n, n)
-    (rw (same_standing w.zero, same_standing w.own, none_stops (w.own.is_open && true) w.own_stop, none_stops (w.zero.is_open && true) w.all_stop) refl)
+    (rw (same_standing w.zero, same_standing w.own, none_stops (w.own.is_open && true) w.own_stop, none_stops (w.zero.is_open && true) w.all_stop, none_stops (w.own.is_open && true) w.carrier) refl)
 
 of_kind : (w : Watch) (f : Frame) → f.kind ≡ Uih → (f.dlci == 0) ≡ false → watched w (Got f) ≡ w
 of_kind w f k n = subst (λ (k : Kind). watched w (Got (record f { kind = k })) ≡ w) (sym k) (same_watched w f.dlci f.cr f.pf f.info n)
@@ -128,7 +136,7 @@ sent_ends_none z d e cr pf info n = rw n (no_command (not (d == 0)))
 same_sent : (w : Watch) (e : ℕ) (cr pf : Bool) (info : List ℕ) → (e == 0) ≡ false → watched w (Sent (record { dlci = e; kind = Uih; cr = cr; pf = pf; info = info })) ≡ w
 same_sent w e cr pf info n =
     rw (sent_ends_none w.zero.is_open 0 e cr pf info n, sent_ends_none w.zero.is_open w.dlci e cr pf info n)
-    (rw (same_standing w.zero, same_standing w.own, none_stops (w.own.is_open && true) w.own_stop, none_stops (w.zero.is_open && true) w.all_stop) refl)
+    (rw (same_standing w.zero, same_standing w.own, none_stops (w.own.is_open && true) w.own_stop, none_stops (w.zero.is_open && true) w.all_stop, none_stops (w.own.is_open && true) w.carrier) refl)
 
 sent_of_kind : (w : Watch) (f : Frame) → f.kind ≡ Uih → (f.dlci == 0) ≡ false → watched w (Sent f) ≡ w
 sent_of_kind w f k n = subst (λ (k : Kind). watched w (Sent (record f { kind = k })) ≡ w) (sym k) (same_sent w f.dlci f.cr f.pf f.info n)
@@ -155,3 +163,10 @@ info_ends_none d past f k n =
     ap (λ b. is_open Initiator d past && (b || not (is_open Initiator d past && not (ends (standings Initiator d past).zero.is_open d (Got f))))) (info_opens_none d past f k)
     ∙ (ap (λ b. is_open Initiator d past && (false || not (is_open Initiator d past && not b))) (ends_of_kind (standings Initiator d past).zero.is_open d f k n)
     ∙ none_end (is_open Initiator d past))
+
+-- and takes no carrier
+loses_none : (b : Bool) (d e : ℕ) (cr pf : Bool) (info : List ℕ) → (e == 0) ≡ false → b && not (unwrap_or (got_says (dv_says d) (Got (record { dlci = e; kind = Uih; cr = cr; pf = pf; info = info }))) true) ≡ false
+loses_none b d e cr pf info n = rw n (no_command b)
+
+pub info_loses_none : (d : ℕ) (past : List Act) (f : Frame) → f.kind ≡ Uih → (f.dlci == 0) ≡ false → loses_carrier d past (Got f) ≡ false
+info_loses_none d past f k n = subst (λ (k : Kind). has_carrier d past && not (unwrap_or (got_says (dv_says d) (Got (record f { kind = k }))) true) ≡ false) (sym k) (loses_none (has_carrier d past) d f.dlci f.cr f.pf f.info n)

@@ -3,29 +3,29 @@ use Rattle.std.specs.Prelude.{◌≡◌, ℕ, ◌==◌, ◌&&◌, true, false, B
 use Rattle.std.proofs.Common.{ap, sym, ◌∙◌, arith}
 use Rattle.std.proofs.lemmas.List.{append-nil}
 use Rattle.mux_frame.specs.Frames.{Frame}
-use Rattle.mux_station.specs.Acts as station
-use Rattle.modem_data.specs.Switching.{Idle, is_idle}
-use Rattle.modem_data.specs.Passing.{Pass, Came, Went, Flowed, Left, Lost, Began, EndedLane, Gave, Read, is_info, ends_here, carries, LawfulPasses}
+use Rattle.modem_data.specs.Switching.{Idle}
+use Rattle.modem_data.specs.Passing.{Pass, Came, Went, Flowed, Left, Lost, Began, EndedLane, Gave, Read, is_info, carries, LawfulPasses}
 use Rattle.modem_data.specs.Hops.{Hop, Fed, Handed, Took, Wrote, Passed, LawfulHops, PassesAll, AddsNothing, passes, came, due, for_driver, for_line, went}
-use Rattle.modem_data.proofs.Pipes.{idle_behind, idle_sent}
+use Rattle.modem_data.specs.PipeSets.{IsPlain}
+use Rattle.modem_data.proofs.PipeSets.{plain_came, plain_went, plain_flowed, plain_due}
 use Rattle.modem_data.proofs.PipeSetCalls.{still_idle}
 
-idle : (n1 : ℕ) (past : List Hop) → LawfulHops n1 [] past → (e : ℕ) → carries e (passes past) ≡ Idle
-unfolding LawfulHops
-idle n1 [] h e = refl
-idle n1 (Passed (Came f) ∷ past) h e = idle_behind (is_info e (passes past) f) (ends_here e (passes past) (station.Got f)) (carries e (passes past)) f.info (idle n1 past h.1 e)
-idle n1 (Passed (Went f) ∷ past) h e = idle_sent (ends_here e (passes past) (station.Sent f)) (carries e (passes past)) (idle n1 past h.1 e)
-idle n1 (Passed (Flowed f) ∷ past) h e = idle_sent (ends_here e (passes past) (station.Sent f)) (carries e (passes past)) (idle n1 past h.1 e)
-idle n1 (Passed (Left f) ∷ past) h e = idle n1 past h.1 e
-idle n1 (Passed Lost ∷ past) h e = refl
-idle n1 (Passed (Began d how) ∷ past) h e = let none = h.0.there in absurd (omega (arith, none))
-idle n1 (Passed (EndedLane d) ∷ past) h e = still_idle (d == e) (carries e (passes past)) (idle n1 past h.1 e)
-idle n1 (Passed (Gave d octets) ∷ past) h e = idle n1 past h.1 e
-idle n1 (Passed (Read d octets) ∷ past) h e = idle n1 past h.1 e
-idle n1 (Fed octets ∷ past) h e = idle n1 past h.1 e
-idle n1 (Handed octets ∷ past) h e = idle n1 past h.1 e
-idle n1 (Took octets ∷ past) h e = idle n1 past h.1 e
-idle n1 (Wrote octets ∷ past) h e = idle n1 past h.1 e
+plain : (n1 : ℕ) (past : List Hop) → LawfulHops n1 [] past → LawfulPasses n1 (passes past) → (e : ℕ) → IsPlain e (passes past)
+unfolding LawfulHops LawfulPasses
+plain n1 [] h k e = record { idle = refl; held_is = refl }
+plain n1 (Passed (Came f) ∷ past) h k e = plain_came e (passes past) f (plain n1 past h.1 k.1 e)
+plain n1 (Passed (Went f) ∷ past) h k e = plain_went e (passes past) f (plain n1 past h.1 k.1 e)
+plain n1 (Passed (Flowed f) ∷ past) h k e = plain_flowed n1 e (passes past) f k.0 (plain n1 past h.1 k.1 e)
+plain n1 (Passed (Left f) ∷ past) h k e = let p = plain n1 past h.1 k.1 e in record { idle = p.idle; held_is = p.held_is }
+plain n1 (Passed Lost ∷ past) h k e = let p = plain n1 past h.1 k.1 e in record { idle = refl; held_is = p.held_is }
+plain n1 (Passed (Began d how until) ∷ past) h k e = let none = h.0.there in absurd (omega (arith, none))
+plain n1 (Passed (EndedLane d) ∷ past) h k e = let p = plain n1 past h.1 k.1 e in record { idle = still_idle (d == e) (carries e (passes past)) p.idle; held_is = p.held_is }
+plain n1 (Passed (Gave d octets) ∷ past) h k e = let p = plain n1 past h.1 k.1 e in record { idle = p.idle; held_is = p.held_is }
+plain n1 (Passed (Read d octets) ∷ past) h k e = let p = plain n1 past h.1 k.1 e in record { idle = p.idle; held_is = p.held_is }
+plain n1 (Fed octets ∷ past) h k e = plain n1 past h.1 k e
+plain n1 (Handed octets ∷ past) h k e = plain n1 past h.1 k e
+plain n1 (Took octets ∷ past) h k e = plain n1 past h.1 k e
+plain n1 (Wrote octets ∷ past) h k e = plain n1 past h.1 k e
 
 nothing : (x : Bool) → x && false ≡ false
 nothing true = refl
@@ -47,7 +47,7 @@ all n1 [] h k = record { to_driver = refl; to_line = refl }
 all n1 (Passed (Came f) ∷ past) h k =
     let r = all n1 past h.1 k.1 in
     record {
-      to_driver = ap (λ fs. fs ++ due (passes past) f) r.to_driver ∙ ap (λ fs. came past ++ fs) (due_all (passes past) f (idle n1 past h.1 f.dlci));
+      to_driver = ap (λ fs. fs ++ due (passes past) f) r.to_driver ∙ ap (λ fs. came past ++ fs) (due_all (passes past) f (plain n1 past h.1 k.1 f.dlci).idle);
       to_line = ap (λ fs. fs ++ []) r.to_line;
     }
 all n1 (Passed (Went f) ∷ past) h k =
@@ -55,11 +55,10 @@ all n1 (Passed (Went f) ∷ past) h k =
     record { to_driver = r.to_driver ∙ sym (append-nil (came past)); to_line = ap (λ fs. fs ++ f ∷ []) r.to_line }
 all n1 (Passed (Flowed f) ∷ past) h k =
     let due_there = k.0 in
-    let x : true ≡ false = sym (ap is_idle (idle n1 past h.1 due_there.dlci)) ∙ due_there.is_due.lane in
-    cc
+    absurd (plain_due due_there.dlci (passes past) due_there.go (plain n1 past h.1 k.1 due_there.dlci) due_there.is_due)
 all n1 (Passed (Left f) ∷ past) h k = let none = h.0.1.there in absurd (omega (arith, none))
 all n1 (Passed Lost ∷ past) h k = by_it past (Passed Lost) (all n1 past h.1 k.1) refl refl refl refl
-all n1 (Passed (Began d c) ∷ past) h k = by_it past (Passed (Began d c)) (all n1 past h.1 k.1) refl refl refl refl
+all n1 (Passed (Began d c u) ∷ past) h k = by_it past (Passed (Began d c u)) (all n1 past h.1 k.1) refl refl refl refl
 all n1 (Passed (EndedLane d) ∷ past) h k = by_it past (Passed (EndedLane d)) (all n1 past h.1 k.1) refl refl refl refl
 all n1 (Passed (Gave d o) ∷ past) h k = by_it past (Passed (Gave d o)) (all n1 past h.1 k.1) refl refl refl refl
 all n1 (Passed (Read d o) ∷ past) h k = by_it past (Passed (Read d o)) (all n1 past h.1 k.1) refl refl refl refl

@@ -1,13 +1,17 @@
--- What is kept of the data of a connection, from the beginning of a lane to the end of its opening.
-use Rattle.std.specs.Prelude.{◌≡◌, ◌≤◌, ℕ, List, [], ◌++◌}
+-- What is kept of the data of a connection, from the beginning of a lane to its end.
+use Rattle.std.specs.Prelude.{◌≡◌, ◌≤◌, ℕ, List, [], ◌++◌, length, if◌then◌else◌}
 use Rattle.modem_data.specs.declared.switch.LineCut.{LineCut}
-use Rattle.modem_data.specs.Switching.{Carries, Idle, IsCut, data_of, carries_after, ended_by_call}
+use Rattle.modem_data.specs.Switching.{Carries, Idle, IsCut, is_idle, data_of, carries_after, ended_by_call, without_carrier}
 
 -- what it carries, the data that came and was not read yet, and the octets that were given and have not left yet
 pub record DataLane : Type 0 where
   pub carries : Carries
   pub came : List ℕ
   pub to_go : List ℕ
+
+-- how many octets hold the other end back: none once the lane is over
+abbrev pub lane_waiting : DataLane → ℕ
+lane_waiting l = if is_idle l.carries then 0 else length l.came
 
 -- how many octets may wait to leave
 abbrev pub most_to_go : ℕ
@@ -35,6 +39,10 @@ ended_lane l = record l { carries = Idle }
 -- a lane is ended by a call: the same, and a `>` that is held back goes before what comes next
 abbrev pub left_lane : DataLane → DataLane
 left_lane l = record l { carries = ended_by_call l.carries }
+
+-- the carrier is lost that a lane lasts until
+abbrev pub dropped_lane : DataLane → DataLane
+dropped_lane l = record l { carries = without_carrier l.carries }
 
 -- so many octets wait to leave, in room for so many
 pub record HasRoom (count capacity : ℕ) : Type 0 where

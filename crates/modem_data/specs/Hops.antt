@@ -111,7 +111,7 @@ pub record DriverFirst (n1 : ℕ) (past : List Hop) : Type 0 where
 abbrev pub AllowsHop : ℕ → List ℕ → List Hop → Hop → Type 0
 AllowsHop n1 ds past (Passed (Left f)) = DriverFirst n1 past × InTurn ds (passes past) f
 AllowsHop n1 ds past (Passed (Flowed f)) = DriverFirst n1 past
-AllowsHop n1 ds past (Passed (Began d how)) = IsAmong ds (length ds) d
+AllowsHop n1 ds past (Passed (Began d how until)) = IsAmong ds (length ds) d
 AllowsHop n1 ds past _ = Unit {0}
 
 unfoldable pub LawfulHops : ℕ → List ℕ → List Hop → Type 0

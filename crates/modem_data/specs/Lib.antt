@@ -18,3 +18,4 @@ pub mod Hops
 pub mod Handing
 pub mod Relays
 pub mod RelayRows
+pub mod CarrierRows

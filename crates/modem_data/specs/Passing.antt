@@ -10,12 +10,15 @@ use Rattle.mux_station.specs.Tables.{msc_frame, ready, held_up}
 use Rattle.mux_station.specs.Written.{is_on, written}
 use Rattle.modem_data.specs.declared.begin.Begin.{Begin}
 use Rattle.modem_data.specs.declared.begin.Begin.TheVariants.{AtOnce, ByConnect, ByPrompt}
-use Rattle.modem_data.specs.Switching.{Carries, Idle, Lines, Data, Prompts, is_idle, lets_leave, takes_given, ended_by_call, data_of, carries_after}
+use Rattle.modem_data.specs.declared.begin.Until.{Until}
+use Rattle.modem_data.specs.declared.begin.Until.TheVariants.{Close, CarrierLoss}
+use Rattle.modem_data.specs.Switching.{Carries, Idle, Lines, Data, Prompts, is_idle, lets_leave, takes_given, ended_by_call, without_carrier, data_of, carries_after}
 use Rattle.modem_data.specs.DataLanes.{most_to_go}
-use Rattle.modem_data.specs.Watching.{may_leave, ends_now}
+use Rattle.modem_data.specs.Watching.{may_leave, ends_now, loses_carrier}
 
 -- what happens: a frame comes from the line; one goes from the driver to the line, one of the relay's own, or one of data;
--- the line is lost; a lane of a connection begins, at once, by a CONNECT line or by a prompt, or is ended between two frames;
+-- the line is lost; a lane of a connection begins, at once, by a CONNECT line or by a prompt, until its opening ends or the
+-- carrier is lost, or is ended between two frames;
 -- octets are given to be sent there; octets of its data are read
 pub data Pass : Type 0 where
   Came : Frame → Pass
@@ -23,7 +26,7 @@ pub data Pass : Type 0 where
   Flowed : Frame → Pass
   Left : Frame → Pass
   Lost : Pass
-  Began : ℕ → (how : Begin) → Pass
+  Began : ℕ → (how : Begin) → (until : Until) → Pass
   EndedLane : ℕ → Pass
   Gave : ℕ → List ℕ → Pass
   Read : ℕ → List ℕ → Pass
@@ -59,21 +62,38 @@ begin_of AtOnce = Data
 begin_of ByConnect = Lines []
 begin_of ByPrompt = Prompts true
 
+-- until when the lane of d lasts that began last
+abbrev pub until_of : ℕ → List Pass → Until
+until_of d [] = Close
+until_of d (Began e how until ∷ past) = if e == d then until else until_of d past
+until_of d (_ ∷ past) = until_of d past
+
+abbrev pub is_by_carrier : Until → Bool
+is_by_carrier Close = false
+is_by_carrier CarrierLoss = true
+
+-- the frame takes the carrier of d, which the lane of d lasts until
+abbrev pub drops_here : ℕ → List Pass → Frame → Bool
+drops_here d past f = is_by_carrier (until_of d past) && loses_carrier d (wire past) (station.Got f)
+
 -- what d carries behind a frame that came
-abbrev pub carries_behind : (info_here ending : Bool) → Carries → List ℕ → Carries
-carries_behind true ending c info = carries_after c info
-carries_behind false true c info = Idle
-carries_behind false false c info = c
+abbrev pub carries_behind : (info_here ending dropping : Bool) → Carries → List ℕ → Carries
+carries_behind true ending dropping c info = carries_after c info
+carries_behind false true dropping c info = Idle
+carries_behind false false true c info = without_carrier c
+carries_behind false false false c info = c
 
 -- What d carries: nothing but the driver's, until a lane begins. It turns to data behind its first CONNECT line, or to a text
--- behind its first prompt. It is over where an opening of d ends, the line is lost, or it is ended.
+-- behind its first prompt. It is over where an opening of d ends, the line is lost, or it is ended; and by the carrier, if it
+-- lasts until that is lost, where data or a text is under way: a modem's DV may fall while it dials.
 abbrev pub carries : ℕ → List Pass → Carries
 carries d [] = Idle
-carries d (Came f ∷ past) = carries_behind (is_info d past f) (ends_here d past (station.Got f)) (carries d past) f.info
+carries d (Came f ∷ past) =
+    carries_behind (is_info d past f) (ends_here d past (station.Got f)) (drops_here d past f) (carries d past) f.info
 carries d (Went f ∷ past) = if ends_here d past (station.Sent f) then Idle else carries d past
 carries d (Flowed f ∷ past) = if ends_here d past (station.Sent f) then Idle else carries d past
 carries d (Lost ∷ past) = Idle
-carries d (Began e how ∷ past) = if e == d then begin_of how else carries d past
+carries d (Began e how until ∷ past) = if e == d then begin_of how else carries d past
 carries d (EndedLane e ∷ past) = if e == d then ended_by_call (carries d past) else carries d past
 carries d (_ ∷ past) = carries d past
 
@@ -88,13 +108,13 @@ abbrev pub data_came : ℕ → List Pass → List ℕ
 data_came d [] = []
 data_came d (Came f ∷ past) =
     if is_info d past f then data_came d past ++ data_of (carries d past) f.info else data_came d past
-data_came d (Began e how ∷ past) = if e == d then [] else data_came d past
+data_came d (Began e how until ∷ past) = if e == d then [] else data_came d past
 data_came d (_ ∷ past) = data_came d past
 
 abbrev pub data_read : ℕ → List Pass → List ℕ
 data_read d [] = []
 data_read d (Read e octets ∷ past) = if e == d then data_read d past ++ octets else data_read d past
-data_read d (Began e how ∷ past) = if e == d then [] else data_read d past
+data_read d (Began e how until ∷ past) = if e == d then [] else data_read d past
 data_read d (_ ∷ past) = data_read d past
 
 -- the lane of d is over, and all of its data was read
@@ -108,13 +128,13 @@ pub record IsOver (d : ℕ) (past : List Pass) : Type 0 where
 abbrev pub given : ℕ → List Pass → List ℕ
 given d [] = []
 given d (Gave e octets ∷ past) = if e == d then given d past ++ octets else given d past
-given d (Began e how ∷ past) = if e == d then [] else given d past
+given d (Began e how until ∷ past) = if e == d then [] else given d past
 given d (_ ∷ past) = given d past
 
 abbrev pub left : ℕ → List Pass → List ℕ
 left d [] = []
 left d (Left f ∷ past) = if f.dlci == d then left d past ++ f.info else left d past
-left d (Began e how ∷ past) = if e == d then [] else left d past
+left d (Began e how until ∷ past) = if e == d then [] else left d past
 left d (_ ∷ past) = left d past
 
 -- how many octets of data wait to leave
@@ -141,6 +161,10 @@ driver_holds d (_ ∷ past) = driver_holds d past
 abbrev pub unread : ℕ → List Pass → ℕ
 unread d past = length (data_came d past) - length (data_read d past)
 
+-- how many of them hold d back: none behind the end of a lane, since lines are to come then
+abbrev pub waiting : ℕ → List Pass → ℕ
+waiting d past = if is_idle (carries d past) then 0 else unread d past
+
 -- What is to be said: stop, where 8192 octets wait; go on, where fewer than 4096 do, unless the driver holds d by its lines.
 abbrev pub flow_by : (held by_driver : Bool) → (waiting : ℕ) → Option Bool
 flow_by false by_driver waiting = if nat_le 8192 waiting then Some false else None
@@ -151,11 +175,10 @@ flow_by true false waiting = if nat_lt waiting 4096 then Some true else None
 abbrev pub flow_frame : ℕ → (go : Bool) → Frame
 flow_frame d go = msc_frame Initiator d (if go then ready else held_up)
 
--- d is open and carries a lane, and this is to be said of it
+-- d is open, and this is to be said of it
 pub record IsDue (d : ℕ) (past : List Pass) (go : Bool) : Type 0 where
   pub open_there : is_open Initiator d (wire past) ≡ true
-  pub lane : is_idle (carries d past) ≡ false
-  pub due : flow_by (holds d past) (driver_holds d past) (unread d past) ≡ Some go
+  pub due : flow_by (holds d past) (driver_holds d past) (waiting d past) ≡ Some go
 
 -- ## The laws
 
@@ -192,7 +215,7 @@ pub record Reads (d : ℕ) (past : List Pass) (octets : List ℕ) : Type 0 where
 abbrev pub AllowsPass : ℕ → List Pass → Pass → Type 0
 AllowsPass n1 past (Left f) = Leaves n1 past f
 AllowsPass n1 past (Flowed f) = Flows past f
-AllowsPass n1 past (Began d how) = IsOver d past
+AllowsPass n1 past (Began d how until) = IsOver d past
 AllowsPass n1 past (Gave d octets) = Gives d past octets
 AllowsPass n1 past (Read d octets) = Reads d past octets
 AllowsPass n1 past _ = Unit {0}

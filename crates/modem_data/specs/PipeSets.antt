@@ -6,7 +6,7 @@ use Rattle.mux_frame.specs.Spelling.{spelled}
 use Rattle.modem_data.specs.declared.switch.LineCut.{LineCut}
 use Rattle.modem_data.specs.Switching.{Idle, IsCut, lets_leave}
 use Rattle.modem_data.specs.Watching.{may_leave}
-use Rattle.modem_data.specs.Passing.{Pass, Left, wire, is_data, carries, given, left, LawfulPasses}
+use Rattle.modem_data.specs.Passing.{Pass, Left, wire, is_data, carries, given, left, holds, driver_holds, LawfulPasses}
 use Rattle.modem_data.specs.Pipes.{Pipe, PipeFits, HasNoneToSend, MayLeave, SaysFlow}
 
 -- the pipes, and the place from which on the next is looked for that may send
@@ -75,13 +75,18 @@ pub record InTurn (ds : List ℕ) (past : List Pass) (f : Frame) : Type 0 where
 
 -- ## Fitting
 
--- the pipes are those of these connections, each once; each fits the past, and no other connection carries a lane
+-- a connection carries no lane, and no MSC but the driver's holds it
+pub record IsPlain (e : ℕ) (past : List Pass) : Type 0 where
+  pub idle : carries e past ≡ Idle
+  pub held_is : holds e past ≡ driver_holds e past
+
+-- the pipes are those of these connections, each once; each fits the past, and every other connection is plain
 pub record PipesFit (n1 : ℕ) (ds : List ℕ) (v : PipeSet) (past : List Pass) : Type 0 where
   pub lawful : LawfulPasses n1 past
   pub connections_are : connections v.each ≡ ds
   pub apart : AreApart ds
   pub each : All (λ p. PipeFits n1 p.watch.dlci p past) v.each
-  pub others : (e : ℕ) → NoneOf ds e → carries e past ≡ Idle
+  pub others : (e : ℕ) → NoneOf ds e → IsPlain e past
   pub turn_is : v.turn ≡ turn_of ds past
 
 -- an act leads on, whatever passed before

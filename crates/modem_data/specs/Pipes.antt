@@ -1,5 +1,5 @@
 -- What is kept of a connection that carries data, and how it fits what passed.
-use Rattle.std.specs.Prelude.{◌≡◌, ◌≢◌, ℕ, ◌==◌, ◌↔◌, not, Bool, true, false, List, [], ◌∷◌, ◌++◌, length, take, Option, Some, None, if◌then◌else◌, unwrap_or}
+use Rattle.std.specs.Prelude.{◌≡◌, ◌≢◌, ℕ, ◌==◌, ◌↔◌, ◌&&◌, not, Bool, true, false, List, [], ◌∷◌, ◌++◌, length, take, Option, Some, None, if◌then◌else◌, unwrap_or}
 use Rattle.mux_frame.specs.Frames.{Frame}
 use Rattle.mux_frame.specs.declared.frame.Kind.TheVariants.{Uih}
 use Rattle.mux_station.specs.declared.role.Role.TheVariants.{Initiator}
@@ -9,14 +9,16 @@ use Rattle.mux_station.specs.Stopping.{got_says, msc_says}
 use Rattle.mux_station.specs.Written.{written}
 use Rattle.modem_data.specs.declared.switch.LineCut.{LineCut}
 use Rattle.modem_data.specs.Switching.{Idle, IsCut, is_idle, lets_leave, takes_given, is_behind_lines}
-use Rattle.modem_data.specs.DataLanes.{DataLane, ended_lane}
-use Rattle.modem_data.specs.Watching.{Watch, HasWatched, SaysMayLeave, may_leave, watched, watch_ends, watch_opens}
-use Rattle.modem_data.specs.Passing.{Pass, Left, wire, is_data, carries, data_came, data_read, given, left, holds, driver_holds, LawfulPasses, IsOver, IsDue}
+use Rattle.modem_data.specs.declared.begin.Until.{Until}
+use Rattle.modem_data.specs.DataLanes.{DataLane, dropped_lane, ended_lane}
+use Rattle.modem_data.specs.Watching.{Watch, HasWatched, SaysMayLeave, may_leave, watched, watch_ends, watch_loses, watch_opens}
+use Rattle.modem_data.specs.Passing.{Pass, Left, wire, is_data, carries, until_of, is_by_carrier, data_came, data_read, given, left, holds, driver_holds, LawfulPasses, IsOver, IsDue}
 
--- a connection: what the frames say of it, its lane, and whether the last MSC for it that went holds it
+-- a connection: what the frames say of it, its lane and until when this lasts, and whether the last MSC for it that went holds it
 pub record Pipe : Type 0 where
   pub watch : Watch
   pub lane : DataLane
+  pub until : Until
   pub held : Bool
   pub by_driver : Bool
 
@@ -27,6 +29,7 @@ pub record PipeFits (n1 d : ℕ) (v : Pipe) (past : List Pass) : Type 0 where
   pub lawful : LawfulPasses n1 past
   pub watched : HasWatched v.watch (wire past)
   pub carries_is : v.lane.carries ≡ carries d past
+  pub until_is : v.until ≡ until_of d past
   pub came_is : data_read d past ++ v.lane.came ≡ data_came d past
   pub to_go_is : left d past ++ v.lane.to_go ≡ given d past
   pub held_is : v.held ≡ holds d past
@@ -74,11 +77,22 @@ abbrev pub lane_over : Bool → DataLane → DataLane
 lane_over true l = ended_lane l
 lane_over false l = l
 
+-- or its carrier is lost
+abbrev pub lane_behind : (ending dropping : Bool) → DataLane → DataLane
+lane_behind true dropping l = ended_lane l
+lane_behind false true l = dropped_lane l
+lane_behind false false l = l
+
+-- the frame takes the carrier that the lane lasts until
+abbrev pub pipe_drops : Pipe → Frame → Bool
+pipe_drops v f = is_by_carrier v.until && watch_loses v.watch (station.Got f)
+
 -- one that came, and is no information on its connection
 abbrev pub saw_pipe : Frame → Pipe → Pipe
 saw_pipe f v = record {
   watch = watched v.watch (station.Got f);
-  lane = lane_over (watch_ends v.watch (station.Got f)) v.lane;
+  lane = lane_behind (watch_ends v.watch (station.Got f)) (pipe_drops v f) v.lane;
+  until = v.until;
   held = if watch_opens v.watch (station.Got f) then false else v.held;
   by_driver = if watch_opens v.watch (station.Got f) then false else v.by_driver;
 }
@@ -91,6 +105,7 @@ abbrev pub sent_pipe : Frame → Pipe → Pipe
 sent_pipe f v = record {
   watch = watched v.watch (station.Sent f);
   lane = lane_over (watch_ends v.watch (station.Sent f)) v.lane;
+  until = v.until;
   held = said_held f v v.held;
   by_driver = said_held f v v.by_driver;
 }
@@ -99,6 +114,7 @@ abbrev pub flowed_pipe : Frame → Pipe → Pipe
 flowed_pipe f v = record {
   watch = watched v.watch (station.Sent f);
   lane = lane_over (watch_ends v.watch (station.Sent f)) v.lane;
+  until = v.until;
   held = said_held f v v.held;
   by_driver = v.by_driver;
 }

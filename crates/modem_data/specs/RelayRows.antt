@@ -1,14 +1,15 @@
 -- Worked pasts of a relay: connections 0, 1 and 2 are open, and 2 carries a lane, with data behind its CONNECT line.
-use Rattle.std.specs.Prelude.{◌≡◌, ℕ, true, false, List, [], ◌∷◌, ◌++◌, Some, None, codes}
+use Rattle.std.specs.Prelude.{◌≡◌, ℕ, true, false, List, [], ◌∷◌, ◌++◌, Bool, Option, Some, None, codes}
 use Rattle.mux_frame.specs.Frames.{Frame}
 use Rattle.mux_frame.specs.declared.frame.Kind.TheVariants.{Sabm, Ua, Disc, Uih}
 use Rattle.mux_station.specs.declared.role.Role.TheVariants.{Initiator, Responder}
 use Rattle.mux_frame.specs.Spelling.{spelled}
 use Rattle.mux_station.specs.Written.{written}
 use Rattle.modem_data.specs.declared.begin.Begin.TheVariants.{AtOnce, ByConnect, ByPrompt}
+use Rattle.modem_data.specs.declared.begin.Until.TheVariants.{Close}
 use Rattle.modem_data.specs.Switching.{Data, Idle, Owes, lets_leave, takes_given, is_behind_lines}
 use Rattle.modem_data.specs.Watching.{may_leave}
-use Rattle.modem_data.specs.Passing.{Came, Went, Flowed, Left, Lost, Began, EndedLane, wire, carries, data_came, holds, driver_holds, flow_by, flow_frame}
+use Rattle.modem_data.specs.Passing.{Came, Went, Flowed, Left, Lost, Began, EndedLane, wire, carries, data_came, holds, driver_holds, waiting, flow_by, flow_frame}
 use Rattle.modem_data.specs.PipeSets.{comes_before, turn_of}
 use Rattle.modem_data.specs.Hops.{DriverFirst, Hop, Passed, Took, for_driver, for_line, passes}
 
@@ -33,7 +34,7 @@ abbrev pub opened : List Hop
 opened = Passed (Came (ua 2)) ∷ Passed (Went (sabm 2)) ∷ Passed (Came (ua 1)) ∷ Passed (Went (sabm 1)) ∷ Passed (Came (ua 0)) ∷ Passed (Went (sabm 0)) ∷ []
 
 abbrev pub armed : List Hop
-armed = Passed (Began 2 ByConnect) ∷ opened
+armed = Passed (Began 2 ByConnect Close) ∷ opened
 
 abbrev pub connect : List ℕ
 connect = codes "CONNECT" ++ (13 ∷ 10 ∷ [])
@@ -45,6 +46,10 @@ between past = Passed (Came (says 1 (codes "OK" ++ 13 ∷ []))) ∷ Passed (Came
 abbrev pub all_frames : List Frame
 all_frames = ua 0 ∷ ua 1 ∷ ua 2 ∷ says 1 (65 ∷ 84 ∷ 13 ∷ []) ∷ says 2 (connect ++ (126 ∷ 255 ∷ [])) ∷ says 1 (codes "OK" ++ 13 ∷ []) ∷ []
 
+-- what is to be said of the flow of 2
+abbrev pub to_say : List Hop → Option Bool
+to_say past = flow_by (holds 2 (passes past)) (driver_holds 2 (passes past)) (waiting 2 (passes past))
+
 pub record RelaysSo : Type 0 where
   -- no lane began: all that came goes on, as it came
   pub as_they_came : for_driver (between opened) ≡ all_frames
@@ -54,7 +59,7 @@ pub record RelaysSo : Type 0 where
   -- then a frame of data on 2 is nothing to the driver
   pub no_lines : for_driver (Passed (Came (says 2 (13 ∷ 10 ∷ []))) ∷ between armed) ≡ for_driver (between armed)
   -- with data at once, the first octets that come are data
-  pub at_once : data_came 2 (passes (Passed (Came (says 2 (65 ∷ 13 ∷ []))) ∷ Passed (Began 2 AtOnce) ∷ opened)) ≡ 65 ∷ 13 ∷ []
+  pub at_once : data_came 2 (passes (Passed (Came (says 2 (65 ∷ 13 ∷ []))) ∷ Passed (Began 2 AtOnce Close) ∷ opened)) ≡ 65 ∷ 13 ∷ []
   -- data goes to the line between two frames of the driver's
   pub between_two : for_line (Passed (Went (told 1 (65 ∷ []))) ∷ Passed (Left (told 2 (1 ∷ 2 ∷ []))) ∷ Passed (Went (told 1 (66 ∷ []))) ∷ []) ≡ told 1 (66 ∷ []) ∷ told 2 (1 ∷ 2 ∷ []) ∷ told 1 (65 ∷ []) ∷ []
   -- behind a DISC of 2 that went, one of 0, or a loss, no data may leave, and the lane is over
@@ -85,6 +90,13 @@ pub record RelaysSo : Type 0 where
   -- a lane that is ended is over, and what comes then is the driver's again
   pub ended : carries 2 (passes (Passed (EndedLane 2) ∷ between armed)) ≡ Idle
   pub lines_again : for_driver (Passed (Came (says 2 (7 ∷ []))) ∷ Passed (EndedLane 2) ∷ between armed) ≡ for_driver (between armed) ++ (says 2 (7 ∷ []) ∷ [])
+  -- behind its end nothing that waits to be read holds back the lines: the relay says go on, if it had said stop
+  pub two_wait : waiting 2 (passes (between armed)) ≡ 2
+  pub none_waits : waiting 2 (passes (Passed (EndedLane 2) ∷ between armed)) ≡ 0
+  pub freed_at_its_end : to_say (Passed (EndedLane 2) ∷ Passed (Flowed (flow_frame 2 false)) ∷ between armed) ≡ Some true
+  pub only_once : to_say (Passed (Flowed (flow_frame 2 true)) ∷ Passed (EndedLane 2) ∷ Passed (Flowed (flow_frame 2 false)) ∷ between armed) ≡ None
+  pub never_held : to_say (Passed (EndedLane 2) ∷ between armed) ≡ None
+  pub held_by_driver : to_say (Passed (EndedLane 2) ∷ Passed (Went (flow_frame 2 false)) ∷ between armed) ≡ None
   -- of 2, 3 and 5 it is the turn of 2 at first, and of the one behind that whose data left last, round
   pub first_turn : turn_of (2 ∷ 3 ∷ 5 ∷ []) (passes armed) ≡ 0
   pub behind_2 : turn_of (2 ∷ 3 ∷ 5 ∷ []) (Left (told 2 (1 ∷ [])) ∷ Left (told 5 (1 ∷ [])) ∷ passes armed) ≡ 1
@@ -98,7 +110,7 @@ pub record RelaysSo : Type 0 where
 -- ## A lane by prompt
 
 abbrev pub prompted : List Hop
-prompted = Passed (Began 2 ByPrompt) ∷ opened
+prompted = Passed (Began 2 ByPrompt Close) ∷ opened
 
 -- CR LF and the prompt, cut between its two octets
 abbrev pub half : List Hop

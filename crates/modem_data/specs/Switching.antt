@@ -62,6 +62,10 @@ ended_by_call Marked = Owes
 ended_by_call Owes = Owes
 ended_by_call _ = Idle
 
+-- how it stands where the carrier is lost: what goes as data or as a text ends
+abbrev pub without_carrier : Carries → Carries
+without_carrier c = if is_behind_lines c then Idle else c
+
 -- an octet ends a CONNECT line
 abbrev pub connects : List ℕ → ℕ → Bool
 connects kept c = list_any is_connect (lines (kept ++ c ∷ []))

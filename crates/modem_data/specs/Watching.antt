@@ -1,28 +1,51 @@
--- Whether a connection may send, as told by the frames that pass an end of the line (27.010, 5.4).
-use Rattle.std.specs.Prelude.{◌≡◌, ℕ, ◌==◌, ◌&&◌, ◌||◌, not, Bool, true, false, List, ◌∷◌, Option, unwrap_or}
+-- Whether a connection may send, and whether it has a carrier, as told by the frames that pass an end of the line (27.010, 5.4).
+use Rattle.std.specs.Prelude.{◌≡◌, ℕ, ◌/◌, ◌%◌, ◌==◌, ◌&&◌, ◌||◌, not, Bool, true, false, List, [], ◌∷◌, Option, Some, None, unwrap_or, if◌then◌else◌}
 use Rattle.mux_station.specs.declared.role.Role.TheVariants.{Initiator}
 use Rattle.mux_station.specs.Acts.{Act}
+use Rattle.mux_station.specs.Messages.{Message, msc, msc_dlci}
 use Rattle.mux_station.specs.Opening.{Standing, standing_after, opens, ends, standings, since, is_open, not_open, opens_now, belongs}
 use Rattle.mux_station.specs.Stopping.{last_said, got_says, msc_says, flow_says, is_stopped}
 
--- how 0 and the connection stand, and whether the last message stopped it, or all
+-- ## The carrier, as the modem says it (27.010, 5.4.6.3.7)
+
+-- the DV bit of an MSC's signals, the eighth: a carrier is detected (circuit 109 of V.24)
+abbrev pub msc_dv : List ℕ → Bool
+msc_dv [] = false
+msc_dv (d ∷ []) = false
+msc_dv (d ∷ signals ∷ rest) = (signals / 128) % 2 == 1
+
+-- an MSC command for d says whether d has a carrier
+abbrev pub dv_says : ℕ → Message → Option Bool
+dv_says d m = if (m.octet == msc) && (msc_dlci m.value == d) then Some (msc_dv m.value) else None
+
+-- d is open, and the last one that came since it opened said that it has
+abbrev pub has_carrier : ℕ → List Act → Bool
+has_carrier d past = is_open Initiator d past && last_said (got_says (dv_says d)) (since Initiator d past)
+
+-- d has a carrier, and the act says that it has none
+abbrev pub loses_carrier : ℕ → List Act → Act → Bool
+loses_carrier d past a = has_carrier d past && not (unwrap_or (got_says (dv_says d) a) true)
+
+-- ## What is kept of it
+
+-- how 0 and the connection stand, whether the last message stopped it, or all, and whether it said that there is a carrier
 pub record Watch : Type 0 where
   pub dlci : ℕ
   pub zero : Standing
   pub own : Standing
   pub own_stop : Bool
   pub all_stop : Bool
+  pub carrier : Bool
 
 -- nothing has passed yet
 abbrev pub new_watch : ℕ → Watch
-new_watch d = record { dlci = d; zero = not_open; own = not_open; own_stop = false; all_stop = false }
+new_watch d = record { dlci = d; zero = not_open; own = not_open; own_stop = false; all_stop = false; carrier = false }
 
--- whether something is stopped after an act: nothing is where the act opens; what the act says, where it belongs to the
--- time of being open
-abbrev pub stop_after : (opening belonging : Bool) → Option Bool → Bool → Bool
-stop_after true belonging say was = false
-stop_after false true say was = unwrap_or say was
-stop_after false false say was = was
+-- what was said last, after an act: nothing where the act opens; what the act says, where it belongs to the time of being open
+abbrev pub said_last : (opening belonging : Bool) → Option Bool → Bool → Bool
+said_last true belonging say was = false
+said_last false true say was = unwrap_or say was
+said_last false false say was = was
 
 -- after an act
 abbrev pub watched : Watch → Act → Watch
@@ -30,10 +53,12 @@ watched w a = record {
   dlci = w.dlci;
   zero = standing_after Initiator w.zero.is_open 0 w.zero a;
   own = standing_after Initiator w.zero.is_open w.dlci w.own a;
-  own_stop = stop_after (opens Initiator w.zero.is_open w.own.is_asked w.dlci a)
+  own_stop = said_last (opens Initiator w.zero.is_open w.own.is_asked w.dlci a)
       (w.own.is_open && not (ends w.zero.is_open w.dlci a)) (got_says (msc_says w.dlci) a) w.own_stop;
-  all_stop = stop_after (opens Initiator w.zero.is_open w.zero.is_asked 0 a)
+  all_stop = said_last (opens Initiator w.zero.is_open w.zero.is_asked 0 a)
       (w.zero.is_open && not (ends w.zero.is_open 0 a)) (got_says flow_says a) w.all_stop;
+  carrier = said_last (opens Initiator w.zero.is_open w.own.is_asked w.dlci a)
+      (w.own.is_open && not (ends w.zero.is_open w.dlci a)) (got_says (dv_says w.dlci) a) w.carrier;
 }
 
 -- the watch has seen this past
@@ -42,6 +67,7 @@ pub record HasWatched (w : Watch) (past : List Act) : Type 0 where
   pub own_is : w.own ≡ (standings Initiator w.dlci past).own
   pub own_stop_is : w.own_stop ≡ last_said (got_says (msc_says w.dlci)) (since Initiator w.dlci past)
   pub all_stop_is : w.all_stop ≡ last_said (got_says flow_says) (since Initiator 0 past)
+  pub carrier_is : w.carrier ≡ last_said (got_says (dv_says w.dlci)) (since Initiator w.dlci past)
 
 -- an act is seen, whatever passed before
 unfoldable pub Watches : Watch → Watch → Act → Type 0
@@ -64,3 +90,6 @@ watch_opens w a = opens Initiator w.zero.is_open w.own.is_asked w.dlci a
 
 abbrev pub watch_ends : Watch → Act → Bool
 watch_ends w a = w.own.is_open && (watch_opens w a || not (w.own.is_open && not (ends w.zero.is_open w.dlci a)))
+
+abbrev pub watch_loses : Watch → Act → Bool
+watch_loses w a = (w.own.is_open && w.carrier) && not (unwrap_or (got_says (dv_says w.dlci) a) true)

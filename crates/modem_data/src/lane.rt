@@ -1,7 +1,7 @@
 //! What a connection carries, and its data on both ways.
 ghost use Rattle.std.specs.Prelude.{◌≡◌, ◌≤◌, ◌<◌, ◌+◌, ◌-◌, ◌++◌, [], length, take, drop, min, true, IfOk, OnErr};
 ghost use Rattle.modem_data.specs.Switching.{is_behind_lines, lets_leave, takes_given, is_idle};
-ghost use Rattle.modem_data.specs.DataLanes.{begun_lane, ended_lane, left_lane, new_lane, most_to_go, TakesInfo};
+ghost use Rattle.modem_data.specs.DataLanes.{begun_lane, dropped_lane, ended_lane, lane_waiting, left_lane, new_lane, most_to_go, TakesInfo};
 ghost use Rattle.modem_data.specs.Passing.{begin_of};
 
 use crate::begin::Begin;
@@ -62,6 +62,15 @@ impl DataLane {
         ensures { self.new ≡ ended_lane self.old }
     {
         self.switch.to_idle();
+    }
+
+    /// The carrier is lost that the lane lasts until: it is over where data is under way.
+    pub fn lose_carrier(&mut self)
+        ensures { self.new ≡ dropped_lane self.old }
+    {
+        if self.switch.is_behind_lines() {
+            self.switch.to_idle();
+        }
     }
 
     /// The lane is ended by a call. A `>` that is held back goes before what comes next.
@@ -134,6 +143,17 @@ impl DataLane {
         self.to_go.fit(count);
         self.to_go.put(&octets[..count]);
         count
+    }
+
+    /// How many octets hold the other end back: those that wait to be read, and none once the lane is over.
+    pub fn holding(&self) -> usize
+        ensures { result ≡ lane_waiting self.now }
+    {
+        if self.switch.is_idle() {
+            0
+        } else {
+            self.came.len()
+        }
     }
 
     /// How many octets of data wait to be read.

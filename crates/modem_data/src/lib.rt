@@ -1,5 +1,6 @@
 //! Data on connections of the multiplexer, beside the AT commands on the others. A lane is a stretch of data on a
-//! connection: a call begins it, and it is over where the connection's opening ends, the line is lost, or a call ends it.
+//! connection: a call begins it, and it is over where the connection's opening ends, the line is lost, or a call ends it; and where
+//! the modem loses the carrier, if it was begun so.
 //!
 //! # Layout
 //!
@@ -21,7 +22,7 @@ mod relay;
 mod switch;
 mod watch;
 
-pub use begin::Begin;
+pub use begin::{Begin, Until};
 pub use error::DataError;
 pub use lane::MOST_TO_GO;
 pub use pipe::{Pipe, Reading};

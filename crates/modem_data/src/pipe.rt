@@ -9,9 +9,9 @@ ghost use Rattle.modem_data.specs.declared.error.DataError.TheVariants as error;
 ghost use Rattle.modem_data.specs.DataLanes.{most_to_go};
 ghost use Rattle.modem_data.specs.Switching.{IsWithin};
 ghost use Rattle.modem_data.specs.Passing.{Came, Went, Flowed, Left, Lost, Began, EndedLane, Gave, Read, flow_by};
-ghost use Rattle.modem_data.specs.Pipes.{BeginsPipe, HandsOn, HasNoneToSend, TakesNone, IsShut, Leads, LeadsLeft, SaysBehind, SaysFlow, SaysLane, SaysOver, HasUnread, MayLeave, next_data, saw_pipe, sent_pipe, flowed_pipe, lost_pipe};
+ghost use Rattle.modem_data.specs.Pipes.{BeginsPipe, HandsOn, HasNoneToSend, TakesNone, IsShut, Leads, LeadsLeft, SaysBehind, SaysFlow, SaysLane, SaysOver, HasUnread, MayLeave, next_data, pipe_drops, saw_pipe, sent_pipe, flowed_pipe, lost_pipe};
 
-use crate::begin::Begin;
+use crate::begin::{Begin, Until, is_by_carrier};
 use crate::error::DataError;
 use crate::lane::DataLane;
 use crate::octets::Octets;
@@ -26,6 +26,7 @@ use std::marker::Model;
 pub struct Pipe {
     watch: Watch,
     lane: DataLane,
+    until: Until,
     held: bool,
     by_driver: bool,
 }
@@ -35,7 +36,7 @@ impl Model for Pipe {
 
     ghost Value = { Pipe };
 
-    ghost view = { λ p. record { watch = p.watch; lane = p.lane; held = p.held; by_driver = p.by_driver } };
+    ghost view = { λ p. record { watch = p.watch; lane = p.lane; until = p.until; held = p.held; by_driver = p.by_driver } };
 }
 
 /// What came of reading.
@@ -58,6 +59,7 @@ impl Pipe {
         Ok(Pipe {
             watch: Watch::new(dlci),
             lane: DataLane::new(alloc)?,
+            until: Until::Close,
             held: false,
             by_driver: false,
         })
@@ -74,8 +76,8 @@ impl Pipe {
     /// its next prompt. Refused with 7 UnderWay where a lane is under way, and else with 8 Unread where data of the last one
     /// wasn't read.
     #[tactic(auto, using(crate::proofs::PipeCalls::leads_began, crate::proofs::PipeCalls::a_lane_is, crate::proofs::PipeCalls::has_unread))]
-    pub fn begin(&mut self, how: Begin) -> Result<(), DataError>
-        ensures leads { OnOk result (Leads self.old self.new (Began self.old.watch.dlci how)) }
+    pub fn begin(&mut self, how: Begin, until: Until) -> Result<(), DataError>
+        ensures leads { OnOk result (Leads self.old self.new (Began self.old.watch.dlci how until)) }
         ensures under_way { result ≡ Err error.UnderWay → SaysLane self.old true }
         ensures unread { result ≡ Err error.Unread → HasUnread self.old }
         ensures others { OnErr result ((result ≡ Err error.UnderWay) ⊎ (result ≡ Err error.Unread)) }
@@ -89,6 +91,7 @@ impl Pipe {
             return Err(DataError::Unread);
         }
         self.lane.begin(how);
+        self.until = until;
         Ok(())
     }
 
@@ -147,6 +150,13 @@ impl Pipe {
         Ok(Some(cut))
     }
 
+    /// Whether a frame that came takes the carrier that the lane lasts until.
+    fn drops(&self, frame: FrameView<'_>) -> bool
+        ensures { result ≡ pipe_drops self.now (frame_of frame.entry) }
+    {
+        is_by_carrier(self.until) & self.watch.loses_carrier(frame)
+    }
+
     /// Another frame came.
     #[tactic(auto, using(crate::proofs::Pipes::leads_saw, crate::proofs::Pipes::hands_other))]
     pub(crate) fn saw(&mut self, frame: FrameView<'_>)
@@ -158,6 +168,8 @@ impl Pipe {
     {
         if self.watch.ends_by_got(frame) {
             self.lane.end();
+        } else if self.drops(frame) {
+            self.lane.lose_carrier();
         }
         if self.watch.opens(frame) {
             self.held = false;
@@ -244,19 +256,16 @@ impl Pipe {
         self.lane.to_go().len()
     }
 
-    /// What the other end is due to be told: to stop (`false`) where 8192 octets wait to be read, then to go on (`true`) where fewer than
-    /// 4096 do and the driver doesn't hold the connection.
-    #[tactic(auto, using(crate::proofs::PipeCalls::says_flow, crate::proofs::PipeCalls::idle_flow, crate::proofs::PipeCalls::shut_flow))]
+    /// What the other end is due to be told: to stop (`false`) where 8192 octets of a lane wait to be read, then to go on (`true`) where
+    /// fewer than 4096 do or the lane is over, and the driver doesn't hold the connection.
+    #[tactic(auto, using(crate::proofs::PipeCalls::says_flow, crate::proofs::PipeCalls::shut_flow))]
     pub fn flow(&self) -> Option<bool>
         ensures { SaysFlow self.now result }
     {
-        if self.lane.is_idle() {
-            return None;
-        }
         if !self.watch.is_open() {
             return None;
         }
-        flow_by(self.held, self.by_driver, self.lane.waiting())
+        flow_by(self.held, self.by_driver, self.lane.holding())
     }
 
     /// Whether a frame of data may leave.

@@ -11,7 +11,7 @@ ghost use Rattle.modem_data.specs.Passing.{Came, Went, Flowed, Lost, Began, Ende
 ghost use Rattle.modem_data.specs.Pipes.{Pipe as Kept, PipeFits, HasNoneToSend, MayLeave, SaysFlow, saw_pipe, sent_pipe, flowed_pipe, lost_pipe};
 ghost use Rattle.modem_data.specs.PipeSets.{AllHand, AllLead, AreApart, BeginsAll, IsAmong, IsTwice, HasPipe, IsFlowOf, IsNext, IsNotData, NoneLeaves, NoneOf, NonesIn, OfEachPast, SomeLeaves, connections, numbers};
 
-use crate::begin::Begin;
+use crate::begin::{Begin, Until};
 use crate::error::DataError;
 use crate::octets::Octets;
 use crate::pipe::{Pipe, Reading};
@@ -112,8 +112,8 @@ impl Pipes {
 
     /// Begins a lane of a connection, as `Pipe::begin` does. Refused with 6 NotData where there is no pipe of it.
     #[tactic(auto, using(crate::proofs::PipeSetCalls::one_began, crate::proofs::PipeSetCalls::not_data, crate::proofs::PipeSetCalls::under_way_at, crate::proofs::PipeSetCalls::unread_at))]
-    pub fn begin(&mut self, dlci: Dlci, how: Begin) -> Result<(), DataError>
-        ensures began { OnOk result (AllLead self.old self.new (Began dlci.number how)) }
+    pub fn begin(&mut self, dlci: Dlci, how: Begin, until: Until) -> Result<(), DataError>
+        ensures began { OnOk result (AllLead self.old self.new (Began dlci.number how until)) }
         ensures has { OnOk result (HasPipe self.old dlci.number) }
         ensures not_data { result ≡ Err error.NotData → IsNotData self.old dlci.number }
         ensures under_way { result ≡ Err error.UnderWay → OfEachPast self.old (λ past. is_idle (carries dlci.number past) ≡ false) }
@@ -125,7 +125,7 @@ impl Pipes {
         let Some(place) = place_of(&self.each, dlci) else {
             return Err(DataError::NotData);
         };
-        self.each[place].begin(how)
+        self.each[place].begin(how, until)
     }
 
     /// Ends the lane of a connection, as `Pipe::lines` does. Refused with 6 NotData where there is no pipe of it.

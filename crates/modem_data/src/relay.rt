@@ -9,7 +9,7 @@ ghost use Rattle.modem_data.specs.Passing.{Came, Went, Flowed, Left, Lost, Began
 ghost use Rattle.modem_data.specs.PipeSets.{IsAmong, IsNotData, IsTwice, NoneLeaves, OfEachPast, numbers};
 ghost use Rattle.modem_data.specs.Hops.{Fed, Handed, Took, Wrote, Passed, Hops, HopsBy, BeginsRelay, AllCame, HoldsNothing, LineIn, PassesOn, DriverOut, OneOut};
 
-use crate::begin::Begin;
+use crate::begin::{Begin, Until};
 use crate::error::DataError;
 use crate::octets::Octets;
 use crate::passing::{pass_in, pass_out};
@@ -23,7 +23,7 @@ use std::marker::Model;
 /// A relay between a line and a driver: it passes the frames of each on to the other, but for data.
 ///
 /// - `new` names the connections that may carry data. `begin` begins a lane on one, at once, behind the next CONNECT or behind the next
-///   prompt; `lines` ends it.
+///   prompt, and says whether the loss of the carrier ends it; `lines` ends it.
 /// - Hand what the line gave to `from_line`. Give the driver what `for_driver` lends, and say by `handed` how much.
 /// - Where `wants_driver` says so, hand the driver's octets to `feed_driver`. While `ready` says so, write what `for_line` lends,
 ///   and say by `wrote` how much.
@@ -101,10 +101,11 @@ impl Relay {
     }
 
     /// Begins a lane of a connection, in the present opening or, while the connection is shut, in the next: at once, by its next
-    /// CONNECT line or by its next prompt. Refused, in this order: 6 NotData where `new` didn't name the connection; 7 UnderWay where
-    /// a lane is under way; 8 Unread where data of the last one wasn't read.
-    pub fn begin(&mut self, dlci: Dlci, how: Begin) -> Result<(), DataError>
-        ensures began { OnOk result (Hops self.old self.new (Passed (Began dlci.number how))) }
+    /// CONNECT line or by its next prompt. `until` says whether the loss of the carrier ends it, as `lines` does. Refused, in this
+    /// order: 6 NotData where `new` didn't name the connection; 7 UnderWay where a lane is under way; 8 Unread where data of the last
+    /// one wasn't read.
+    pub fn begin(&mut self, dlci: Dlci, how: Begin, until: Until) -> Result<(), DataError>
+        ensures began { OnOk result (Hops self.old self.new (Passed (Began dlci.number how until))) }
         ensures not_data { result ≡ Err error.NotData → IsNotData self.old.pipes dlci.number }
         ensures under_way { result ≡ Err error.UnderWay → OfEachPast self.old.pipes (λ past. is_idle (carries dlci.number past) ≡ false) }
         ensures unread { result ≡ Err error.Unread → OfEachPast self.old.pipes (λ past.
@@ -112,7 +113,7 @@ impl Relay {
         ensures others { OnErr result ((result ≡ Err error.NotData) ⊎ ((result ≡ Err error.UnderWay) ⊎ (result ≡ Err error.Unread))) }
         ensures err { OnErr result (self.new ≡ self.old) }
     {
-        self.pipes.begin(dlci, how)
+        self.pipes.begin(dlci, how, until)
     }
 
     /// Ends the lane of a connection, if there is one. From the next frame on lines come and go again. What was given and hasn't left
@@ -329,7 +330,7 @@ impl Relay {
     }
 
     /// Says to the other end that it may not go on with data of a connection, where 8192 octets wait, or that it may, where fewer than
-    /// 4096 do, by an MSC, and answers whether it said anything. Requires that every frame of the driver's has gone, and that no octets
+    /// 4096 do or the lane is over, by an MSC, and answers whether it said anything. Requires that every frame of the driver's has gone, and that no octets
     /// wait.
     #[tactic(auto, using(crate::proofs::FrameRoom::room_for))]
     fn put_flow(&mut self) -> bool

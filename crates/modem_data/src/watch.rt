@@ -1,4 +1,4 @@
-//! Watches the frames that pass an end of the line, and knows from them whether a connection may send.
+//! Watches the frames that pass an end of the line, and knows from them whether a connection may send, and has a carrier.
 ghost use Rattle.std.specs.Prelude.{◌≡◌, ◌==◌, ◌&&◌, ◌||◌, not, option_map, unwrap_or, None, Some, false, Bool, []};
 ghost use Rattle.mux_frame.specs.Frames.{frame_of};
 ghost use Rattle.mux_station.specs.Acts.{Got, Sent, Lost};
@@ -8,11 +8,11 @@ ghost use Rattle.mux_station.specs.Stopping.{got_says, msc_says, flow_says};
 ghost use Rattle.mux_station.specs.Written.{is_on};
 ghost use Rattle.mux_frame.specs.declared.frame.Kind.TheVariants.{Sabm, Uih};
 ghost use Rattle.mux_station.specs.declared.role.Role.TheVariants.{Initiator};
-ghost use Rattle.modem_data.specs.Watching.{new_watch, watched, watch_opens, watch_ends, stop_after, Watches, SaysMayLeave, HasWatched};
+ghost use Rattle.modem_data.specs.Watching.{dv_says, new_watch, watched, watch_opens, watch_ends, watch_loses, said_last, Watches, SaysMayLeave, HasWatched};
 ghost use Rattle.modem_data.specs.Messages.{message_read};
 ghost use Rattle.modem_data.specs.Standings.{standing_of};
 
-use crate::message::{Message, msc_dlci, msc_stops};
+use crate::message::{Message, msc_dlci, msc_dv, msc_stops};
 use mux_frame::{Dlci, FrameView, Kind};
 use std::marker::Model;
 
@@ -31,6 +31,7 @@ pub struct Watch {
     own: Standing,
     own_stop: bool,
     all_stop: bool,
+    carrier: bool,
 }
 
 impl Model for Watch {
@@ -45,6 +46,7 @@ impl Model for Watch {
       own = standing_of w.own;
       own_stop = w.own_stop;
       all_stop = w.all_stop;
+      carrier = w.carrier;
     } };
 }
 
@@ -146,15 +148,15 @@ fn stands_sent(zero: bool, dlci: u8, standing: Standing, frame: FrameView<'_>) -
     }
 }
 
-/// What stops a connection then.
-fn stop_after(opens: bool, belongs: bool, said: Option<bool>, was: bool) -> bool
-    ensures { result ≡ stop_after opens belongs said was }
+/// What was said last, then.
+fn said_last(opens: bool, belongs: bool, said: Option<bool>, was: bool) -> bool
+    ensures { result ≡ said_last opens belongs said was }
 {
     if opens {
         return false;
     }
     match said {
-        Some(stops) if belongs => stops,
+        Some(says) if belongs => says,
         _ => was,
     }
 }
@@ -166,6 +168,17 @@ fn own_said(dlci: u8, frame: FrameView<'_>) -> Option<bool>
     let message = message_in(frame)?;
     if message.octet == 0xE3 && msc_dlci(message.value) == dlci {
         return Some(msc_stops(message.value));
+    }
+    None
+}
+
+/// What a frame says of the carrier of a connection.
+fn dv_said(dlci: u8, frame: FrameView<'_>) -> Option<bool>
+    ensures { result ≡ got_says (dv_says dlci) (Got (frame_of frame.entry)) }
+{
+    let message = message_in(frame)?;
+    if message.octet == 0xE3 && msc_dlci(message.value) == dlci {
+        return Some(msc_dv(message.value));
     }
     None
 }
@@ -197,6 +210,7 @@ impl Watch {
             own: shut,
             own_stop: false,
             all_stop: false,
+            carrier: false,
         }
     }
 
@@ -249,6 +263,14 @@ impl Watch {
         self.own.is_open & !(self.own.is_open & !ends)
     }
 
+    /// Whether a frame that comes takes the connection's carrier: it has one, and the frame says that it has none.
+    pub fn loses_carrier(&self, frame: FrameView<'_>) -> bool
+        ensures { result ≡ watch_loses self.now (Got (frame_of frame.entry)) }
+    {
+        let stays = dv_said(self.dlci.number(), frame).unwrap_or(true);
+        (self.own.is_open & self.carrier) & !stays
+    }
+
     /// What a frame says of the flow on the connection.
     pub fn said(&self, frame: FrameView<'_>) -> Option<bool>
         ensures { result ≡ got_says (msc_says self.now.dlci) (Got (frame_of frame.entry)) }
@@ -275,8 +297,9 @@ impl Watch {
         let own_stays = self.own.is_open & !got_ends(zero, dlci, frame);
         let all_open = got_opens(zero, self.zero.is_asked, 0, frame);
         let all_stay = zero & !got_ends(zero, 0, frame);
-        self.own_stop = stop_after(own_opens, own_stays, own_said(dlci, frame), self.own_stop);
-        self.all_stop = stop_after(all_open, all_stay, all_said(frame), self.all_stop);
+        self.own_stop = said_last(own_opens, own_stays, own_said(dlci, frame), self.own_stop);
+        self.all_stop = said_last(all_open, all_stay, all_said(frame), self.all_stop);
+        self.carrier = said_last(own_opens, own_stays, dv_said(dlci, frame), self.carrier);
         self.own = stands_got(zero, dlci, self.own, frame);
         self.zero = stands_got(zero, 0, self.zero, frame);
     }
@@ -291,8 +314,9 @@ impl Watch {
         let zero = self.zero.is_open;
         let own_stays = self.own.is_open & !sent_ends(zero, dlci, frame);
         let all_stay = zero & !sent_ends(zero, 0, frame);
-        self.own_stop = stop_after(false, own_stays, None, self.own_stop);
-        self.all_stop = stop_after(false, all_stay, None, self.all_stop);
+        self.own_stop = said_last(false, own_stays, None, self.own_stop);
+        self.all_stop = said_last(false, all_stay, None, self.all_stop);
+        self.carrier = said_last(false, own_stays, None, self.carrier);
         self.own = stands_sent(zero, dlci, self.own, frame);
         self.zero = stands_sent(zero, 0, self.zero, frame);
     }

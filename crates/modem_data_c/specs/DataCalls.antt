@@ -2,6 +2,8 @@
 use Rattle.std.specs.Prelude.{◌≡◌, ◌⊎◌, ℕ, ◌<◌, List, [], length, Option, None, Some, slice_index_or}
 use Rattle.modem_data.specs.declared.begin.Begin.{Begin}
 use Rattle.modem_data.specs.declared.begin.Begin.TheVariants.{AtOnce, ByConnect, ByPrompt}
+use Rattle.modem_data.specs.declared.begin.Until.{Until}
+use Rattle.modem_data.specs.declared.begin.Until.TheVariants.{Close, CarrierLoss}
 use Rattle.modem_data.specs.PipeSets.{IsAmong, IsTwice}
 use Rattle.modem_data.specs.Hops.{Relay, Hops, Wrote, OneOut}
 use Rattle.modem_data_c.specs.declared.held_data.CimbalotyData.{CimbalotyData}
@@ -28,11 +30,18 @@ begin_number AtOnce = 0
 begin_number ByConnect = 1
 begin_number ByPrompt = 2
 
--- this is true of the beginning that has this number
-pub record BeginsBy (how : ℕ) (p : Begin → Type 0) : Type 0 where
+-- until when it lasts, as a number
+abbrev pub until_number : Until → ℕ
+until_number Close = 0
+until_number CarrierLoss = 1
+
+-- this is true of the beginning and the end that have these numbers
+pub record BeginsBy (how until : ℕ) (p : Begin → Until → Type 0) : Type 0 where
   pub begin : Begin
+  pub end : Until
   pub numbered : how ≡ begin_number begin
-  pub true_of_it : p begin
+  pub end_numbered : until ≡ until_number end
+  pub true_of_it : p begin end
 
 -- one of these numbers is above 61
 pub record HasHigh (octets : List ℕ) : Type 0 where

@@ -7,13 +7,13 @@ ghost use Rattle.modem_data.specs.DataLanes.{most_to_go};
 ghost use Rattle.modem_data.specs.Passing.{Began, EndedLane, Gave, Read, Lost, IsOver, carries, data_came, data_read, given, left, to_go, unread, wire};
 ghost use Rattle.modem_data.specs.PipeSets.{IsNotData, OfEachPast};
 ghost use Rattle.modem_data.specs.Hops.{Hops, Passed};
-ghost use Rattle.modem_data_c.specs.DataCalls.{Becomes, BeginsBy, Keeps, begin_number, relay_of};
+ghost use Rattle.modem_data_c.specs.DataCalls.{Becomes, BeginsBy, Keeps, begin_number, relay_of, until_number};
 
 use crate::held_data::CimbalotyData;
 use crate::numbers::{
     BAD_BEGIN, BAD_DLCI, LINES, NO_RELAY, NOT_DATA, NOT_OPEN, OK, UNDER_WAY, UNREAD,
 };
-use modem_data::{Begin, Relay};
+use modem_data::{Begin, Relay, Until};
 use mux_frame::Dlci;
 use std::alloc::Global;
 
@@ -30,9 +30,21 @@ fn begin_of(how: u8) -> Option<Begin>
     }
 }
 
+/// Until when a lane lasts, by its number.
+fn until_of(until: u8) -> Option<Until>
+    ensures known { IfSome result (λ u. until ≡ until_number u) }
+    ensures unknown { result ≡ None → 1 < until }
+{
+    match until {
+        0 => Some(Until::Close),
+        1 => Some(Until::CarrierLoss),
+        _ => None,
+    }
+}
+
 /// Begins a lane of a connection.
-fn begin(relay: &mut Relay, dlci: u8, how: Begin) -> u8
-    ensures ok { result ≡ OK → Hops relay.old relay.new (Passed (Began dlci how)) }
+fn begin(relay: &mut Relay, dlci: u8, how: Begin, until: Until) -> u8
+    ensures ok { result ≡ OK → Hops relay.old relay.new (Passed (Began dlci how until)) }
     ensures bad { (result ≡ BAD_DLCI) ↔ (61 < dlci) }
     ensures not_data { result ≡ NOT_DATA → IsNotData relay.old.pipes dlci }
     ensures under_way { result ≡ UNDER_WAY → OfEachPast relay.old.pipes (λ past. is_idle (carries dlci past) ≡ false) }
@@ -44,28 +56,29 @@ fn begin(relay: &mut Relay, dlci: u8, how: Begin) -> u8
     let Some(dlci) = Dlci::new(dlci) else {
         return BAD_DLCI;
     };
-    match relay.begin(dlci, how) {
+    match relay.begin(dlci, how, until) {
         Ok(()) => OK,
         Err(why) => why.number(),
     }
 }
 
-/// Begins a lane: 0 at once, 1 by a CONNECT line, 2 by a prompt.
+/// Begins a lane: 0 at once, 1 by a CONNECT line, 2 by a prompt; until 0 its opening ends, 1 the carrier is lost too.
 #[unsafe(no_mangle)]
 pub extern "C" fn cimbaloty_data_begin(
     alloc: Global,
     d: &mut CimbalotyData,
     dlci: u8,
     how: u8,
+    until: u8,
 ) -> u8
-    ensures ok { result ≡ OK → BeginsBy how (λ b. Becomes d.old d.new (λ r s. Hops r s (Passed (Began dlci b)))) }
-    ensures bad_begin { (result ≡ BAD_BEGIN) ↔ (2 < how) }
-    ensures bad { how ≤ 2 → relay_of d.old ≢ None → ((result ≡ BAD_DLCI) ↔ (61 < dlci)) }
+    ensures ok { result ≡ OK → BeginsBy how until (λ b u. Becomes d.old d.new (λ r s. Hops r s (Passed (Began dlci b u)))) }
+    ensures bad_begin { (result ≡ BAD_BEGIN) ↔ ((2 < how) ⊎ (1 < until)) }
+    ensures bad { how ≤ 2 → until ≤ 1 → relay_of d.old ≢ None → ((result ≡ BAD_DLCI) ↔ (61 < dlci)) }
     ensures not_data { result ≡ NOT_DATA → Keeps d.old (λ r. IsNotData r.pipes dlci) }
     ensures under_way { result ≡ UNDER_WAY → Keeps d.old (λ r. OfEachPast r.pipes (λ past. is_idle (carries dlci past) ≡ false)) }
     ensures unread { result ≡ UNREAD → Keeps d.old (λ r. OfEachPast r.pipes (λ past.
         (carries dlci past ≡ idle) × (data_read dlci past ≢ data_came dlci past))) }
-    ensures no_relay { how ≤ 2 → ((result ≡ NO_RELAY) ↔ (relay_of d.old ≡ None)) }
+    ensures no_relay { how ≤ 2 → until ≤ 1 → ((result ≡ NO_RELAY) ↔ (relay_of d.old ≡ None)) }
     ensures refused { result ≢ OK → relay_of d.new ≡ relay_of d.old }
     ensures others { result ≢ OK → result ≢ BAD_BEGIN → result ≢ BAD_DLCI → result ≢ NOT_DATA → result ≢ UNDER_WAY → result ≢ NO_RELAY
         → result ≡ UNREAD }
@@ -73,10 +86,13 @@ pub extern "C" fn cimbaloty_data_begin(
     let Some(how) = begin_of(how) else {
         return BAD_BEGIN;
     };
+    let Some(until) = until_of(until) else {
+        return BAD_BEGIN;
+    };
     let Some(mut relay) = d.take(alloc) else {
         return NO_RELAY;
     };
-    let answer = begin(&mut relay, dlci, how);
+    let answer = begin(&mut relay, dlci, how, until);
     *d = CimbalotyData::of(relay);
     answer
 }

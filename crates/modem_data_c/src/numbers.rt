@@ -30,5 +30,5 @@ pub const HAS_RELAY: u8 = 17;
 /// A connection is 0 to 61.
 pub const BAD_DLCI: u8 = 18;
 
-/// A lane begins at once, by a CONNECT line or by a prompt: 0 to 2.
+/// A lane begins at once, by a CONNECT line or by a prompt, 0 to 2, and lasts until its opening ends or the carrier is lost, 0 or 1.
 pub const BAD_BEGIN: u8 = 19;

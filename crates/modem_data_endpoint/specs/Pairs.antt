@@ -88,7 +88,7 @@ pub data NextOut (x y : Pair) : (goes_on : Bool) → Type 0 where
 -- a call of the lanes
 abbrev pub is_of_lanes : Pass → Bool
 is_of_lanes Lost = true
-is_of_lanes (Began d how) = true
+is_of_lanes (Began d how until) = true
 is_of_lanes (EndedLane d) = true
 is_of_lanes (Gave d octets) = true
 is_of_lanes (Read d octets) = true

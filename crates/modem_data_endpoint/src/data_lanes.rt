@@ -10,13 +10,13 @@ ghost use Rattle.modem_data.specs.PipeSets.{IsNotData, OfEachPast};
 ghost use Rattle.modem_data.specs.Hops.{Hops, Passed};
 
 use crate::data_endpoint::DataEndpoint;
-use modem_data::{Begin, DataError, Reading};
+use modem_data::{Begin, DataError, Reading, Until};
 use mux_frame::Dlci;
 
 impl DataEndpoint {
     /// Begins a lane of a connection, as `Relay::begin` does.
-    pub fn begin(&mut self, dlci: Dlci, how: Begin) -> Result<(), DataError>
-        ensures began { OnOk result (Hops self.old.relay self.new.relay (Passed (Began dlci.number how))) }
+    pub fn begin(&mut self, dlci: Dlci, how: Begin, until: Until) -> Result<(), DataError>
+        ensures began { OnOk result (Hops self.old.relay self.new.relay (Passed (Began dlci.number how until))) }
         ensures not_data { result ≡ Err error.NotData → IsNotData self.old.relay.pipes dlci.number }
         ensures under_way { result ≡ Err error.UnderWay → OfEachPast self.old.relay.pipes (λ past. is_idle (carries dlci.number past) ≡ false) }
         ensures unread { result ≡ Err error.Unread → OfEachPast self.old.relay.pipes (λ past.
@@ -24,7 +24,7 @@ impl DataEndpoint {
         ensures err { OnErr result (self.new ≡ self.old) }
         ensures beside { self.new.endpoint ≡ self.old.endpoint }
     {
-        self.relay.begin(dlci, how)
+        self.relay.begin(dlci, how, until)
     }
 
     /// Ends the lane of a connection, as `Relay::lines` does.

@@ -8,6 +8,7 @@ use Rattle.modem_history.specs.Sessions.{LineView}
 use Rattle.mux_capture.specs.Passing.{CaptureState}
 use Rattle.modem_data.specs.declared.begin.Begin.{Begin}
 use Rattle.modem_data.specs.declared.begin.Begin.TheVariants.{AtOnce, ByConnect}
+use Rattle.modem_data.specs.declared.begin.Until.TheVariants.{Close}
 use Rattle.data_files.specs.Files.{FileState, FiledState, HasMoved, new_file}
 use Rattle.data_files.specs.Moves.{HadTurns}
 use Rattle.modem_drive.specs.Asking.{NamesRead}
@@ -71,7 +72,7 @@ begin_of false = AtOnce
 
 -- a file beside a connection, between two rings, at which nothing has passed
 abbrev pub opened_file : DataPath → FileState StreamState
-opened_file p = new_file p.dlci.number (begin_of p.by_connect) (new_stream None None Ended)
+opened_file p = new_file p.dlci.number (begin_of p.by_connect) Close (new_stream None None Ended)
 
 abbrev pub opened_files : List DataPath → List (FileState StreamState)
 opened_files data_paths = map (λ p. opened_file p) data_paths

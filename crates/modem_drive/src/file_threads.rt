@@ -12,7 +12,7 @@ use crate::settings::DataPath;
 use bell::Bell;
 use data_files::DataFile;
 use device_line::DeviceLine;
-use modem_data::Begin;
+use modem_data::{Begin, Until};
 use serial_line::ZeroRead;
 use std::alloc::AllocGlobal;
 use std::fs::File;
@@ -56,7 +56,13 @@ where
 {
     let (reader, writer) = open_device(rt, one.path)?;
     let (line, threads) = line_beside(rt, reader, writer, ZeroRead::Quiet, bell)?;
-    let made = DataFile::new(rt.alloc(), one.dlci, begin_of(one.by_connect), line);
+    let made = DataFile::new(
+        rt.alloc(),
+        one.dlci,
+        begin_of(one.by_connect),
+        Until::Close,
+        line,
+    );
     let (file, threads) = beside(made, threads)?;
     Ok((file, threads))
 }

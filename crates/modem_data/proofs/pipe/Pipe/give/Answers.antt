@@ -9,7 +9,7 @@ use Rattle.modem_data.proofs.pipe.Pipe.give.Goals as goal
 
 pub returns-clause-leads : goal.returns-clause-leads
 returns-clause-leads c =
-    let old : Pipe = record { watch = c.self.inside.watch; lane = c.self.inside.lane; held = c.self.inside.held; by_driver = c.self.inside.by_driver } in
+    let old : Pipe = record { watch = c.self.inside.watch; lane = c.self.inside.lane; until = c.self.inside.until; held = c.self.inside.held; by_driver = c.self.inside.by_driver } in
     let new : Pipe = record old { lane = c.give.new.self } in
     let up : c.self.inside.watch.own.is_open ≡ true = search rules in
     let lane : takes_given c.self.inside.lane.carries ≡ true = search rules in

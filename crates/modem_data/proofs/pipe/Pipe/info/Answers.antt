@@ -11,7 +11,7 @@ use Rattle.modem_data.proofs.pipe.Pipe.info.Goals as goal
 
 pub returns-clause-leads : goal.returns-clause-leads
 returns-clause-leads c =
-    let old : Pipe = record { watch = c.self.inside.watch; lane = c.self.inside.lane; held = c.self.inside.held; by_driver = c.self.inside.by_driver } in
+    let old : Pipe = record { watch = c.self.inside.watch; lane = c.self.inside.lane; until = c.self.inside.until; held = c.self.inside.held; by_driver = c.self.inside.by_driver } in
     let new : Pipe = record old { lane = c.take.new.self } in
     let on : is_on Uih c.self.inside.watch.dlci (frame_of c.args.frame) ≡ true = subst (λ (v : Pipe). is_on Uih v.watch.dlci (frame_of c.args.frame) ≡ true) (sym c.self.view_is) c.requires in
     let up : (is_on Uih c.self.inside.watch.dlci (frame_of c.args.frame) && c.self.inside.watch.own.is_open) ≡ true = search rules in

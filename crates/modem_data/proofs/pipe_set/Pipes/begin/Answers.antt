@@ -19,9 +19,9 @@ returns-clause-began c =
     let it : c.index_mut.result.now ≡ get_or old.each place p = c.index_mut.ensures.value ∙ get_or_default old.each place c.index_mut.result.now p there in
     let new : PipeSet = record old { each = slice_set old.each place p } in
     let same : p.watch ≡ (get_or old.each place p).watch = c.begin.ensures.same ∙ ap (λ (q : Pipe). q.watch) it in
-    let leads = subst (λ (q : Pipe). OnOk c.begin.result (Leads q p (Began q.watch.dlci c.args.how))) it c.begin.ensures.leads in
-    let led = subst (λ (e : ℕ). OnOk c.begin.result (Leads (get_or old.each place p) p (Began e c.args.how))) here leads in
-    subst (λ (v : PipeSet). OnOk c.begin.result (AllLead v new (Began c.args.dlci.number c.args.how))) c.self.view_is (began_by old new place p c.args.dlci.number c.args.how c.begin.result there here led same refl)
+    let leads = subst (λ (q : Pipe). OnOk c.begin.result (Leads q p (Began q.watch.dlci c.args.how c.args.until))) it c.begin.ensures.leads in
+    let led = subst (λ (e : ℕ). OnOk c.begin.result (Leads (get_or old.each place p) p (Began e c.args.how c.args.until))) here leads in
+    subst (λ (v : PipeSet). OnOk c.begin.result (AllLead v new (Began c.args.dlci.number c.args.how c.args.until))) c.self.view_is (began_by old new place p c.args.dlci.number c.args.how c.args.until c.begin.result there here led same refl)
 
 pub returns-clause-has : goal.returns-clause-has
 returns-clause-has c =
