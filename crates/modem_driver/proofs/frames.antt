@@ -6,4 +6,5 @@ pub mod DataLines
 pub mod DataLanes
 pub mod DataFrames
 pub mod QueueRoom
+pub mod DataStays
 pub mod FollowingActs

@@ -1,2 +1,4 @@
 -- Lemmas on lists.
 pub mod FirstLeftOut
+pub mod FirstPlaces
+pub mod CommandPlaces

@@ -24,7 +24,7 @@ impl Core {
         ensures { self.new
             ≡ begun_by self.old dlci.number (option_map line_of (first_on dlci.number self.old.hand)) }
     {
-        let Some(line) = first_line(self.hand.as_slice(), dlci) else {
+        let Some(line) = first_line(self.hand.from_first(dlci), dlci) else {
             return;
         };
         self.lanes.begin(dlci, line);

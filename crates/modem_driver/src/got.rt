@@ -225,7 +225,7 @@ impl Core {
         let reading = Reading {
             alloc: self.alloc,
             dlci: frame.dlci,
-            owner: first_asker(self.hand.as_slice(), frame.dlci),
+            owner: first_asker(self.hand.from_first(frame.dlci), frame.dlci),
         };
         read_octets(
             reading,
@@ -245,7 +245,7 @@ impl Core {
         ensures { EndsCommand self.old self.new dlci.number }
     {
         remove_command(&mut self.hand, dlci);
-        if let Some(line) = first_line(self.hand.as_slice(), dlci) {
+        if let Some(line) = first_line(self.hand.from_first(dlci), dlci) {
             offer_line(&mut self.station, dlci, line);
         }
     }
@@ -310,7 +310,7 @@ impl Core {
         ensures lost { self.new.lost ≡ self.old.lost }
     {
         let done = self.join_lane(frame.dlci, fork, acts)?;
-        let _noted = take(&mut self.station, frame);
+        let _ = &self.lanes;
         self.go_on(frame.dlci, done);
         Ok(())
     }
@@ -347,7 +347,6 @@ impl Core {
         ensures lost { self.new.lost ≡ self.old.lost }
     {
         self.lanes.keep(frame.dlci, frame.info);
-        let _noted = take(&mut self.station, frame);
     }
 
     /// As `got_data`, but without the act Got, by a lane of the caller's to read on and a list of the caller's of what is said. It makes

@@ -82,11 +82,12 @@ impl Lane {
     {
         if fork.window.idle() {
             lead_first(&mut self.window, acts)?;
+            self.window.drop_command();
         } else {
             fork.window.follow(&mut self.window)?;
+            mem::swap(&mut self.window, &mut fork.window);
         }
         self.reader.copy_from(&fork.reader);
-        mem::swap(&mut self.window, &mut fork.window);
         self.held = fork.held;
         Ok(())
     }

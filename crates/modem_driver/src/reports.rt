@@ -1,7 +1,10 @@
 //! Reads the lines of a connection, and says what each is.
-ghost use Rattle.std.specs.Prelude.{◌≡◌, ◌↔◌, ◌≤◌, ◌<◌, ℕ, List, [], ◌∷◌, ◌++◌, true, length, map, take, Some, None, OnOk, IfOk};
-ghost use Rattle.std.specs.List.{Contains};
-ghost use Rattle.modem_history.specs.Acts.{act_of};
+ghost use Rattle.std.specs.Prelude.{◌≡◌, ◌↔◌, ◌≤◌, ◌<◌, ℕ, List, [], ◌∷◌, ◌++◌, false, true, length, map, take, Option, Some, None, OnOk, IfOk};
+ghost use Rattle.std.specs.List.{Contains, list_any};
+ghost use Rattle.modem_history.specs.Acts.{Act as Happening, act_of};
+ghost use Rattle.at_text.specs.Dialects.{Dialect as Codes};
+ghost use Rattle.at_text.specs.Lines.{is_line_end};
+ghost use Rattle.at_text.specs.OpenWindow.{OpenWindow};
 ghost use Rattle.at_text.specs.Rules.{dialect_of};
 ghost use Rattle.modem_driver.specs.Reports.{done_by, heard_by, said_as, ReportSays, ReadsOctet, ReadsAll};
 
@@ -116,6 +119,18 @@ fn read_octet(
     say(reading, kinds, line.text, seen, acts)
 }
 
+/// Reads octets none of which ends a line. Where there are none, the reader isn't touched.
+fn keep_run(reader: &mut LineReader, octets: &[u8])
+    requires { list_any is_line_end octets.now ≡ false }
+    ensures { (dialect : Codes) (kinds : List UrcKind) (r : Reading) (w : Option OpenWindow) (acts : List Happening)
+        → ReadsAll dialect kinds r octets.now (record { kept = reader.old; window = w; acts = acts })
+        (record { kept = reader.new; window = w; acts = acts }) }
+{
+    if !octets.is_empty() {
+        reader.keep(octets);
+    }
+}
+
 /// Reads octets through the first that ends a line, or all where none does. Says how many.
 fn read_run(
     reading: Reading,
@@ -139,7 +154,7 @@ fn read_run(
     })) }
 {
     let end = run_len(octets);
-    reader.keep(&octets[..end]);
+    keep_run(reader, &octets[..end]);
     let Some(octet) = octets.get(end) else {
         return Ok(end);
     };

@@ -147,6 +147,11 @@ keeps_run dialect kinds r old new run on before none k w a listens h =
     none_said dialect listens r.dlci.number r.owner old new run (sym none) k w a
     ∙ sym (each_is dialect listens r.dlci.number r.owner old old.kept run on before)
 
+-- of no octets nothing is read
+pub keeps_none : (dialect : Dialect) (kinds : List UrcKind) (r : Reading) (v : Read) (run : List ℕ) → run ≡ [] → ReadsAll dialect kinds r run v v
+unfolding ReadsAll
+keeps_none dialect kinds r v run e listens h = ap (read_each dialect listens r.dlci.number r.owner v) (sym e)
+
 -- and one more behind them
 pub ends_run : (dialect : Dialect) (kinds : List UrcKind) (r : Reading) (old between new : Read) (run : List ℕ) (c : ℕ) (all : List ℕ) → all ≡ run ++ c ∷ [] → ReadsAll dialect kinds r run old between → ReadsOctet dialect kinds r c between new → ReadsAll dialect kinds r all old new
 unfolding ReadsAll ReadsOctet

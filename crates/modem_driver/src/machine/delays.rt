@@ -2,10 +2,9 @@
 ghost use Rattle.std.specs.Prelude.{◌≡◌, ◌<◌};
 ghost use Rattle.modem_driver.specs.WaitingTicks.{delay_after, is_same, ticks_kept, ticks_shown, CountsTick};
 
-use crate::hand::first_asker;
+use crate::hand::{Hand, first_asker};
 use crate::machine::Machine;
 use crate::machine::course::Asker;
-use modem_desk::Request;
 use mux_frame::Dlci;
 
 /// The asker of the command that a tick found first in hand on a connection, and how many ticks in a row did. The count
@@ -48,22 +47,24 @@ fn delay_after(delay: Option<Delay>, first: Option<Asker>) -> Option<Delay>
 }
 
 /// What is kept after a tick that found these in hand.
-fn counted(delays: Delays, hand: &[Request]) -> Delays
+fn counted(delays: Delays, hand: &Hand) -> Delays
     ensures { CountsTick delays result hand.now }
 {
     let mut counted = delays;
     for number in 0..Dlci::COUNT as u8 {
         let place = usize::from(number);
-        counted[place] = delay_after(delays[place], first_asker(hand, Dlci { number }));
+        let dlci = Dlci { number };
+        let first = first_asker(hand.from_first(dlci), dlci);
+        counted[place] = delay_after(delays[place], first);
     }
     counted
 }
 
 /// How many ticks are kept for the first command of these in hand on a connection, if there is one.
-fn ticks_shown(delays: &Delays, hand: &[Request], dlci: Dlci) -> Option<u64>
+fn ticks_shown(delays: &Delays, hand: &Hand, dlci: Dlci) -> Option<u64>
     ensures { result ≡ ticks_shown delays.now hand.now dlci.number }
 {
-    let who = first_asker(hand, dlci)?;
+    let who = first_asker(hand.from_first(dlci), dlci)?;
     let delay = delays[usize::from(dlci.number())];
     Some(ticks_kept(delay, who))
 }
@@ -73,13 +74,13 @@ impl Machine {
     pub(crate) fn delays_after_tick(&self) -> Delays
         ensures { CountsTick self.now.delays result self.now.core.hand }
     {
-        counted(self.delays, self.core.hand.as_slice())
+        counted(self.delays, &self.core.hand)
     }
 
     /// How many ticks the first command in hand on a connection has waited, if there is one.
     pub(crate) fn waiting_ticks(&self, dlci: Dlci) -> Option<u64>
         ensures { result ≡ ticks_shown self.now.delays self.now.core.hand dlci.number }
     {
-        ticks_shown(&self.delays, self.core.hand.as_slice(), dlci)
+        ticks_shown(&self.delays, &self.core.hand, dlci)
     }
 }

@@ -1,5 +1,5 @@
 //! Octets that come in by a call.
-ghost use Rattle.std.specs.Prelude.{◌≡◌, ◌≢◌, ◌<◌, ◌≤◌, [], length, take, None, is_some, OnOk, OnErr};
+ghost use Rattle.std.specs.Prelude.{◌≡◌, ◌≢◌, ◌<◌, ◌≤◌, [], length, take, None, is_some, IfOk, OnOk, OnErr};
 ghost use Rattle.modem_driver.specs.EndpointSteps.{FeedsFrom, HandLacksRoom, HandlesFrames, TakesFrom};
 ghost use Rattle.modem_driver.specs.Endpoints.{MachineSays};
 ghost use Rattle.modem_driver.specs.GettingSteps.{HasData};
@@ -11,8 +11,28 @@ use crate::session::SessionFault;
 
 impl Machine {
     /// Handles the frames at hand, one after the other, until none is, or one lacks room for what it
-    /// calls for. Refusal: 1 NoMemory, for data of an open connection; that frame stays at hand.
+    /// calls for, and says whether one is left at hand. Refusal: 1 NoMemory, for data of an open connection; that frame
+    /// stays at hand.
     #[tactic(auto, using(crate::proofs::endpoints::TakenOctets::handles_none, crate::proofs::endpoints::TakenOctets::handles_one, crate::proofs::endpoints::TakenOctets::hand_lacks))]
+    fn handle_all(&mut self) -> Result<bool, SessionFault>
+        ensures handles { HandlesFrames self.old self.new }
+        ensures lacks { OnOk result (HandLacksRoom self.new) }
+        ensures left { IfOk result (λ left. left ≡ is_some self.new.deframer.next) }
+        ensures at_hand { OnErr result (HasData self.new) }
+        ensures unfed { self.new.unfed ≡ self.old.unfed }
+        ensures lost { self.new.core.lost ≡ self.old.core.lost }
+        ensures no_memory { OnErr result (result ≡ Err fault.NoMemory) }
+    {
+        loop {
+            match self.get_one()? {
+                Some(true) => {}
+                Some(false) => return Ok(true),
+                None => return Ok(false),
+            }
+        }
+    }
+
+    /// The same, without a word on what is left.
     pub(crate) fn handle_frames(&mut self) -> Result<(), SessionFault>
         ensures handles { HandlesFrames self.old self.new }
         ensures lacks { OnOk result (HandLacksRoom self.new) }
@@ -21,16 +41,8 @@ impl Machine {
         ensures lost { self.new.core.lost ≡ self.old.core.lost }
         ensures no_memory { OnErr result (result ≡ Err fault.NoMemory) }
     {
-        while self.get_one()? {}
+        let _left = self.handle_all()?;
         Ok(())
-    }
-
-    /// Whether a frame is at hand.
-    pub(crate) fn has_frame(&mut self) -> bool
-        ensures value { result ≡ is_some self.old.deframer.next }
-        ensures same { self.new ≡ self.old }
-    {
-        self.line_end.peek().is_some()
     }
 
     /// Gives the deframer as many of the first of these octets as it takes, and says how many. The
@@ -58,10 +70,10 @@ impl Machine {
     {
         let mut taken = 0;
         loop {
-            if self.handle_frames().is_err() {
+            let Ok(is_left) = self.handle_all() else {
                 return Input::blocked(taken, Blocked::NoMemory);
-            }
-            if self.has_frame() {
+            };
+            if is_left {
                 return Input::blocked(taken, Blocked::OutputFirst);
             }
             if taken == octets.len() {

@@ -100,7 +100,7 @@ impl<L: SerialLine, R: Wait + Drop> Session<L, R> {
         ensures no_memory { OnErr result (result ≡ Err fault.NoMemory) }
         ensures line { self.new.line ≡ self.old.line }
     {
-        self.machine.get_one()
+        self.machine.handle_one()
     }
 
     /// Reads from the line, and feeds.

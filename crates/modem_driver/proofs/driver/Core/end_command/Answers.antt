@@ -16,7 +16,7 @@ returns-in-Some c =
     let station = c.offer_line.new.station in
     let new : Core = record old { station = station; hand = c.remove_command.new.hand } in
     let next : Some c.in-Some.line.now ≡ option_map line_of (first_on d (without_first (commands_on d) old.hand))
-    = c.in-Some.ensures ∙ ap (λ (q : List Request). option_map line_of (first_on d q)) (c.as_slice.ensures ∙ c.remove_command.ensures) in
+    = c.in-Some.ensures ∙ (ap (option_map line_of) c.from_first.ensures.first ∙ ap (λ (q : List Request). option_map line_of (first_on d q)) c.remove_command.ensures) in
     let ends : EndsCommand old new d = record {
       station = station;
       new_is = ap (λ (q : List Request). let v : Core = record old { station = station; hand = q } in v) c.remove_command.ensures;
@@ -30,7 +30,7 @@ returns-in_default c =
     let d = c.args.dlci.number in
     let new : Core = record old { hand = c.remove_command.new.hand } in
     let next : None ≡ option_map line_of (first_on d (without_first (commands_on d) old.hand))
-    = c.in_default.ensures ∙ ap (λ (q : List Request). option_map line_of (first_on d q)) (c.as_slice.ensures ∙ c.remove_command.ensures) in
+    = c.in_default.ensures ∙ (ap (option_map line_of) c.from_first.ensures.first ∙ ap (λ (q : List Request). option_map line_of (first_on d q)) c.remove_command.ensures) in
     let ends : EndsCommand old new d = record {
       station = old.station;
       new_is = ap (λ (q : List Request). let v : Core = record old { hand = q } in v) c.remove_command.ensures;

@@ -1,16 +1,14 @@
 -- A frame that was read on a fork is handled.
-use Rattle.std.proofs.Common.{◌≡◌, ◌∙◌, ap, refl}
-use Rattle.std.specs.Prelude.{None}
+use Rattle.std.proofs.Common.{◌≡◌, ◌∙◌, ap, sym, subst, refl}
 use Rattle.std.proofs.lemmas.Bool.{and_parts}
 use Rattle.mux_frame.specs.Frames.{frame_of}
-use Rattle.mux_station.specs.Sending as station_sending
-use Rattle.mux_station.specs.Sending.{got_refused}
-use Rattle.mux_station.specs.Stations.{setting_of, seen_in}
 use Rattle.modem_driver.specs.Cores.{Core, lane_at}
 use Rattle.at_text.specs.Forks.{lines_so_far}
 use Rattle.modem_driver.specs.Forks.{joined, joined_acts}
+use Rattle.modem_driver.specs.Handing.{EndedBy}
 use Rattle.modem_driver.proofs.outgoing.CoreAfterFrame.{sound}
-use Rattle.modem_driver.proofs.frames.OtherFrames.{live_in, read_in, taken_room}
+use Rattle.modem_driver.proofs.frames.OtherFrames.{live_in, read_in}
+use Rattle.modem_driver.proofs.frames.DataStays.{data_stays, noted_in, noted_truly, data_room}
 use Rattle.modem_driver.proofs.commands.OfferedOctets.{ended_n1}
 use Rattle.modem_driver.proofs.holds.HoldsAndFrames.{data_holds}
 use Rattle.modem_driver.proofs.frames.DataFrames.{DataCame, data_handles}
@@ -24,10 +22,11 @@ returns-clause-past c = λ said reads.
     let f = frame_of c.args.frame in
     let fork = c.args.fork.now in
     let acts = joined_acts (lines_so_far (lane_at old f.dlci).window) fork.window said in
+    let quiet = (and_parts _ _ (read_in old f c.requires.is_data)).1 in
     let m : IsJoined old mid f.dlci fork = c.self.view_is ∙ c.in_ok-done.ensures.after in
-    data_handles old c.go_on.new.self f c.take-noted.result (joined (lane_at old f.dlci) fork) c.take-noted.new.station acts (sound_before old mid f.dlci fork m (sound mid c.self.inside.n1 c.self.invariant))
-    (data_came old mid c.go_on.new.self f fork said acts c.in_ok-done.done c.take-noted.result c.take-noted.new.station (live_in old f c.requires.is_data) (read_in old f c.requires.is_data) c.args.frame.dlci.in_range
-    reads m refl c.in_ok-done.ensures.done c.take-noted.ensures.past c.take-noted.ensures.noted c.go_on.ensures)
+    data_handles old c.go_on.new.self f (noted_in c.self.inside.station f) (joined (lane_at old f.dlci) fork) c.self.inside.station acts (sound_before old mid f.dlci fork m (sound mid c.self.inside.n1 c.self.invariant))
+    (data_came old mid c.go_on.new.self f fork said acts c.in_ok-done.done (noted_in c.self.inside.station f) c.self.inside.station (live_in old f c.requires.is_data) (read_in old f c.requires.is_data) c.args.frame.dlci.in_range
+    reads m refl c.in_ok-done.ensures.done (data_stays c.self.inside.station f c.self.invariant.role_is quiet) (noted_truly c.self.inside.station f c.args.frame.dlci.in_range) (subst (λ (v : Core). EndedBy c.in_ok-done.done v c.go_on.new.self c.args.frame.dlci.number) (sym c.self.view_is) c.go_on.ensures))
 
 pub returns-clause-room : goal.returns-clause-room
 returns-clause-room c =
@@ -36,14 +35,12 @@ returns-clause-room c =
     let f = frame_of c.args.frame in
     let fork = c.args.fork.now in
     let m : IsJoined old mid f.dlci fork = c.self.view_is ∙ c.in_ok-done.ensures.after in
-    let taken : None ≡ got_refused (setting_of old.station) (seen_in old.station) f
-    = c.take-noted.ensures.taken ∙ ap (λ (v : Core). got_refused (setting_of v.station) (seen_in v.station) f) m in
-    taken_room old f (sound_before old mid f.dlci fork m (sound mid c.self.inside.n1 c.self.invariant)) (live_in old f c.requires.is_data) c.args.frame.dlci.in_range taken
+    data_room old f (sound_before old mid f.dlci fork m (sound mid c.self.inside.n1 c.self.invariant)) (live_in old f c.requires.is_data) c.args.frame.dlci.in_range (and_parts _ _ (read_in old f c.requires.is_data)).1
 
 pub returns-clause-n1 : goal.returns-clause-n1
 returns-clause-n1 c =
     ended_n1 _ _ c.go_on.new.self c.args.frame.dlci.number c.go_on.ensures
-    ∙ (ap (λ (s : station_sending.StationSetting). s.n1) c.take-noted.ensures.past.setting ∙ ap (λ (v : Core). v.station.n1) (c.self.view_is ∙ c.in_ok-done.ensures.after))
+    ∙ ap (λ (v : Core). v.station.n1) c.in_ok-done.ensures.after
 
 pub returns-clause-holds : goal.returns-clause-holds
 returns-clause-holds c = λ said reads.
@@ -56,7 +53,7 @@ returns-clause-holds c = λ said reads.
     let acts = joined_acts (lines_so_far (lane_at old f.dlci).window) fork.window said in
     let quiet = (and_parts _ _ (read_in old f c.requires.is_data)).1 in
     let m : IsJoined old mid f.dlci fork = c.self.view_is ∙ c.in_ok-done.ensures.after in
-    let came : DataCame old new f c.take-noted.result lane c.take-noted.new.station acts
-    = data_came old mid new f fork said acts c.in_ok-done.done c.take-noted.result c.take-noted.new.station (live_in old f c.requires.is_data) (read_in old f c.requires.is_data) c.args.frame.dlci.in_range
-    reads m refl c.in_ok-done.ensures.done c.take-noted.ensures.past c.take-noted.ensures.noted c.go_on.ensures in
-    data_holds old new f lane c.take-noted.new.station _ acts quiet c.requires.held came.ends (returns-clause-past c said reads)
+    let came : DataCame old new f (noted_in c.self.inside.station f) lane c.self.inside.station acts
+    = data_came old mid new f fork said acts c.in_ok-done.done (noted_in c.self.inside.station f) c.self.inside.station (live_in old f c.requires.is_data) (read_in old f c.requires.is_data) c.args.frame.dlci.in_range
+    reads m refl c.in_ok-done.ensures.done (data_stays c.self.inside.station f c.self.invariant.role_is quiet) (noted_truly c.self.inside.station f c.args.frame.dlci.in_range) (subst (λ (v : Core). EndedBy c.in_ok-done.done v c.go_on.new.self c.args.frame.dlci.number) (sym c.self.view_is) c.go_on.ensures) in
+    data_holds old new f lane c.self.inside.station _ acts quiet c.requires.held came.ends (returns-clause-past c said reads)

@@ -31,10 +31,10 @@ returns-clause-read c =
     let reading : Reading = record { alloc = c.self.inside.alloc; dlci = c.args.frame.dlci; owner = c.first_asker.result } in
     let first : Read = record { kept = c.fork.inside.reader; window = c.fork.inside.window; acts = map act_of c.args.acts.now.items } in
     let last : Read = record { kept = c.read_octets.new.reader; window = c.read_octets.new.window; acts = map act_of c.read_octets.new.acts.items } in
-    let given : ReadsAll (dialect_of c.self.inside.dialect) c.as_slice-2.result.now reading f.info first last = c.in_ok-read_octets.ensures in
+    let given : ReadsAll (dialect_of c.self.inside.dialect) c.as_slice.result.now reading f.info first last = c.in_ok-read_octets.ensures in
     let rules : c.self.inside.dialect ≡ old.rules = ap (λ (v : Core). v.rules) c.self.view_is in
-    let reads : ReadsAll (dialect_of old.rules) c.as_slice-2.result.now reading f.info first last
-    = subst (λ (x : Rules). ReadsAll (dialect_of x) c.as_slice-2.result.now reading f.info first last) rules given in
+    let reads : ReadsAll (dialect_of old.rules) c.as_slice.result.now reading f.info first last
+    = subst (λ (x : Rules). ReadsAll (dialect_of x) c.as_slice.result.now reading f.info first last) rules given in
     let lane : record { kept = c.fork.inside.reader; window = c.fork.inside.window; held = c.fork.inside.held } ≡ forked_lane (lane_at old f.dlci)
     = c.fork.view_is ∙ (c.fork_into.ensures ∙ ap (λ (v : Core). forked_lane (lane_at v f.dlci)) c.self.view_is) in
     let kept : c.fork.inside.reader ≡ (lane_at old f.dlci).kept = ap (λ (x : Lane). x.kept) lane in
@@ -45,7 +45,7 @@ returns-clause-read c =
     ∙ (ap (λ (x : Option OpenWindow). let v : Read = record { kept = (lane_at old f.dlci).kept; window = x; acts = map act_of c.args.acts.now.items } in v) window
     ∙ ap (λ (x : List Act). let v : Read = record { kept = (lane_at old f.dlci).kept; window = forked (lane_at old f.dlci).window; acts = x } in v) acts) in
     let owner : c.first_asker.result ≡ option_map asker_of (first_on f.dlci old.hand)
-    = c.first_asker.ensures ∙ ap (λ (q : List Request). option_map asker_of (first_on f.dlci q)) (c.as_slice.ensures ∙ ap (λ (v : Core). v.hand) c.self.view_is) in
-    let kinds : c.as_slice-2.result.now ≡ old.kinds
-    = c.as_slice-2.ensures.value ∙ ap (λ (v : Core). v.kinds) c.self.view_is in
-    reads_apart old f c.as_slice-2.result.now reading first last c.fork.inside.held kinds refl owner first_is reads
+    = c.first_asker.ensures ∙ (ap (option_map asker_of) c.from_first.ensures.first ∙ ap (λ (q : List Request). option_map asker_of (first_on f.dlci q)) (ap (λ (v : Core). v.hand) c.self.view_is)) in
+    let kinds : c.as_slice.result.now ≡ old.kinds
+    = c.as_slice.ensures.value ∙ ap (λ (v : Core). v.kinds) c.self.view_is in
+    reads_apart old f c.as_slice.result.now reading first last c.fork.inside.held kinds refl owner first_is reads

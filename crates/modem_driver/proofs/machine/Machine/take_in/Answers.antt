@@ -10,18 +10,18 @@ use Rattle.modem_driver.proofs.machine.Machine.take_in.Goals as goal
 rest_is : (octets : List ℕ) (taken : ℕ) → take (length octets - taken) (drop taken octets) ≡ drop taken octets
 rest_is octets taken = let long = length-drop taken octets in take_all (length octets - taken) (drop taken octets) (omega (arith, long))
 
-pub loop-taken-preserved : goal.loop-taken-preserved
-loop-taken-preserved c =
+pub loop-is_left-preserved : goal.loop-is_left-preserved
+loop-is_left-preserved c =
     let octets = c.args.octets.now in
-    let taken = c.loop-taken.taken in
+    let taken = c.loop-is_left.taken in
     let count = c.feed_from-taken.result in
-    let here = c.has_frame.new.self in
+    let here = c.handle_all.new.self in
     let fed = c.feed_from-taken.new.self in
-    let takes = subst (λ (k : Machine). TakesFrom c.args.self.now k (take taken octets)) (sym c.has_frame.ensures.same) (takes_handled c.args.self.now c.loop-taken.self c.handle_frames.new.self (take taken octets) c.loop-taken.invariant.takes c.handle_frames.ensures.handles) in
+    let takes = takes_handled c.args.self.now c.loop-is_left.self here (take taken octets) c.loop-is_left.invariant.takes c.handle_all.ensures.handles in
     let feeds = subst (λ (xs : List ℕ). FeedsFrom here fed (take count xs)) (rest_is octets taken) c.feed_from-taken.ensures.feeds in
     let few = subst (λ (xs : List ℕ). count ≤ length xs) (rest_is octets taken) c.feed_from-taken.ensures.few in
     let rest = length-drop taken octets in
-    let before = c.loop-taken.invariant.few in
+    let before = c.loop-is_left.invariant.few in
     record {
       takes = takes_more c.args.self.now here fed octets taken count takes feeds;
       few = omega (arith, few, rest, before);

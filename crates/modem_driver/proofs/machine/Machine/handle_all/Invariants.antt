@@ -1,7 +1,7 @@
 -- The frames so far were handled.
 use Rattle.std.proofs.Common.{◌≡◌, length}
 use Rattle.modem_driver.specs.EndpointSteps.{HandlesFrames}
-use Rattle.modem_driver.proofs.machine.Machine.handle_frames.Given as goal
+use Rattle.modem_driver.proofs.machine.Machine.handle_all.Given as goal
 
 abbrev pub invariant-loop : goal.invariant-loop
 invariant-loop l = record {
