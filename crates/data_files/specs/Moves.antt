@@ -39,6 +39,10 @@ abbrev pub GivesOn : PipeSet → ℕ → (before after : List ℕ) → Type 0
 GivesOn pipes d before after = IsNotData pipes d ⊎ OfEachPast pipes (λ past. takes_given (carries d past) ≡ true → is_open Initiator d (wire past) ≡ true
     → after ≡ drop (min (length before) (most_to_go - to_go d past)) before)
 
+-- d, if it carries data, took so many octets that haven't left
+abbrev pub IsUnsent : PipeSet → ℕ → (count : ℕ) → Type 0
+IsUnsent pipes d count = IsNotData pipes d ⊎ OfEachPast pipes (λ past. count ≡ to_go d past)
+
 -- so many are all octets of data that wait to be read, up to 512
 unfoldable pub IsUnread : PipeSet → ℕ → (count : ℕ) → Type 0
 IsUnread pipes d count = OfEachPast pipes (λ past. count ≡ min (unread d past) 512)

@@ -4,12 +4,13 @@ ghost use Rattle.serial_line.specs.Counts.{one_more, counted_if_none};
 ghost use Rattle.modem_data.specs.Hops.{BeginsRelay};
 ghost use Rattle.modem_data_line.specs.DataLines.{new_data_line};
 ghost use Rattle.data_files.specs.Files.{BeginsFiled, HasMoved, IsFresh, dlcis};
-ghost use Rattle.data_files.specs.Moves.{HadTurns, HasBegunTo, MovesAt};
+ghost use Rattle.data_files.specs.Moves.{HadTurns, HasBegunTo, IsUnsent, MovesAt};
 
 use crate::before::Before;
 use crate::data_file::DataFile;
 use modem_data::{DataError, Relay};
 use modem_data_line::DataLine;
+use mux_frame::Dlci;
 use serial_line::{LineFault, SerialLine};
 use std::alloc::Global;
 use std::marker::Model;
@@ -119,6 +120,16 @@ impl<L: SerialLine, P: SerialLine> FiledLine<L, P> {
         ensures { result.now ≡ self.now.files }
     {
         self.files.as_slice()
+    }
+
+    /// How many octets a connection took of its file that haven't left. Once its lane is over they are never sent.
+    pub fn unsent(&self, dlci: Dlci) -> usize
+        ensures { IsUnsent self.now.line.relay.pipes dlci.number result }
+    {
+        match self.line.to_go(dlci) {
+            Ok(count) => count,
+            Err(_) => 0,
+        }
     }
 
     /// The line with its relay, and the files. What was given and read is what the files' own octets say.

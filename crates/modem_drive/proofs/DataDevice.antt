@@ -19,7 +19,7 @@ use Rattle.modem_drive.specs.Asking.{NamesRead}
 use Rattle.modem_drive.specs.CapturedLine.{CapturedState, CapturesUnlessFailed, captured_line}
 use Rattle.modem_drive.specs.DataDrive.{DroveData}
 use Rattle.modem_drive.specs.DataDevice.{DroveFiles, DroveFilesCaptured, DroveFilesDevice, DroveFilesLine, EndsFilesByFault, EndsWith, IsFileOf, RanFiles, SaysFull, full_text, full_texts, opened_file, opened_files}
-use Rattle.modem_drive.specs.FileEnds.{FileEnd, IsWritten, NamesEnds, ends_of, ends_texts}
+use Rattle.modem_drive.specs.FileEnds.{FileEnd, IsWritten, NamesEnds, SaysEnds, ends_texts}
 use Rattle.modem_drive.specs.OnDevice.{SaysEnd, SaysFaultIf, capture_path, device_look, driven_status, end_status}
 use Rattle.modem_drive.specs.Saying.{AreSaid, SaysFault, left_texts, path_for}
 use Rattle.modem_drive.specs.declared.fault.DriveFault.{DriveFault}
@@ -96,7 +96,7 @@ names_ends input silent named said ends h k = record { named = named; names = h;
 pub drives_files : {X Y : Type 0} (look : X → LineView) (r s : X → List ℕ) (g t : Y → List ℕ) (e k : Y → ℕ) (rules : Rules) (text : List ℕ) (n1 : ℕ) (line last : X) (files : List (FileState Y))
     (driven in_the_end : FiledState X Y) (input before after silent named said : Option (List ℕ)) (end : Option DriveFault) (was_bad : Bool) (left : Settled)
     → DroveData look r s g t rules text n1 line files driven input before after silent named end was_bad left → end ≡ None → HadTurns r s g t e k driven in_the_end.files
-    → HasMoved r s g t in_the_end → All IsWritten in_the_end.files → in_the_end.line.line ≡ last → AreSaid named said (ends_texts (ends_of in_the_end.files))
+    → HasMoved r s g t in_the_end → All IsWritten in_the_end.files → in_the_end.line.line ≡ last → SaysEnds in_the_end.line.relay.pipes in_the_end.files named said
     → DroveFiles look r s g t e k rules text n1 line last files input before after silent said was_bad left
 drives_files look r s g t e k rules text n1 line last files driven in_the_end input before after silent named said end was_bad left drove none turns moved written last_is ends = record {
   driven = driven;

@@ -6,15 +6,13 @@ use Rattle.at_text.specs.Rules.{Rules}
 use Rattle.modem_desk.specs.declared.settling.Settled.{Settled}
 use Rattle.modem_history.specs.Sessions.{LineView}
 use Rattle.mux_capture.specs.Passing.{CaptureState}
-use Rattle.modem_data.specs.declared.begin.Begin.{Begin}
-use Rattle.modem_data.specs.declared.begin.Begin.TheVariants.{AtOnce, ByConnect}
 use Rattle.modem_data.specs.declared.begin.Until.TheVariants.{Close}
 use Rattle.data_files.specs.Files.{FileState, FiledState, HasMoved, new_file}
 use Rattle.data_files.specs.Moves.{HadTurns}
 use Rattle.modem_drive.specs.Asking.{NamesRead}
 use Rattle.modem_drive.specs.CapturedLine.{CapturedState, CapturesAll, captured_line}
 use Rattle.modem_drive.specs.DataDrive.{DroveData}
-use Rattle.modem_drive.specs.FileEnds.{FileEnd, IsWritten, data_text, ends_of, ends_texts}
+use Rattle.modem_drive.specs.FileEnds.{FileEnd, IsWritten, SaysEnds, data_text, ends_texts}
 use Rattle.modem_drive.specs.OnDevice.{device_look}
 use Rattle.modem_drive.specs.Saying.{AreSaid, SaysFault, left_texts, path_for}
 use Rattle.modem_drive.specs.declared.settings.DataPath.{DataPath}
@@ -34,7 +32,7 @@ pub record DroveFiles {X Y : Type 0} (look : X → LineView) (received sent : X 
   pub moved : HasMoved received sent gave took in_the_end
   pub written : All IsWritten in_the_end.files
   pub last_is : in_the_end.line.line ≡ last
-  pub ends_said : AreSaid named said (ends_texts (ends_of in_the_end.files))
+  pub ends_said : SaysEnds in_the_end.line.relay.pipes in_the_end.files named said
 
 -- on some line in the end
 pub record DroveFilesWell {X Y : Type 0} (look : X → LineView) (received sent : X → List ℕ) (gave took : Y → List ℕ)
@@ -65,14 +63,9 @@ DroveFilesLine true look received sent gave took empty_reads stalled_writes rule
 
 -- ## On a device
 
--- how a lane begins: behind a CONNECT line or at once
-abbrev pub begin_of : (by_connect : Bool) → Begin
-begin_of true = ByConnect
-begin_of false = AtOnce
-
 -- a file beside a connection, between two rings, at which nothing has passed
 abbrev pub opened_file : DataPath → FileState StreamState
-opened_file p = new_file p.dlci.number (begin_of p.by_connect) Close (new_stream None None Ended)
+opened_file p = new_file p.dlci.number p.begin Close (new_stream None None Ended)
 
 abbrev pub opened_files : List DataPath → List (FileState StreamState)
 opened_files data_paths = map (λ p. opened_file p) data_paths

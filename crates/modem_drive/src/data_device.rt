@@ -90,7 +90,7 @@ where
     )?;
     let mut last = last;
     let is_written = write_out(rt, &mut last);
-    say_files(faults, last.files());
+    say_files(faults, &last);
     let Driven {
         fault,
         was_bad,

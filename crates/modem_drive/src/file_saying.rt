@@ -1,10 +1,10 @@
 //! What is said of files beside connections that carry data, as far as the writer takes it.
 ghost use Rattle.std.specs.Prelude.{◌≡◌, ◌++◌};
 ghost use Rattle.modem_texts.specs.Writing.{IsBegun};
-ghost use Rattle.modem_drive.specs.FileEnds.{count_texts, data_text, end_of, end_texts, ends_of, ends_texts, octets_text, texts_if};
+ghost use Rattle.modem_drive.specs.FileEnds.{SaysEnd, SaysEnds, count_texts, data_text, octets_text, texts_if};
 ghost use Rattle.modem_drive.specs.Saying.{AreSaid};
 
-use data_files::DataFile;
+use data_files::{DataFile, FiledLine};
 use itoa::Buffer;
 use modem_texts::say_line;
 use mux_frame::Dlci;
@@ -48,9 +48,13 @@ fn say_count<E: Write>(faults: &mut E, dlci: Dlci, words: &str, count: usize)
     say_octets(faults, count);
 }
 
-/// Says what came of a file.
-fn say_file<P: SerialLine, E: Write>(faults: &mut E, file: &DataFile<P>)
-    ensures { AreSaid (E.contents faults.old) (E.contents faults.new) (end_texts (end_of file.now)) }
+/// Says what came of a file beside a connection of this line.
+fn say_file<L: SerialLine, P: SerialLine, E: Write>(
+    faults: &mut E,
+    line: &FiledLine<L, P>,
+    file: &DataFile<P>,
+)
+    ensures { SaysEnd line.now.line.relay.pipes file.now (E.contents faults.old) (E.contents faults.new) }
 {
     let dlci = file.dlci();
     say_if(faults, dlci, file.has_ended(), ": its file gives no more");
@@ -59,7 +63,7 @@ fn say_file<P: SerialLine, E: Write>(faults: &mut E, file: &DataFile<P>)
         faults,
         dlci,
         ": not all that its file gave was sent",
-        file.ungiven(),
+        file.ungiven().saturating_add(line.unsent(dlci)),
     );
     say_count(
         faults,
@@ -69,13 +73,14 @@ fn say_file<P: SerialLine, E: Write>(faults: &mut E, file: &DataFile<P>)
     );
 }
 
-/// Says what came of each of these files.
-pub fn say_files<P: SerialLine, E: Write>(faults: &mut E, files: &[DataFile<P>])
-    ensures { AreSaid (E.contents faults.old) (E.contents faults.new) (ends_texts (ends_of files.now)) }
+/// Says what came of each file of this line.
+pub fn say_files<L: SerialLine, P: SerialLine, E: Write>(faults: &mut E, line: &FiledLine<L, P>)
+    ensures { SaysEnds line.now.line.relay.pipes line.now.files (E.contents faults.old) (E.contents faults.new) }
 {
+    let files = line.files();
     let mut place = 0;
     while place < files.len() {
-        say_file(faults, &files[place]);
+        say_file(faults, line, &files[place]);
         place += 1;
     }
 }

@@ -1,6 +1,8 @@
 //! The threads of files beside connections that carry data.
-ghost use Rattle.std.specs.Prelude.{◌≡◌, ◌++◌, [], ◌∷◌, IfErr, IfOk, OnOk};
-ghost use Rattle.modem_drive.specs.DataDevice.{IsFileOf, SaysFull, begin_of, opened_file, opened_files};
+ghost use Rattle.std.specs.Prelude.{◌≡◌, ◌++◌, [], ◌∷◌, IfErr, IfOk, None, OnOk};
+ghost use Rattle.serial_line.specs.StreamLine.{new_stream};
+ghost use Rattle.serial_line.specs.declared.stream_line.ZeroRead.TheVariants.{Ended};
+ghost use Rattle.modem_drive.specs.DataDevice.{IsFileOf, SaysFull, opened_file, opened_files};
 
 use crate::device::{DeviceThreads, line_beside};
 use crate::fault::DriveFault;
@@ -19,9 +21,9 @@ use std::fs::File;
 use std::io::Write;
 use std::rt::{Clock, Files};
 use std::sync::Wait;
-use std::thread;
 use std::thread::Threads;
 use std::time::Duration;
+use std::{io, thread};
 
 /// What is said of a thread that has more to write: its ring has room for 65,536 octets, and it takes 512 of them at once.
 const FULL: &str = ": its file hasn't taken the last of what came, 66048 octets at most";
@@ -33,15 +35,32 @@ pub struct Refused<'a> {
     pub why: DriveFault,
 }
 
-/// How a lane begins: behind a CONNECT line or at once.
-fn begin_of(by_connect: bool) -> Begin
-    ensures { result ≡ begin_of by_connect }
+/// The terminal of this path between rings, which two threads read and write.
+fn open_terminal<R>(
+    rt: &R,
+    bell: &Bell,
+    path: &str,
+) -> Result<(DeviceLine, DeviceThreads), DriveFault>
+where
+    R: Files<File = File> + Threads + Wait + Clock + AllocGlobal + Copy + Send + Drop + 'static,
+    ensures { IfOk result (λ r. r.0 ≡ new_stream None None Ended) }
 {
-    if by_connect {
-        Begin::ByConnect
-    } else {
-        Begin::AtOnce
-    }
+    let (reader, writer) = open_device(rt, path)?;
+    line_beside(rt, reader, writer, ZeroRead::Quiet, bell)
+}
+
+/// The file of this path behind a ring, which a thread reads to its end. What comes for it would go nowhere, but of a lane by prompt none
+/// is data.
+fn open_text<R>(rt: &R, bell: &Bell, path: &str) -> Result<(DeviceLine, DeviceThreads), DriveFault>
+where
+    R: Files<File = File> + Threads + Wait + Clock + AllocGlobal + Copy + Send + Drop + 'static,
+    ensures { IfOk result (λ r. r.0 ≡ new_stream None None Ended) }
+{
+    let reader = match File::open(rt, path) {
+        Ok(reader) => reader,
+        Err(error) => return Err(DriveFault::NoDevice(error.kind())),
+    };
+    line_beside(rt, reader, io::sink(), ZeroRead::Ended, bell)
 }
 
 /// Opens the file of this path, and has two threads read and write it.
@@ -54,15 +73,11 @@ where
     R: Files<File = File> + Threads + Wait + Clock + AllocGlobal + Copy + Send + Drop + 'static,
     ensures { IfOk result (λ r. r.0 ≡ opened_file one.entry) }
 {
-    let (reader, writer) = open_device(rt, one.path)?;
-    let (line, threads) = line_beside(rt, reader, writer, ZeroRead::Quiet, bell)?;
-    let made = DataFile::new(
-        rt.alloc(),
-        one.dlci,
-        begin_of(one.by_connect),
-        Until::Close,
-        line,
-    );
+    let (line, threads) = match one.begin {
+        Begin::ByPrompt => open_text(rt, bell, one.path)?,
+        Begin::AtOnce | Begin::ByConnect => open_terminal(rt, bell, one.path)?,
+    };
+    let made = DataFile::new(rt.alloc(), one.dlci, one.begin, Until::Close, line);
     let (file, threads) = beside(made, threads)?;
     Ok((file, threads))
 }

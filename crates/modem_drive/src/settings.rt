@@ -5,6 +5,7 @@ ghost use Rattle.std.specs.String.{string_bytes};
 ghost use Rattle.modem_drive.specs.Entry.{entry_for, entry_text, given_text};
 
 use at_text::Dialect;
+use modem_data::Begin;
 use mux_frame::Dlci;
 use std::alloc::{AllocError, Global};
 use std::fmt::Write;
@@ -39,9 +40,10 @@ pub struct Settings<'a> {
 #[derive(Clone, Copy)]
 pub struct DataPath<'a> {
     pub dlci: Dlci,
-    /// Whether its data begins behind a CONNECT line, not at once.
-    pub by_connect: bool,
-    /// The path of a terminal, set up as a modem's is. It is opened for reading and for writing.
+    /// How its data begins.
+    pub begin: Begin,
+    /// The path of a terminal, set up as a modem's is, which is read and written. Where data begins by a prompt it is the path of
+    /// any file with the text and its end, 1A, which is read to its end.
     pub path: &'a str,
 }
 

@@ -5,6 +5,8 @@ use Rattle.clap.specs.Words.{Row, Text, first_value, found_of, matched_of, raw_v
 use Rattle.clap.specs.declared.ArgMatches.{ArgMatches}
 use Rattle.at_text.specs.Rules.{FinalRule, Rules, with_rule}
 use Rattle.at_text.specs.declared.rules.Form.TheVariants.{Prefix}
+use Rattle.modem_data.specs.declared.begin.Begin.{Begin}
+use Rattle.modem_data.specs.declared.begin.Begin.TheVariants.{AtOnce, ByConnect, ByPrompt}
 use Rattle.modem_drive.specs.DataDevice.{RanFiles, opened_files}
 use Rattle.modem_drive.specs.Entry.{entry_for}
 use Rattle.modem_drive.specs.OnDevice.{RanDevice}
@@ -17,11 +19,23 @@ use Rattle.modemctl.specs.Words.{IsGiven, is_set, raw_in}
 abbrev pub data_path_text : DataPath → Text
 data_path_text p = decimal p.dlci.number ++ 61 ∷ p.path.now
 
--- connections with files, by their texts; the data of each begins behind a CONNECT line, or at once; none where there are no texts
-abbrev pub AreDataPaths : Option (List Text) → (by_connect : Bool) → List DataPath → Type 0
-AreDataPaths None by_connect data_paths = data_paths ≡ []
-AreDataPaths (Some texts) by_connect data_paths =
-    (texts ≡ map (λ p. data_path_text p) data_paths) × All (λ p. p.by_connect ≡ by_connect) data_paths
+-- connections with files, by their texts, and how the data of each begins; none where there are no texts
+abbrev pub AreDataPaths : Option (List Text) → Begin → List DataPath → Type 0
+AreDataPaths None begin data_paths = data_paths ≡ []
+AreDataPaths (Some texts) begin data_paths = (texts ≡ map (λ p. data_path_text p) data_paths) × All (λ p. p.begin ≡ begin) data_paths
+
+-- how the data of `--data` begins: behind a CONNECT line, or at once
+abbrev pub begin_by : (by_connect : Bool) → Begin
+begin_by true = ByConnect
+begin_by false = AtOnce
+
+-- the connections with files of `--data`, and behind them those of `--text`, which is sent behind a prompt
+pub record AreFiles (paths texts : Option (List Text)) (by_connect : Bool) (data_paths : List DataPath) : Type 0 where
+  pub of_data : List DataPath
+  pub of_text : List DataPath
+  pub joined : data_paths ≡ of_data ++ of_text
+  pub data_are : AreDataPaths paths (begin_by by_connect) of_data
+  pub texts_are : AreDataPaths texts ByPrompt of_text
 
 -- the codes of a drive: where data begins behind a CONNECT line, a line that begins so ends a command too
 abbrev pub drive_rules : (by_connect : Bool) → Rules → Rules
@@ -41,11 +55,11 @@ RanBy [] captures rules text n1 before after silent said was_bad = RanDevice cap
 RanBy (p ∷ more) captures rules text n1 before after silent said was_bad =
     RanFiles captures rules text n1 (opened_files (p ∷ more)) before after silent said was_bad
 
--- the same with the files that these texts give
-pub record RanGiven (texts : Option (List Text)) (by_connect : Bool) (captures : Bool) (rules : Rules) (text : List ℕ) (n1 : ℕ)
+-- the same with the files that these texts give, of `--data` and of `--text`
+pub record RanGiven (paths texts : Option (List Text)) (by_connect : Bool) (captures : Bool) (rules : Rules) (text : List ℕ) (n1 : ℕ)
     (before after silent said : Option (List ℕ)) (was_bad : Bool) : Type 0 where
   pub data_paths : List DataPath
-  pub given : AreDataPaths texts by_connect data_paths
+  pub given : AreFiles paths texts by_connect data_paths
   pub ran : RanBy data_paths captures rules text n1 before after silent said was_bad
 
 -- a device was driven without a fault, with the N1 of the words, the codes of their dialect, and the files that they name beside
@@ -58,15 +72,16 @@ pub record PrintsDrive (texts : Text → Option (List ℕ)) (met : Option (Text 
   pub rules : Rules
   pub named : IsDriveDialect texts (raw_in met (codes "dialect")) (is_set (raw_in met (codes "arm"))) rules
   pub drove :
-      RanGiven (all_in met (codes "data")) (is_set (raw_in met (codes "arm"))) (is_some (raw_in met (codes "capture"))) rules
+      RanGiven (all_in met (codes "data")) (all_in met (codes "text")) (is_set (raw_in met (codes "arm")))
+      (is_some (raw_in met (codes "capture"))) rules
       (entry_for (raw_in met (codes "entry")) n1) n1 before after silent said was_bad
 
 -- a device was driven so, with the files that the matches of the subcommand have
 abbrev pub RanWith : (m : ArgMatches) (captures : Bool) (rules : Rules) (text : List ℕ) (n1 : ℕ)
     (before after silent said : Option (List ℕ)) (was_bad : Bool) → Type 0
 RanWith m captures rules text n1 before after silent said was_bad =
-    RanGiven (option_map raw_values (matched_of (found_of m) (codes "data"))) (is_set (first_value (found_of m) (codes "arm"))) captures
-    rules text n1 before after silent said was_bad
+    RanGiven (option_map raw_values (matched_of (found_of m) (codes "data"))) (option_map raw_values (matched_of (found_of m) (codes "text")))
+    (is_set (first_value (found_of m) (codes "arm"))) captures rules text n1 before after silent said was_bad
 
 -- and with the other options that they have
 pub record DrivesWith (texts : Text → Option (List ℕ)) (n1 : ℕ) (m : ArgMatches) (before after silent said : Option (List ℕ))

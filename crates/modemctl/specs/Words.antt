@@ -141,6 +141,10 @@ data_path_rule = record (new_rule (codes "data")) { long = Some (codes "data"); 
 abbrev pub arm_rule : Rule
 arm_rule = record (new_rule (codes "arm")) { long = Some (codes "arm"); action = Some SetTrue }
 
+-- the option `--text` of a drive: a text, as often as is wanted
+abbrev pub text_path_rule : Rule
+text_path_rule = record (new_rule (codes "text")) { long = Some (codes "text"); action = Some Append; value_names = 1 }
+
 -- the device, a word that has to be there
 abbrev pub device_rule : Rule
 device_rule = record (new_rule (codes "device")) { action = Some Set; value_names = 1; required = true }
@@ -151,9 +155,11 @@ drive_app =
     with_rule
     (with_rule
     (with_rule
+    (with_rule
     (with_rule (with_rule (with_rule (with_rule (with_rule (subcommand_app (codes "drive")) tick_rule) quiet_rule) entry_rule) dialect_rule) capture_rule)
     data_path_rule)
     arm_rule)
+    text_path_rule)
     device_rule
 
 -- the same with a drive

@@ -1,15 +1,16 @@
 //! The files that the words name beside connections that carry data.
-ghost use Rattle.std.specs.Prelude.{◌≡◌, ◌<◌, ◌≤◌, All, IfErr, IfOk, IfSome, OnOk, codes, false, map, option_map, true};
+ghost use Rattle.std.specs.Prelude.{◌≡◌, ◌<◌, ◌≤◌, ◌++◌, All, IfErr, IfOk, IfSome, OnOk, codes, false, map, option_map, true};
 ghost use Rattle.clap.specs.Words.{first_value, found_of, matched_of, raw_values, rule_of};
 ghost use Rattle.modem_runs.specs.Statuses.{stop_line};
 ghost use Rattle.modem_runs.specs.declared.stop.Stop.TheVariants as StopOf;
 ghost use Rattle.modem_texts.specs.Writing.{IsBegun};
-ghost use Rattle.modemctl.specs.Drives.{AreDataPaths, data_path_text, drive_rules};
-ghost use Rattle.modemctl.specs.Words.{arm_rule, data_path_rule, is_set};
+ghost use Rattle.modemctl.specs.Drives.{AreDataPaths, AreFiles, begin_by, data_path_text, drive_rules};
+ghost use Rattle.modemctl.specs.Words.{arm_rule, data_path_rule, is_set, text_path_rule};
 
 use crate::words::showing::{NoChannels, channel_of};
 use at_text::{Dialect, DialectError, Form};
 use clap::{Arg, ArgAction, ArgMatches};
+use modem_data::Begin;
 use modem_drive::DataPath;
 use modem_runs::{Stop, give_up};
 use modem_texts::say_line;
@@ -33,6 +34,20 @@ pub fn data_path_option<'a>(alloc: Global) -> Arg<'a>
         .action(ArgAction::Append)
 }
 
+/// The option `--text`.
+pub fn text_path_option<'a>(alloc: Global) -> Arg<'a>
+    ensures rule { rule_of result ≡ text_path_rule }
+    ensures own { result.global ≡ false }
+{
+    Arg::new(alloc, "text")
+        .long("text")
+        .value_name("D=PATH")
+        .help(
+            "PATH has the text for the next prompt on connection D, as AT+CMGS gives one, and its end, 1A; as --data it may be given again",
+        )
+        .action(ArgAction::Append)
+}
+
 /// The option `--arm`.
 pub fn arm_option<'a>(alloc: Global) -> Arg<'a>
     ensures rule { rule_of result ≡ arm_rule }
@@ -51,20 +66,27 @@ pub fn arm_of(matches: &ArgMatches<'_>) -> bool
     matches!(matches.get_str("arm"), Some("true"))
 }
 
+/// How the data of `--data` begins.
+fn begin_of(matches: &ArgMatches<'_>) -> Begin
+    ensures { result ≡ begin_by (is_set (first_value (found_of matches.now) (codes "arm"))) }
+{
+    if arm_of(matches) {
+        Begin::ByConnect
+    } else {
+        Begin::AtOnce
+    }
+}
+
 /// The connection and the path of this text, `D=PATH`. None where D is no number from 1 to 61 in decimal, or the path is empty.
-fn data_path_of(text: &str, by_connect: bool) -> Option<DataPath<'_>>
-    ensures { IfSome result (λ p. (text.now ≡ data_path_text p) × (p.by_connect ≡ by_connect)) }
+fn data_path_of(text: &str, begin: Begin) -> Option<DataPath<'_>>
+    ensures { IfSome result (λ p. (text.now ≡ data_path_text p) × (p.begin ≡ begin)) }
 {
     let (number, path) = text.split_once('=')?;
     let dlci = channel_of(number)?;
     if dlci.number() == 0 || path.is_empty() {
         return None;
     }
-    Some(DataPath {
-        dlci,
-        by_connect,
-        path,
-    })
+    Some(DataPath { dlci, begin, path })
 }
 
 /// Whether one of these is beside the connection of another.
@@ -76,14 +98,14 @@ fn is_taken(found: &[DataPath<'_>], other: DataPath<'_>) -> bool {
 fn data_paths_by<'a>(
     alloc: Global,
     texts: &[&'a str],
-    by_connect: bool,
+    begin: Begin,
 ) -> Result<Vec<DataPath<'a>>, NoChannels>
     ensures { IfOk result (λ found. (map (λ t. t.now) texts.now ≡ map (λ p. data_path_text p) found.items)
-        × All (λ p. p.by_connect ≡ by_connect) found.items) }
+        × All (λ p. p.begin ≡ begin) found.items) }
 {
     let mut found = Vec::new(alloc);
     for text in texts {
-        let Some(one) = data_path_of(text, by_connect) else {
+        let Some(one) = data_path_of(text, begin) else {
             return Err(NoChannels::NotDecimal);
         };
         if found.len() == MOST || is_taken(found.as_slice(), one) {
@@ -94,19 +116,50 @@ fn data_paths_by<'a>(
     Ok(found)
 }
 
-/// The connections and paths that the words give.
+/// The connections and paths that an option gives.
+fn paths_of<'a>(
+    alloc: Global,
+    matches: &ArgMatches<'a>,
+    option: &str,
+    begin: Begin,
+) -> Result<Vec<DataPath<'a>>, NoChannels>
+    ensures { IfOk result (λ found. AreDataPaths (option_map raw_values (matched_of (found_of matches.now) option.now)) begin found.items) }
+{
+    match matches.get_strs(option) {
+        Some(texts) => data_paths_by(alloc, texts, begin),
+        None => Ok(Vec::new(alloc)),
+    }
+}
+
+/// These connections and paths, and others behind them: at most 8, each connection once.
+fn join<'a>(
+    first: Vec<DataPath<'a>>,
+    others: &[DataPath<'a>],
+) -> Result<Vec<DataPath<'a>>, NoChannels>
+    ensures { IfOk result (λ all. all.items ≡ first.entry.items ++ others.now) }
+{
+    let mut all = first;
+    for one in others {
+        if all.len() == MOST || is_taken(all.as_slice(), *one) {
+            return Err(NoChannels::NotDecimal);
+        }
+        all.push(*one)?;
+    }
+    Ok(all)
+}
+
+/// The connections and paths that the words give: those of `--data`, and behind them those of `--text`.
 pub fn data_paths_of<'a>(
     alloc: Global,
     matches: &ArgMatches<'a>,
 ) -> Result<Vec<DataPath<'a>>, NoChannels>
-    ensures { IfOk result
-        (λ found. AreDataPaths (option_map raw_values (matched_of (found_of matches.now) (codes "data")))
+    ensures { IfOk result (λ found. AreFiles (option_map raw_values (matched_of (found_of matches.now) (codes "data")))
+        (option_map raw_values (matched_of (found_of matches.now) (codes "text")))
         (is_set (first_value (found_of matches.now) (codes "arm"))) found.items) }
 {
-    match matches.get_strs("data") {
-        Some(texts) => data_paths_by(alloc, texts, arm_of(matches)),
-        None => Ok(Vec::new(alloc)),
-    }
+    let of_data = paths_of(alloc, matches, "data", begin_of(matches))?;
+    let of_text = paths_of(alloc, matches, "text", Begin::ByPrompt)?;
+    join(of_data, of_text.as_slice())
 }
 
 /// Says why the words give no connections and paths, and gives the status.
@@ -120,7 +173,7 @@ pub fn refuse_data<E: Write>(faults: &mut E, fault: NoChannels) -> u8
         NoChannels::NotDecimal => {
             say_line(
                 faults,
-                "error: --data takes ",
+                "error: --data and --text take ",
                 "D=PATH",
                 ", with a connection from 1 to 61, each once, and 8 of them at most",
             );

@@ -8,7 +8,8 @@ ghost use Rattle.modemctl.specs.Files.{IsNoText, NamesCause};
 ghost use Rattle.modemctl.specs.Words.{device_rule, drive_app, entry_rule, is_set, quiet_rule, tick_rule};
 
 use crate::words::data_paths::{
-    arm_of, arm_option, data_path_option, data_paths_of, refuse_data, with_connect,
+    arm_of, arm_option, data_path_option, data_paths_of, refuse_data, text_path_option,
+    with_connect,
 };
 use crate::words::dialects::{dialect_option, given_dialect};
 use crate::words::files::capture_option;
@@ -99,6 +100,7 @@ pub fn drive_command<'a>(alloc: Global) -> Result<Command<'a>, AllocError>
         .arg(capture_option(alloc))?
         .arg(data_path_option(alloc))?
         .arg(arm_option(alloc))?
+        .arg(text_path_option(alloc))?
         .arg(device_word(alloc))
 }
 

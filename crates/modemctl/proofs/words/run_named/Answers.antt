@@ -176,8 +176,8 @@ prints_drive texts top m n1 before after silent said was_bad e is drives = recor
       (λ i. (word_given top m (codes "dialect") e i, word_given top m (codes "arm") e i)) drives.named;
   drove =
       subst
-      (λ (t : Option Text × Option Text × Option (List Text) × Option Text). RanGiven t.2 (is_set t.3) (is_some t.0) drives.rules (entry_for t.1 n1) n1 before after silent said was_bad)
-      (λ i. (word_given top m (codes "capture") e i, word_given top m (codes "entry") e i, words_given top m (codes "data") e i, word_given top m (codes "arm") e i))
+      (λ (t : Option Text × Option Text × Option (List Text) × Option Text × Option (List Text)). RanGiven t.2 t.4 (is_set t.3) (is_some t.0) drives.rules (entry_for t.1 n1) n1 before after silent said was_bad)
+      (λ i. (word_given top m (codes "capture") e i, word_given top m (codes "entry") e i, words_given top m (codes "data") e i, word_given top m (codes "arm") e i, words_given top m (codes "text") e i))
       drives.drove;
 }
 
