@@ -283,7 +283,7 @@ impl Core {
         }
     }
 
-    /// A frame that was read on a fork: its connection goes on as that, the station takes the frame, and where the
+    /// A frame that was read on a fork: its connection goes on as that, the station stays as it is, and where the
     /// command under way has its answer, the next one goes out. Want of memory changes nothing.
     fn join_data(
         &mut self,
