@@ -61,7 +61,7 @@ def most_heard(script):
 
 
 def by_session(script, cut):
-    """The script for modem_play's session."""
+    """The script for test_player's session."""
     lines = [*(f"listen {kind}" for kind in KINDS), f"reads {cut}", f"writes {cut}", "room 16384", "session"]
     for event in events(script):
         lines += [event, *SETTLE]
@@ -81,7 +81,7 @@ def session_fault(script, output, replayed):
 
 
 def by_endpoint(script, piece):
-    """The script for modem_play's endpoint."""
+    """The script for test_player's endpoint."""
     lines = [*(f"listen {kind}" for kind in KINDS), "endpoint"]
     for event in events(script):
         lines += [event, f"out {piece}", "outcomes"]
@@ -96,7 +96,7 @@ def endpoint_fault(script, output, replayed):
 
 
 class Play:
-    """A script as an endpoint or a session plays it: how, modem_play's input, and the function that says what it did otherwise."""
+    """A script as an endpoint or a session plays it: how, test_player's input, and the function that says what it did otherwise."""
 
     def __init__(self, script, how, lines, fault_of, is_session=False):
         self.script, self.how, self.input, self.fault_of, self.is_session = script, how, lines, fault_of, is_session

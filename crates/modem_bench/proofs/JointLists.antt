@@ -9,8 +9,8 @@ use Rattle.modem_driver.specs.SessionStates.{FitsAll, SessionState}
 use Rattle.modem_sim.specs.Acts as modem
 use Rattle.modem_sim.specs.Acts.{End}
 use Rattle.modem_sim.specs.Sims.{FitsSim, SimGoes, SimState}
-use Rattle.modem_ends.specs.OneModem.{AtDriver, EndAct, driver_past, modem_past}
-use Rattle.modem_ends.proofs.octets.LineGoesOn.{after_near, at_far}
+use Rattle.one_modem.specs.OneModem.{AtDriver, EndAct, driver_past, modem_past}
+use Rattle.one_modem.proofs.octets.LineGoesOn.{after_near, at_far}
 use Rattle.modem_bench.specs.Rounds.{AreJoined, IsFull, IsLastRound, IsRound, JoinsOn, Pair, Says, carried_between, is_full, judged, look_in, moved_in, pair, sight_in}
 use Rattle.modem_bench.specs.declared.rounds.Rest.{Rest}
 use Rattle.modem_bench.specs.declared.rounds.Rest.TheVariants.{Full}

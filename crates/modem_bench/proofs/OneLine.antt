@@ -24,11 +24,11 @@ use Rattle.modem_sim.specs.Acts as modem
 use Rattle.modem_sim.specs.Acts.{End}
 use Rattle.modem_sim.specs.Replied.{AnnouncesUnsolicited}
 use Rattle.modem_sim.specs.Sims.{FitsSim, LineAt, SimGoes, SimState}
-use Rattle.modem_ends.specs.OneModem.{EndAct, IsOneModem, TellsModem, driver_past, driver_wire, modem_past}
-use Rattle.modem_ends.proofs.law_proofs.OneModem.{tells_modem}
-use Rattle.modem_ends.proofs.octets.DriverWithin.{IsShortAsk, TakesShort}
-use Rattle.modem_ends.proofs.octets.FramesInOrder.{driver_gets, modem_gets}
-use Rattle.modem_ends.proofs.octets.LineGoesOn.{after_near, at_far, far_line, near_line}
+use Rattle.one_modem.specs.OneModem.{EndAct, IsOneModem, TellsModem, driver_past, driver_wire, modem_past}
+use Rattle.one_modem.proofs.law_proofs.OneModem.{tells_modem}
+use Rattle.one_modem.proofs.octets.DriverWithin.{IsShortAsk, TakesShort}
+use Rattle.one_modem.proofs.octets.FramesInOrder.{driver_gets, modem_gets}
+use Rattle.one_modem.proofs.octets.LineGoesOn.{after_near, at_far, far_line, near_line}
 use Rattle.modem_bench.specs.OneLine.{AreOnOneLine, BeginsOnOneLine, StaysOneLine, TellsModemTo, TookFormed}
 use Rattle.modem_bench.specs.Rounds.{Pair, carried_between, look_in, pair, sight_in}
 use Rattle.modem_bench.proofs.JointLists.{far_other, far_past, near_joins, near_other, near_past}

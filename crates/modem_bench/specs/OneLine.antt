@@ -22,7 +22,7 @@ use Rattle.modem_sim.specs.Sims.{FitsSim, LineAt, SimState}
 use Rattle.modem_sim.specs.Steps.{started}
 use Rattle.modem_sim.specs.declared.modem.ModemStart.{ModemStart}
 use Rattle.modem_sim.specs.declared.script.Script.{Script}
-use Rattle.modem_ends.specs.OneModem.{EndAct, IsModemAnswer, IsOneLine, driver_past, driver_wire, modem_past}
+use Rattle.one_modem.specs.OneModem.{EndAct, IsModemAnswer, IsOneLine, driver_past, driver_wire, modem_past}
 use Rattle.modem_bench.specs.Rounds.{AreJoined, Pair, look_in, pair, sight_in}
 
 -- ## One line

@@ -13,7 +13,7 @@ use Rattle.modem_sim.specs.declared.sim.SimTurn.TheVariants as turn
 use Rattle.modem_sim.specs.Acts.{End}
 use Rattle.modem_sim.specs.Polls.{MovesOn, Turned}
 use Rattle.modem_sim.specs.Sims.{FitsSim, LineAt, Sight, SimState, sight}
-use Rattle.modem_ends.specs.OneModem.{EndAct, driver_past, modem_past}
+use Rattle.one_modem.specs.OneModem.{EndAct, driver_past, modem_past}
 use Rattle.modem_bench.specs.Faults.{session_fault, sim_fault}
 use Rattle.modem_bench.specs.declared.rounds.Rest.{Rest}
 use Rattle.modem_bench.specs.declared.rounds.Rest.TheVariants.{Still, Full, UsedUp}

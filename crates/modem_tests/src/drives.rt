@@ -1,6 +1,6 @@
 //! A drive of one command over a device whose reads end, with its threads.
 use at_text::Dialect;
-use modem_drive::{DriveFault, Driven, Settings, drive_threaded};
+use ctl_drive::{DriveFault, Driven, Settings, drive_threaded};
 use std::alloc::{AllocError, AllocGlobal, Global};
 use std::io::{ErrorKind, Print, Read, Write};
 use std::process::Abort;

@@ -4,9 +4,9 @@ mod endless;
 mod gate;
 
 use at_text::{Text, UrcKind};
+use ctl_run::{frames_run, push_act, replay_run};
 use modem_desk::Urc;
 use modem_driver::Act;
-use modem_runs::{frames_run, push_act, replay_run};
 use mux_frame::Dlci;
 use std::alloc::Global;
 use std::io;

@@ -2,11 +2,11 @@
 use Rattle.std.specs.Prelude.{◌≡◌, ◌⊎◌, ℕ, Bool, true, false, List, Option, Some, codes, refl}
 use Rattle.std.proofs.Common.{inl, inr}
 use Rattle.clap.specs.Words.{Text}
-use Rattle.modem_runs.specs.Statuses.{status_of, stop_line, stop_lines}
-use Rattle.modem_runs.specs.declared.stop.Stop.{Stop}
-use Rattle.modem_runs.proofs.outputs.SaidLines.{begun_line}
-use Rattle.modem_runs.proofs.outputs.StoppedRuns.{gave_up}
-use Rattle.modem_texts.specs.Writing.{IsBegun}
+use Rattle.ctl_run.specs.Statuses.{status_of, stop_line, stop_lines}
+use Rattle.ctl_run.specs.declared.stop.Stop.{Stop}
+use Rattle.ctl_run.proofs.outputs.SaidLines.{begun_line}
+use Rattle.ctl_run.proofs.outputs.StoppedRuns.{gave_up}
+use Rattle.ctl_text.specs.Writing.{IsBegun}
 use Rattle.modemctl.specs.Files.{IsFileLine, IsNoText, IsToBeRead, NamesCause, SaysUnread, SaysWhy, file_line}
 use Rattle.modemctl.specs.declared.words.file_faults.FileFault.{FileFault}
 

@@ -9,11 +9,11 @@ use Rattle.std.specs.declared.io.ErrorKind.{ErrorKind}
 use Rattle.clap.specs.Words.{Text, first_value, found_of, matched_of, one_text, raw_values}
 use Rattle.clap.specs.declared.ArgMatches.{ArgMatches}
 use Rattle.mux_frame.specs.declared.dlci.Dlci.{Dlci}
-use Rattle.modem_runs.specs.Statuses.{stop_line}
-use Rattle.modem_runs.specs.declared.stop.Stop.TheVariants as Stop
-use Rattle.modem_runs.proofs.outputs.SaidLines.{begun_line}
-use Rattle.modem_texts.specs.Writing.{IsBegun}
-use Rattle.modem_texts.proofs.Written.{appends_none}
+use Rattle.ctl_run.specs.Statuses.{stop_line}
+use Rattle.ctl_run.specs.declared.stop.Stop.TheVariants as Stop
+use Rattle.ctl_run.proofs.outputs.SaidLines.{begun_line}
+use Rattle.ctl_text.specs.Writing.{IsBegun}
+use Rattle.ctl_text.proofs.Written.{appends_none}
 use Rattle.show_texts.specs.Captures.{HasShown, SaysFault}
 use Rattle.show_texts.specs.Merging.{HasShownUntimed}
 use Rattle.show_texts.specs.Progress.{HasTold, ProgressState, TellsRead}

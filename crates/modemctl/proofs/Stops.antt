@@ -1,8 +1,8 @@
 -- Why a run ends without its output.
 use Rattle.std.specs.Prelude.{◌≡◌, ◌<◌, ◌≤◌}
 use Rattle.std.proofs.Common.{arith}
-use Rattle.modem_runs.specs.Statuses.{status_of}
-use Rattle.modem_runs.specs.declared.stop.Stop.{Stop}
+use Rattle.ctl_run.specs.Statuses.{status_of}
+use Rattle.ctl_run.specs.declared.stop.Stop.{Stop}
 
 -- who stops doesn't end well
 pub ends_badly : (stop : Stop) → status_of stop ≡ 0 → ⊥

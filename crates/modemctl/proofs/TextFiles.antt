@@ -2,9 +2,9 @@
 use Rattle.std.specs.Prelude.{◌≡◌, ℕ, List, Option, Some, None, IfSome, refl}
 use Rattle.std.proofs.Common.{subst}
 use Rattle.at_text.specs.Rules.{Rules}
-use Rattle.modem_texts.specs.DialectTexts.{AreLinesOf}
-use Rattle.modem_texts.specs.Input.{input_lines}
-use Rattle.modem_runs.specs.Dialects.{HasText}
+use Rattle.ctl_text.specs.DialectTexts.{AreLinesOf}
+use Rattle.ctl_text.specs.Input.{input_lines}
+use Rattle.ctl_run.specs.Dialects.{HasText}
 use Rattle.modemctl.specs.Dialects.{GivesRules}
 
 gives_rules : (file : Option (List ℕ)) (rules : Rules) → IfSome file (λ text. AreLinesOf (input_lines text) rules) → HasText rules → GivesRules file rules

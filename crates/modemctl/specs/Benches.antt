@@ -5,10 +5,10 @@ use Rattle.clap.specs.declared.ArgMatches.{ArgMatches}
 use Rattle.modem_sim.specs.declared.own_answers.OwnAnswer.{OwnAnswer}
 use Rattle.modem_sim.specs.declared.script.Script.{Script}
 use Rattle.modem_sim.specs.declared.script.Step.{Step}
-use Rattle.modem_runs.specs.AnswerTexts.{GivesAnswers}
-use Rattle.modem_runs.specs.Steps.{GivesSteps}
-use Rattle.modem_runs.specs.Printed.{IsBenched, IsFramed, IsPrinted}
-use Rattle.modem_serve.specs.declared.serving.SimOptions.{SimOptions}
+use Rattle.ctl_run.specs.AnswerTexts.{GivesAnswers}
+use Rattle.ctl_run.specs.Steps.{GivesSteps}
+use Rattle.ctl_run.specs.Printed.{IsBenched, IsFramed, IsPrinted}
+use Rattle.ctl_sim.specs.declared.serving.SimOptions.{SimOptions}
 use Rattle.modemctl.specs.Dialects.{PrintsActs}
 use Rattle.modemctl.specs.Words.{IsGiven, raw_in, text_in}
 

@@ -1,7 +1,7 @@
 -- A capture at the path that the words name, and what is said where there is none.
 use Rattle.std.specs.Prelude.{◌≡◌, List, [], ◌∷◌, ◌++◌, ℕ, Option, codes}
 use Rattle.mux_capture.specs.Passing.{CaptureState, HasCaptured}
-use Rattle.modem_texts.specs.Writing.{IsBegun}
+use Rattle.ctl_text.specs.Writing.{IsBegun}
 use Rattle.modemctl.specs.Files.{SaysWhy}
 use Rattle.modemctl.specs.declared.words.file_faults.FileFault.{FileFault}
 use Rattle.modemctl.specs.declared.words.files.NoCapture.{NoCapture}

@@ -2,10 +2,10 @@
 use Rattle.std.specs.Prelude.{◌≡◌, ℕ, Bool, true, List, Option, None, Some, IfSome}
 use Rattle.clap.specs.Words.{Text}
 use Rattle.at_text.specs.Rules.{Rules, no_rules}
-use Rattle.modem_texts.specs.DialectNames.{dialect_with_name}
-use Rattle.modem_texts.specs.DialectTexts.{AreLinesOf}
-use Rattle.modem_texts.specs.Input.{input_lines}
-use Rattle.modem_runs.specs.Printed.{IsPrinted, IsReplayed, IsReplayedBy}
+use Rattle.ctl_text.specs.DialectNames.{dialect_with_name}
+use Rattle.ctl_text.specs.DialectTexts.{AreLinesOf}
+use Rattle.ctl_text.specs.Input.{input_lines}
+use Rattle.ctl_run.specs.Printed.{IsPrinted, IsReplayed, IsReplayedBy}
 
 -- the lines of what was read are these rules; that is all that the file has, where this is known
 pub record GivesRules (file : Option (List ℕ)) (rules : Rules) : Type 0 where

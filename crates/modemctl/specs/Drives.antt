@@ -7,10 +7,10 @@ use Rattle.at_text.specs.Rules.{FinalRule, Rules, with_rule}
 use Rattle.at_text.specs.declared.rules.Form.TheVariants.{Prefix}
 use Rattle.modem_data.specs.declared.begin.Begin.{Begin}
 use Rattle.modem_data.specs.declared.begin.Begin.TheVariants.{AtOnce, ByConnect, ByPrompt}
-use Rattle.modem_drive.specs.DataDevice.{RanFiles, opened_files}
-use Rattle.modem_drive.specs.Entry.{entry_for}
-use Rattle.modem_drive.specs.OnDevice.{RanDevice}
-use Rattle.modem_drive.specs.declared.settings.DataPath.{DataPath}
+use Rattle.ctl_drive.specs.DataDevice.{RanFiles, opened_files}
+use Rattle.ctl_drive.specs.Entry.{entry_for}
+use Rattle.ctl_drive.specs.OnDevice.{RanDevice}
+use Rattle.ctl_drive.specs.declared.settings.DataPath.{DataPath}
 use Rattle.modemctl.specs.Dialects.{IsGivenDialect}
 use Rattle.modemctl.specs.Shows.{all_in}
 use Rattle.modemctl.specs.Words.{IsGiven, is_set, raw_in}

@@ -2,11 +2,11 @@
 use Rattle.std.specs.Prelude.{◌≡◌, ◌⊎◌, ℕ, ◌==◌, ◌||◌, Bool, true, false, List, ◌∷◌, ◌++◌, Option, Some, codes, if◌then◌else◌}
 use Rattle.std.specs.List.{flat_map}
 use Rattle.clap.specs.Words.{Text}
-use Rattle.modem_runs.specs.Statuses.{status_of, stop_line, stop_lines}
-use Rattle.modem_runs.specs.Stopping.{HasGivenUp}
-use Rattle.modem_runs.specs.declared.stop.Stop.{Stop}
-use Rattle.modem_texts.specs.Texts.{octet_text}
-use Rattle.modem_texts.specs.Writing.{IsBegun}
+use Rattle.ctl_run.specs.Statuses.{status_of, stop_line, stop_lines}
+use Rattle.ctl_run.specs.Stopping.{HasGivenUp}
+use Rattle.ctl_run.specs.declared.stop.Stop.{Stop}
+use Rattle.ctl_text.specs.Texts.{octet_text}
+use Rattle.ctl_text.specs.Writing.{IsBegun}
 use Rattle.modemctl.specs.declared.words.file_faults.FileFault.{FileFault}
 use Rattle.modemctl.specs.declared.words.text_files.TextFault.{TextFault}
 

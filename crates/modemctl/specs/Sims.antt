@@ -4,18 +4,18 @@ use Rattle.std.specs.Prelude.{◌≡◌, ◌⊎◌, ℕ, ◌++◌, Bool, true, L
 use Rattle.std.specs.Fmt.{decimal}
 use Rattle.clap.specs.Words.{Row, Text, first_value, found_of}
 use Rattle.clap.specs.declared.ArgMatches.{ArgMatches}
-use Rattle.modem_runs.specs.AnswerTexts.{AnswersStopBy, HasFirstNone, part_text}
-use Rattle.modem_runs.specs.Statuses.{stop_line}
-use Rattle.modem_runs.specs.Steps.{HasBadStep, StepsStop}
-use Rattle.modem_runs.specs.declared.own_answers.AnswerPart.{AnswerPart}
-use Rattle.modem_runs.specs.declared.stop.Stop.{Stop}
-use Rattle.modem_serve.specs.declared.serving.SimOptions.{SimOptions}
-use Rattle.modem_serve.specs.Leaving.{EndsFor, SaysBad}
-use Rattle.modem_serve.specs.Serving.{IsServed}
-use Rattle.modem_serve.specs.Watching.{CapturesClient}
-use Rattle.modem_texts.specs.LineFaults.{bad_line, reason_line}
-use Rattle.modem_texts.specs.Writing.{IsBegun}
-use Rattle.modem_texts.specs.declared.line_fault.LineFault.{LineFault}
+use Rattle.ctl_run.specs.AnswerTexts.{AnswersStopBy, HasFirstNone, part_text}
+use Rattle.ctl_run.specs.Statuses.{stop_line}
+use Rattle.ctl_run.specs.Steps.{HasBadStep, StepsStop}
+use Rattle.ctl_run.specs.declared.own_answers.AnswerPart.{AnswerPart}
+use Rattle.ctl_run.specs.declared.stop.Stop.{Stop}
+use Rattle.ctl_sim.specs.declared.serving.SimOptions.{SimOptions}
+use Rattle.ctl_sim.specs.Leaving.{EndsFor, SaysBad}
+use Rattle.ctl_sim.specs.Serving.{IsServed}
+use Rattle.ctl_sim.specs.Watching.{CapturesClient}
+use Rattle.ctl_text.specs.LineFaults.{bad_line, reason_line}
+use Rattle.ctl_text.specs.Writing.{IsBegun}
+use Rattle.ctl_text.specs.declared.line_fault.LineFault.{LineFault}
 use Rattle.modemctl.specs.Benches.{AreGiven, AreMatched}
 use Rattle.modemctl.specs.Captures.{SaysNoCapture}
 use Rattle.modemctl.specs.Files.{IsNoText}

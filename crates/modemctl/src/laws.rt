@@ -2,10 +2,10 @@
 ghost use Rattle.std.specs.Prelude.{List};
 ghost use Rattle.modem_history.specs.Calls.{Setting};
 ghost use Rattle.modem_sim.specs.Acts.{End};
-ghost use Rattle.modem_ends.specs.OneModem.{EndAct, ReadsCommands, TellsModem};
-ghost use Rattle.modem_ends.specs.OneModemRows.{RightAnswer, RightLine, WrongAnswers, WrongLines};
+ghost use Rattle.one_modem.specs.OneModem.{EndAct, ReadsCommands, TellsModem};
+ghost use Rattle.one_modem.specs.OneModemRows.{RightAnswer, RightLine, WrongAnswers, WrongLines};
 
-use modem_ends::laws;
+use one_modem::laws;
 
 /// A law of every list of what happened at the two ends of one line. The premise (`IsOneModem`): the driver is the initiator (27.010, 5.1)
 /// and sees lines by the standard's codes. Its part of the list keeps the laws of a driver's history, and no caller uses a number twice.

@@ -5,13 +5,13 @@
 pub mod laws;
 mod words;
 
-pub use modem_drive::drive_run;
-pub use modem_runs::{
+pub use ctl_drive::drive_run;
+pub use ctl_run::{
     bench_run, bench_run_explained, frames_run, frames_run_explained, replay_run,
     replay_run_explained, replay_with_dialect_run, replay_with_dialect_run_explained,
 };
-use modem_runs::{Stop, give_up};
-pub use modem_serve::sim_run;
+use ctl_run::{Stop, give_up};
+pub use ctl_sim::sim_run;
 use show_texts::Progress;
 use std::env;
 use std::io::{ErrorKind, IsTerminal};

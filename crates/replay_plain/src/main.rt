@@ -2,7 +2,7 @@
 //! runs this one where nothing is proved yet.
 #![tactic(auto)]
 
-use modem_runs::replay_run;
+use ctl_run::replay_run;
 use std::process::ExitCode;
 
 fn main(rt: HostRuntime) -> ExitCode {

@@ -9,8 +9,8 @@ use Rattle.modem_history.specs.TwoEnds.{frames_got, frames_sent}
 use Rattle.modem_sim.specs.Acts.{Did, End, Wire, is_open_at_modem}
 use Rattle.modem_sim.specs.Outboxes.{outbox}
 use Rattle.modem_sim.specs.Pieces.{pieces_octets}
-use Rattle.modem_ends.specs.OneModem as ends
-use Rattle.modem_ends.specs.OneModem.{EndAct, IsOneModem}
+use Rattle.one_modem.specs.OneModem as ends
+use Rattle.one_modem.specs.OneModem.{EndAct, IsOneModem}
 use Rattle.modem_show.specs.Judging.{faults_from}
 use Rattle.modem_show.specs.Rows.{sound}
 use Rattle.modem_show.specs.Talking.{is_unfinished, is_unprompted, overlaps}

@@ -6,7 +6,7 @@ ghost use Rattle.show_laws.specs.Lines.{LineAct};
 ghost use Rattle.show_laws.specs.LineRows.{AreRight};
 ghost use Rattle.show_laws.specs.Talks.{FinishesTalk, TalksInTurn};
 ghost use Rattle.modem_sim.specs.Acts.{End};
-ghost use Rattle.modem_ends.specs.OneModem.{EndAct};
+ghost use Rattle.one_modem.specs.OneModem.{EndAct};
 ghost use Rattle.show_laws.specs.Simulated.{FinishesWithModem, Simulates, SoundToModem, TalksToModem};
 ghost use Rattle.show_laws.specs.Laws.{AllSound, AnswersAll, AnswersAsks, AnswersWhileOpen, CarriesText, FitsN1, HeedsStops, NeverStopped, SendWhileOpen};
 

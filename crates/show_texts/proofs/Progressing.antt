@@ -2,8 +2,8 @@
 use Rattle.std.specs.Prelude.{◌≡◌, ℕ, ◌+◌, ◌-◌, ◌/◌, ◌<◌, ◌≤◌, ◌⊎◌, zero, suc, Bool, true, false, length, List, [], ◌++◌, Option, Some, None, IfSome, refl}
 use Rattle.std.proofs.Common.{⊎_elim, ap, arith, sym, ◌∙◌, subst, append_assoc, append-nil, length-append, add_assoc}
 use Rattle.std.specs.Io.KnownBytes.{Appends, Consumes, IsAtEnd}
-use Rattle.modem_texts.specs.Writing.{IsBegun}
-use Rattle.modem_texts.proofs.Written.{appends_more, appends_none, begun_after, begun_first}
+use Rattle.ctl_text.specs.Writing.{IsBegun}
+use Rattle.ctl_text.proofs.Written.{appends_more, appends_none, begun_after, begun_first}
 use Rattle.show_texts.specs.Progress.{Counts, CountsAll, CountsPart, CountsRead, HasTold, IsTold, ProgressState, TellsRead, TellsSteps, clear_text, progress_text, step, step_text, steps_text}
 use Rattle.show_texts.specs.Captures.{fault_status}
 use Rattle.show_texts.specs.declared.fault.ShowFault.{ShowFault as ShowFaultOf}

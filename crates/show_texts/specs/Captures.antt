@@ -9,7 +9,7 @@ use Rattle.mux_capture.specs.declared.packet.Kind.{Kind}
 use Rattle.mux_capture.specs.declared.packet.Kind.TheVariants as kind
 use Rattle.modem_show.specs.Ways.{caught}
 use Rattle.mux_capture.specs.Reading.{IsHeaded}
-use Rattle.modem_texts.specs.Writing.{IsBegun}
+use Rattle.ctl_text.specs.Writing.{IsBegun}
 use Rattle.show_texts.specs.declared.fault.ShowFault.{ShowFault}
 use Rattle.show_texts.specs.Telling.{Damage, Framed, Item, Setting, Teller, TellerFits, has_complaint, setting_of, shown_text}
 

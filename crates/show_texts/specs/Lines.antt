@@ -13,7 +13,7 @@ use Rattle.modem_show.specs.Talking.{is_unprompted, overlaps}
 use Rattle.modem_show.specs.declared.rule.Rule.TheVariants.{Overlapping, Unprompted}
 use Rattle.modem_show.specs.declared.told.Told.{Told}
 use Rattle.modem_show.specs.declared.told.Told.TheVariants.{Command, Text, Line}
-use Rattle.modem_texts.specs.Texts.{line_text, named_text}
+use Rattle.ctl_text.specs.Texts.{line_text, named_text}
 use Rattle.show_texts.specs.Complaints.{complaint_if}
 use Rattle.show_texts.specs.Words.{head_text, span_text}
 

@@ -2,7 +2,7 @@
 use Rattle.std.specs.Prelude.{◌≡◌, ℕ, ◌+◌, ◌*◌, ◌/◌, ◌≤◌, ◌⊎◌, Bool, true, zero, suc, List, [], ◌++◌, Option, IfSome, codes, length}
 use Rattle.std.specs.Fmt.{decimal}
 use Rattle.std.specs.Io.KnownBytes.{Appends, Consumes}
-use Rattle.modem_texts.specs.Writing.{IsBegun}
+use Rattle.ctl_text.specs.Writing.{IsBegun}
 
 -- so many octets lie between two texts: 4 MiB
 abbrev pub step : ℕ

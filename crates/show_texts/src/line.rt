@@ -4,16 +4,16 @@ ghost use Rattle.std.specs.Fmt.{decimal};
 ghost use Rattle.std.specs.List.{flat_map};
 ghost use Rattle.std.specs.String.{string_bytes};
 ghost use Rattle.mux_frame.specs.Frames.{frame_of};
-ghost use Rattle.modem_texts.specs.Texts.{line_text};
+ghost use Rattle.ctl_text.specs.Texts.{line_text};
 ghost use Rattle.show_texts.specs.Lines.{are_wrong, heard_line, micros_of, said_text, seen_text, told_line, told_text, waited};
 ghost use Rattle.show_texts.specs.Words.{span_text};
 
 use crate::complaint::complain_if;
 use crate::words::{push_head, push_span};
 use at_text::{Dialect, Seen, Text, UrcKind};
+use ctl_text::{push_heard_by, push_line};
 use modem_desk::Urc;
 use modem_show::{Rule, Told};
-use modem_texts::{push_heard_by, push_line};
 use mux_capture::{Direction, Stamp};
 use mux_frame::{Dlci, FrameView};
 use std::alloc::{AllocError, Global};

@@ -12,7 +12,7 @@ use crate::complaint::push_octets;
 use crate::fault::ShowFault;
 use crate::teller::Teller;
 use crate::words::push_head;
-use modem_texts::put_octets;
+use ctl_text::put_octets;
 use mux_capture::{Direction, Kind, Stamp};
 use mux_frame::FrameBuf;
 use mux_frame::laws::read_plain;

@@ -1,11 +1,11 @@
 //! Tells on a line of a terminal how much of a capture was read.
 ghost use Rattle.std.specs.Prelude.{◌≡◌, ◌≤◌, ◌*◌, ◌<◌, ◌^◌, ℕ, List, Option, false, true};
 ghost use Rattle.std.specs.Io.KnownBytes.{Appends};
-ghost use Rattle.modem_texts.specs.Writing.{IsBegun};
+ghost use Rattle.ctl_text.specs.Writing.{IsBegun};
 ghost use Rattle.show_texts.specs.Progress.{Counts, HasTold, IsTold, TellsSteps, step_text};
 
+use ctl_text::{put_octets, write_octets};
 use itoa::Buffer;
-use modem_texts::{put_octets, write_octets};
 use std::io::Write;
 use std::marker::Model;
 

@@ -1,6 +1,6 @@
 //! Shows a capture, over a reader and two writers.
 ghost use Rattle.std.specs.Prelude.{◌≡◌, ◌≤◌, ◌≢◌, ◌⊎◌, [], Err, OnOk, IfOk, false};
-ghost use Rattle.modem_texts.specs.Writing.{IsBegun};
+ghost use Rattle.ctl_text.specs.Writing.{IsBegun};
 ghost use Rattle.show_texts.specs.Captures.{HasShown, IsShown, IsToldWhole, SaysFault, ShowsOctets, TellsOctets, fault_line, fault_status};
 ghost use Rattle.show_texts.specs.Options.{setting_by};
 ghost use Rattle.show_texts.specs.Progress.{CountsAll, CountsPart, TellsRead};
@@ -12,7 +12,7 @@ use crate::progress::Progress;
 use crate::reading::{read_head, read_octets};
 use crate::teller::Teller;
 use at_text::Dialect;
-use modem_texts::say_line;
+use ctl_text::say_line;
 use mux_capture::read_packet;
 use mux_frame::Dlci;
 use std::alloc::Global;

@@ -1,7 +1,7 @@
 //! When a bench is given up, and when it isn't.
 use at_text::CommandLine;
+use ctl_run::bench_run;
 use modem_bench::{Cause, Fault, Limits, Submission, run_bench_limited};
-use modem_runs::bench_run;
 use modem_sim::{Script, Step, StepAct, Steps};
 use mux_frame::Dlci;
 use std::alloc::{AllocGlobal, Global};

@@ -1,5 +1,5 @@
 //! A reader without an end.
-use modem_runs::frames_run;
+use ctl_run::frames_run;
 use std::io;
 use std::io::Read;
 use std::process::Abort;

@@ -1,7 +1,7 @@
 //! Callers, connections and the driver side by side.
 use at_text::CommandLine;
+use ctl_run::bench_run;
 use modem_bench::{Cause, Fault, Submission, run_bench_within};
-use modem_runs::bench_run;
 use modem_sim::{Script, Step, StepAct, Steps};
 use mux_frame::Dlci;
 use std::alloc::{AllocGlobal, Global};

@@ -2,8 +2,8 @@
 ghost use Rattle.std.specs.Prelude.{◌≡◌, ℕ, ◌<◌, ◌≤◌, ◌++◌, IfErr, IfOk, List, OnOk, Option, Some, codes, false, true};
 ghost use Rattle.std.specs.Fmt.{decimal};
 ghost use Rattle.clap.specs.Words.{first_value, found_of, rule_of};
-ghost use Rattle.modem_texts.specs.LineFaults.{bad_line};
-ghost use Rattle.modem_texts.specs.Writing.{IsBegun};
+ghost use Rattle.ctl_text.specs.LineFaults.{bad_line};
+ghost use Rattle.ctl_text.specs.Writing.{IsBegun};
 ghost use Rattle.modemctl.specs.Benches.{AreOwn};
 ghost use Rattle.modemctl.specs.Files.{IsNoText};
 ghost use Rattle.modemctl.specs.Sims.{IsOfAnswers, SaysBadAnswer, answers_line};
@@ -12,10 +12,10 @@ ghost use Rattle.modemctl.specs.Words.{answers_rule};
 use crate::words::file_faults::refuse_text;
 use crate::words::text_files::{TextFault, TextFiles};
 use clap::{Arg, ArgAction, ArgMatches};
+use ctl_run::{AnswerPart, AnswersStop, Stop, answers_from};
+use ctl_text::{put_line, say_line};
 use itoa::Buffer;
-use modem_runs::{AnswerPart, AnswersStop, Stop, answers_from};
 use modem_sim::OwnAnswers;
-use modem_texts::{put_line, say_line};
 use std::alloc::Global;
 use std::io::{ErrorKind, Write};
 

@@ -1,19 +1,19 @@
 //! The files that the words name beside connections that carry data.
 ghost use Rattle.std.specs.Prelude.{◌≡◌, ◌<◌, ◌≤◌, ◌++◌, All, IfErr, IfOk, IfSome, OnOk, codes, false, map, option_map, true};
 ghost use Rattle.clap.specs.Words.{first_value, found_of, matched_of, raw_values, rule_of};
-ghost use Rattle.modem_runs.specs.Statuses.{stop_line};
-ghost use Rattle.modem_runs.specs.declared.stop.Stop.TheVariants as StopOf;
-ghost use Rattle.modem_texts.specs.Writing.{IsBegun};
+ghost use Rattle.ctl_run.specs.Statuses.{stop_line};
+ghost use Rattle.ctl_run.specs.declared.stop.Stop.TheVariants as StopOf;
+ghost use Rattle.ctl_text.specs.Writing.{IsBegun};
 ghost use Rattle.modemctl.specs.Drives.{AreDataPaths, AreFiles, begin_by, data_path_text, drive_rules};
 ghost use Rattle.modemctl.specs.Words.{arm_rule, data_path_rule, is_set, text_path_rule};
 
 use crate::words::showing::{NoChannels, channel_of};
 use at_text::{Dialect, DialectError, Form};
 use clap::{Arg, ArgAction, ArgMatches};
+use ctl_drive::DataPath;
+use ctl_run::{Stop, give_up};
+use ctl_text::say_line;
 use modem_data::Begin;
-use modem_drive::DataPath;
-use modem_runs::{Stop, give_up};
-use modem_texts::say_line;
 use std::alloc::Global;
 use std::io::Write;
 

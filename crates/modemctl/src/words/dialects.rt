@@ -1,7 +1,7 @@
 //! The dialect that the words give.
 ghost use Rattle.std.specs.Prelude.{◌≡◌, ◌<◌, ◌≤◌, IfErr, IfOk, IsErrOf, MatchResult, OnOk, Some, codes, false, true};
 ghost use Rattle.clap.specs.Words.{first_value, found_of, rule_of};
-ghost use Rattle.modem_texts.specs.DialectNames.{dialect_with_name};
+ghost use Rattle.ctl_text.specs.DialectNames.{dialect_with_name};
 ghost use Rattle.modemctl.specs.Dialects.{GivesRules, IsGivenDialect, IsReadyOrRead, IsShut, PrintsActs};
 ghost use Rattle.modemctl.specs.Files.{IsNoText, NamesCause, text_status};
 ghost use Rattle.modemctl.specs.Words.{dialect_rule};
@@ -10,8 +10,8 @@ use crate::words::file_faults::refuse_text;
 use crate::words::text_files::{TextFault, TextFiles};
 use at_text::Dialect;
 use clap::{Arg, ArgAction, ArgMatches};
-use modem_runs::{Stop, dialect_from, replay_run_explained, replay_with_dialect_run_explained};
-use modem_texts::dialect_named;
+use ctl_run::{Stop, dialect_from, replay_run_explained, replay_with_dialect_run_explained};
+use ctl_text::dialect_named;
 use std::alloc::Global;
 use std::io::{Read, Write};
 

@@ -1,7 +1,7 @@
 //! The words of a drive.
 ghost use Rattle.std.specs.Prelude.{◌≡◌, ◌<◌, ◌≤◌, ◌⊎◌, IfErr, IfOk, IsErr, OnOk, codes, false, is_some, true};
 ghost use Rattle.clap.specs.Words.{app_of, first_value, found_of, rule_of, with_subcommand, AddsSubcommand};
-ghost use Rattle.modem_drive.specs.Entry.{entry_for, given_text};
+ghost use Rattle.ctl_drive.specs.Entry.{entry_for, given_text};
 ghost use Rattle.modemctl.specs.Dialects.{IsShut};
 ghost use Rattle.modemctl.specs.Drives.{DrivesWith, IsDriveDialect, RanWith};
 ghost use Rattle.modemctl.specs.Files.{IsNoText, NamesCause};
@@ -19,7 +19,7 @@ use crate::words::text_files::TextFiles;
 use crate::words::{help, refuse};
 use at_text::Dialect;
 use clap::{Arg, ArgAction, ArgMatches, Command, value_parser};
-use modem_drive::{Settings, drive_data_run, drive_run};
+use ctl_drive::{Settings, drive_data_run, drive_run};
 use std::alloc::{AllocError, AllocGlobal, Global};
 use std::fs::File;
 use std::io::{Read, Write};

@@ -2,14 +2,14 @@
 ghost use Rattle.std.specs.Prelude.{◌≡◌, ◌<◌, ◌≤◌, ◌⊎◌, ◌++◌, IfOk, OnOk, Some};
 ghost use Rattle.std.specs.List.{flat_map};
 ghost use Rattle.std.specs.String.{string_bytes};
-ghost use Rattle.modem_runs.specs.Statuses.{stop_line};
-ghost use Rattle.modem_runs.specs.declared.stop.Stop.TheVariants as Stop;
-ghost use Rattle.modem_texts.specs.Writing.{IsBegun};
+ghost use Rattle.ctl_run.specs.Statuses.{stop_line};
+ghost use Rattle.ctl_run.specs.declared.stop.Stop.TheVariants as Stop;
+ghost use Rattle.ctl_text.specs.Writing.{IsBegun};
 ghost use Rattle.modemctl.specs.Files.{IsFileLine, IsNoText, SaysUnread, SaysWhy, cant_words, file_line, quoted, quoted_octet, text_status};
 
 use crate::words::text_files::TextFault;
-use modem_runs::{Stop, give_up, give_up_explained};
-use modem_texts::{push_line, write_octets};
+use ctl_run::{Stop, give_up, give_up_explained};
+use ctl_text::{push_line, write_octets};
 use std::alloc::{AllocError, Global};
 use std::io::{ErrorKind, Write};
 

@@ -1,7 +1,7 @@
 //! Files of text, by their paths.
 ghost use Rattle.std.specs.Prelude.{◌≡◌, ℕ, List, Option, None, Bool, false, IfOk, OnOk};
 
-use modem_runs::Stop;
+use ctl_run::Stop;
 use std::fs::File;
 use std::io;
 use std::io::{ErrorKind, Read};

@@ -25,10 +25,10 @@ use Rattle.modem_sim.specs.Replied.{SendsReplies, all_of, text_of}
 use Rattle.modem_sim.proofs.connections.Outboxes.{says_replies}
 use Rattle.modem_sim.proofs.replies.PieceLines.{asked_lines, lines_said, says_sound}
 use Rattle.modem_sim.proofs.replies.ReplyOrder.{sends_replies, since_are}
-use Rattle.modem_ends.specs.OneModem.{AtDriver, AtModem, EndAct, driver_past, modem_past, modem_wire}
-use Rattle.modem_ends.proofs.two_ends.FinalCodes.{all_finals, finals, finals-append}
-use Rattle.modem_ends.proofs.two_ends.LinePoints.{Along, behind_there, driver_earlier, lines_heard, marks_at, modem_earlier, once_there, read_first, replies_at}
-use Rattle.modem_ends.proofs.two_ends.ReplyPlaces.{AllAt, all_end, all_solicited_in, at_of, plain_command, replied_count, solicited_in}
+use Rattle.one_modem.specs.OneModem.{AtDriver, AtModem, EndAct, driver_past, modem_past, modem_wire}
+use Rattle.one_modem.proofs.two_ends.FinalCodes.{all_finals, finals, finals-append}
+use Rattle.one_modem.proofs.two_ends.LinePoints.{Along, behind_there, driver_earlier, lines_heard, marks_at, modem_earlier, once_there, read_first, replies_at}
+use Rattle.one_modem.proofs.two_ends.ReplyPlaces.{AllAt, all_end, all_solicited_in, at_of, plain_command, replied_count, solicited_in}
 use Rattle.show_laws.specs.Simulated.{HasSaidAll}
 use Rattle.show_laws.specs.Talks.{AnswersCommands, AnswersNoMore, TellsApart, commands_in, finals_in}
 use Rattle.show_laws.proofs.counts.ManyFrames.{unit}

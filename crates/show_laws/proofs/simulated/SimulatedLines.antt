@@ -30,9 +30,9 @@ use Rattle.modem_sim.specs.Acts as modem
 use Rattle.modem_sim.specs.Acts.{Did, End, Wire}
 use Rattle.modem_sim.specs.Doing.{call_of, call_owed}
 use Rattle.modem_sim.specs.Histories.{EachAllowed}
-use Rattle.modem_ends.specs.OneModem as ends
-use Rattle.modem_ends.specs.OneModem.{EndAct}
-use Rattle.modem_ends.proofs.two_ends.LinePoints.{along, behind_there, once_there}
+use Rattle.one_modem.specs.OneModem as ends
+use Rattle.one_modem.specs.OneModem.{EndAct}
+use Rattle.one_modem.proofs.two_ends.LinePoints.{along, behind_there, once_there}
 use Rattle.modem_show.specs.Asking.{is_mode_command}
 use Rattle.show_laws.specs.Laws.{AllSound}
 use Rattle.show_laws.specs.Lines.{IsOneLine, driver_past, modem_past, responding}

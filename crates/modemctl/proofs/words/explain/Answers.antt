@@ -1,7 +1,7 @@
 use Rattle.std.specs.Prelude.{refl}
-use Rattle.modem_runs.specs.declared.stop.Stop.TheVariants as Stop
-use Rattle.modem_runs.proofs.outputs.SaidLines.{begun_line}
-use Rattle.modem_runs.proofs.outputs.StoppedRuns.{gave_up}
+use Rattle.ctl_run.specs.declared.stop.Stop.TheVariants as Stop
+use Rattle.ctl_run.proofs.outputs.SaidLines.{begun_line}
+use Rattle.ctl_run.proofs.outputs.StoppedRuns.{gave_up}
 use Rattle.modemctl.proofs.words.explain.Goals as goal
 
 pub returns-then-matches-clause-nothing : goal.returns-then-matches-clause-nothing

@@ -5,10 +5,10 @@ use Rattle.clap.specs.declared.error.ErrorKind.{ErrorKind}
 use Rattle.clap.specs.declared.error.ErrorKind.TheVariants.{DisplayHelp, DisplayVersion, OutOfMemory}
 use Rattle.clap.proofs.OnLiterals.{clap_on_literals}
 use Rattle.modemctl.specs.Words.{AsksNoHelp, HasNoNumber, is_explained, program_app, fault_in, met_in, named_in, text_in, raw_in}
-use Rattle.modem_runs.specs.declared.stop.Stop.TheVariants as Stop
-use Rattle.modem_runs.proofs.outputs.SaidLines.{begun_line}
-use Rattle.modem_runs.proofs.outputs.StoppedRuns.{gave_up}
-use Rattle.modem_runs.specs.Stopping.{HasGivenUp}
+use Rattle.ctl_run.specs.declared.stop.Stop.TheVariants as Stop
+use Rattle.ctl_run.proofs.outputs.SaidLines.{begun_line}
+use Rattle.ctl_run.proofs.outputs.StoppedRuns.{gave_up}
+use Rattle.ctl_run.specs.Stopping.{HasGivenUp}
 use Rattle.modemctl.specs.Benches.{PrintsBench, PrintsFrames, PrintsReplay}
 use Rattle.modemctl.specs.Dialects.{IsShut}
 use Rattle.modemctl.specs.Drives.{PrintsDrive}

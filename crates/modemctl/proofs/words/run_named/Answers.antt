@@ -4,12 +4,12 @@ use Rattle.clap.specs.Words.{Row, Text, all_of, first_of, first_value, found_of,
 use Rattle.clap.specs.declared.ArgMatches.{ArgMatches}
 use Rattle.clap.proofs.WalkLemmas.{first_value-rows, one_text-rows, raw_values-rows}
 use Rattle.modemctl.specs.Words.{HasNoNumber, IsGiven, IsNoNumber, IsNumberOf, is_explained, is_set, raw_in, text_in}
-use Rattle.modem_runs.specs.Stopping.{HasGivenUp}
-use Rattle.modem_serve.specs.declared.serving.SimOptions.{SimOptions}
-use Rattle.modem_serve.specs.Watching.{CapturesClient}
+use Rattle.ctl_run.specs.Stopping.{HasGivenUp}
+use Rattle.ctl_sim.specs.declared.serving.SimOptions.{SimOptions}
+use Rattle.ctl_sim.specs.Watching.{CapturesClient}
 use Rattle.modemctl.specs.Benches.{AreGiven, AreMatched, AreOwn, AreScripted, IsFlag}
 use Rattle.modemctl.specs.Sims.{FailsClient, HasBadMatched, IsNotBegun, LeavesClient, LeavesWith, RefusesClient, SaysBadAnswer, SaysBadStep, SimFiles, files_given, files_matched}
-use Rattle.modem_drive.specs.Entry.{entry_for}
+use Rattle.ctl_drive.specs.Entry.{entry_for}
 use Rattle.modemctl.specs.Dialects.{IsGivenDialect, IsShut, PrintsActs}
 use Rattle.modemctl.specs.Drives.{DrivesWith, IsDriveDialect, PrintsDrive, RanGiven}
 use Rattle.modemctl.specs.Files.{NamesCause}

@@ -1,8 +1,8 @@
 use Rattle.std.proofs.Common.{◌≡◌, List, Option, None, Some, ℕ, refl, subst, sym, is_some, true}
 use Rattle.clap.specs.Words.{Text}
-use Rattle.modem_serve.specs.Leaving.{EndsFor}
-use Rattle.modem_serve.specs.declared.serving.SimOptions.{SimOptions}
-use Rattle.modem_serve.specs.Watching.{CapturesClient, IsCaptured}
+use Rattle.ctl_sim.specs.Leaving.{EndsFor}
+use Rattle.ctl_sim.specs.declared.serving.SimOptions.{SimOptions}
+use Rattle.ctl_sim.specs.Watching.{CapturesClient, IsCaptured}
 use Rattle.mux_capture.specs.Passing.{CaptureState}
 use Rattle.modemctl.specs.Captures.{HasBegunWith, SaysNoCapture}
 use Rattle.modemctl.specs.Sims.{HasNoCapture}

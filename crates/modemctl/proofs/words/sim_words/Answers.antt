@@ -1,8 +1,8 @@
 use Rattle.std.proofs.Common.{◌≡◌, ◌⊎◌, ◌∙◌, List, Option, ℕ, inl, inr, refl, subst, is_some, codes, true}
 use Rattle.clap.specs.Words.{Text, first_value, found_of}
 use Rattle.clap.specs.declared.ArgMatches.{ArgMatches}
-use Rattle.modem_serve.specs.Leaving.{SaysBad}
-use Rattle.modem_serve.specs.declared.serving.SimOptions.{SimOptions}
+use Rattle.ctl_sim.specs.Leaving.{SaysBad}
+use Rattle.ctl_sim.specs.declared.serving.SimOptions.{SimOptions}
 use Rattle.modemctl.specs.Benches.{AreMatched}
 use Rattle.modemctl.specs.Files.{IsNoText}
 use Rattle.modemctl.specs.Sims.{FailsClient, HasBadMatched, HasNoCapture, IsNotBegun, LeavesWith, SaysBadAnswer, SimFiles, files_matched}

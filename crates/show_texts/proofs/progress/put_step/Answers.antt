@@ -2,9 +2,9 @@
 use Rattle.std.specs.Prelude.{◌*◌, ◌++◌, codes, ℕ, List}
 use Rattle.std.proofs.Common.{rules, subst}
 use Rattle.std.specs.Io.KnownBytes.{Appends}
-use Rattle.modem_texts.specs.Writing.{IsBegun}
+use Rattle.ctl_text.specs.Writing.{IsBegun}
 use Rattle.std.specs.Fmt.{decimal}
-use Rattle.modem_texts.proofs.Written.{appends_more, begun_after, begun_first}
+use Rattle.ctl_text.proofs.Written.{appends_more, begun_after, begun_first}
 use Rattle.show_texts.proofs.progress.put_step.Goals as goal
 
 pub returns-then-not-write_octets-clause-part : goal.returns-then-not-write_octets-clause-part

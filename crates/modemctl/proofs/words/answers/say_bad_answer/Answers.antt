@@ -1,6 +1,6 @@
 use Rattle.std.specs.Fmt.{decimal}
-use Rattle.modem_texts.specs.LineFaults.{bad_line}
-use Rattle.modem_texts.proofs.Written.{begun_after, begun_first}
+use Rattle.ctl_text.specs.LineFaults.{bad_line}
+use Rattle.ctl_text.proofs.Written.{begun_after, begun_first}
 use Rattle.modemctl.specs.Sims.{answers_line}
 use Rattle.modemctl.proofs.words.answers.say_bad_answer.Goals as goal
 

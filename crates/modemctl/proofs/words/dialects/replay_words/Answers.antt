@@ -1,7 +1,7 @@
 -- A replay by the dialect of the words.
 use Rattle.std.proofs.Common.{◌≡◌, ℕ, Bool, List, Option, arith, inl, subst}
 use Rattle.clap.specs.Words.{Text}
-use Rattle.modem_runs.specs.Stopping.{HasGivenUp}
+use Rattle.ctl_run.specs.Stopping.{HasGivenUp}
 use Rattle.modemctl.specs.Dialects.{PrintsActs}
 use Rattle.modemctl.specs.Files.{NamesCause}
 use Rattle.modemctl.proofs.FileFaults.{names_cause}

@@ -3,7 +3,7 @@ use Rattle.std.proofs.Common.{ap, ◌≡◌, ℕ, Bool, List, Option, arith, cod
 use Rattle.clap.specs.Words.{Text, first_value, found_of}
 use Rattle.clap.specs.declared.ArgMatches.{ArgMatches}
 use Rattle.at_text.specs.Rules.{Rules}
-use Rattle.modem_drive.specs.Entry.{entry_for}
+use Rattle.ctl_drive.specs.Entry.{entry_for}
 use Rattle.modemctl.specs.Drives.{DrivesWith, IsDriveDialect, RanWith}
 use Rattle.modemctl.specs.Words.{is_set}
 use Rattle.modemctl.proofs.FileFaults.{names_cause}

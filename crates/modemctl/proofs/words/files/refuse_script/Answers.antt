@@ -1,7 +1,7 @@
 use Rattle.std.proofs.Common.{◌≡◌, ℕ, List, Option, None, Some, arith, ap, refl}
-use Rattle.modem_runs.specs.Steps.{HasBadStep}
-use Rattle.modem_runs.specs.declared.stop.Stop.{Stop}
-use Rattle.modem_texts.specs.declared.line_fault.LineFault.{LineFault}
+use Rattle.ctl_run.specs.Steps.{HasBadStep}
+use Rattle.ctl_run.specs.declared.stop.Stop.{Stop}
+use Rattle.ctl_text.specs.declared.line_fault.LineFault.{LineFault}
 use Rattle.modemctl.specs.Files.{text_status}
 use Rattle.modemctl.specs.Sims.{IsOfScript, bad_step_of}
 use Rattle.modemctl.specs.declared.words.text_files.TextFault.{TextFault}

@@ -1,0 +1,265 @@
+-- A drive on a device with files, from its beginning to its status.
+use Rattle.std.specs.Prelude.{◌≡◌, ◌≢◌, ◌⊎◌, ◌==◌, ℕ, ◌+◌, ◌<◌, ◌≤◌, Bool, true, false, List, [], ◌∷◌, ◌++◌, All, length, map, take, Option, None, Some, Result, Ok, Err, IfOk, refl, slice_index_or}
+use Rattle.std.proofs.Common.{ap, arith, inl, suc, sym, subst, true≢false, zero, ◌∙◌}
+use Rattle.std.specs.Option.{unwrap_or}
+use denote.Ref.{Bor}
+use Rattle.std.proofs.lemmas.List.{map-append, take_all, take_more}
+use Rattle.serial_line.specs.StreamLine.{StreamState, new_stream}
+use Rattle.serial_line.specs.declared.stream_line.ZeroRead.TheVariants.{Ended}
+use Rattle.mux_frame.specs.declared.dlci.Dlci.{Dlci}
+use Rattle.at_text.specs.Rules.{Rules}
+use Rattle.modem_desk.specs.declared.settling.Settled.{Settled}
+use Rattle.ctl_text.specs.Writing.{IsBegun}
+use Rattle.modem_data.specs.PipeSets.{numbers}
+use Rattle.data_files.specs.Files.{FileState, FiledState, HasMoved, IsFresh, dlcis}
+use Rattle.data_files.specs.Moves.{HadTurns}
+use Rattle.modem_history.specs.Sessions.{LineView}
+use Rattle.mux_capture.specs.Passing.{CaptureState}
+use Rattle.ctl_drive.specs.Asking.{NamesRead}
+use Rattle.ctl_drive.specs.CapturedLine.{CapturedState, CapturesUnlessFailed, captured_line}
+use Rattle.ctl_drive.specs.DataDrive.{DroveData}
+use Rattle.ctl_drive.specs.DataDevice.{DroveFiles, DroveFilesCaptured, DroveFilesDevice, DroveFilesLine, EndsFilesByFault, EndsWith, IsFileOf, RanFiles, SaysFull, full_text, full_texts, opened_file, opened_files}
+use Rattle.ctl_drive.specs.FileEnds.{FileEnd, IsWritten, NamesEnds, SaysEnds, ends_texts}
+use Rattle.ctl_drive.specs.OnDevice.{SaysEnd, SaysFaultIf, capture_path, device_look, driven_status, end_status}
+use Rattle.ctl_drive.specs.Saying.{AreSaid, SaysFault, left_texts, path_for}
+use Rattle.ctl_drive.specs.declared.fault.DriveFault.{DriveFault}
+use Rattle.ctl_drive.specs.declared.running.Driven.{Driven}
+use Rattle.ctl_drive.specs.declared.settings.DataPath.{DataPath}
+use Rattle.ctl_drive.proofs.Asks.{names_nothing}
+use Rattle.ctl_drive.proofs.OnDevice.{by_status, capture_is}
+use Rattle.ctl_drive.proofs.Said.{said_last}
+
+-- ## Lists of paths
+
+maps_more : {A B : Type 0} (h : A → B) (xs : List A) (i : ℕ) (x : A) (ys : List B) → i < length xs → ys ≡ map h (take i xs)
+    → ys ++ h (slice_index_or xs i x) ∷ [] ≡ map h (take (i + 1) xs)
+maps_more h xs i x ys there e =
+    ap (λ (l : List _). l ++ h (slice_index_or xs i x) ∷ []) e
+    ∙ (sym (map-append h (take i xs) (slice_index_or xs i x ∷ [])) ∙ ap (λ (l : List _). map h l) (sym (take_more xs i x there)))
+
+pub dlcis_none : (data_paths : List DataPath) → [] ≡ map (λ p. p.dlci) (take 0 data_paths)
+dlcis_none data_paths = refl
+
+pub dlcis_more : (data_paths : List DataPath) (i : ℕ) (p : DataPath) (named : List Dlci) → i < length data_paths → named ≡ map (λ q. q.dlci) (take i data_paths)
+    → named ++ (slice_index_or data_paths i p).dlci ∷ [] ≡ map (λ q. q.dlci) (take (i + 1) data_paths)
+dlcis_more data_paths i p named there e = maps_more (λ (q : DataPath). q.dlci) data_paths i p named there e
+
+pub dlcis_all : (data_paths : List DataPath) (i : ℕ) (named : List Dlci) → length data_paths ≤ i → named ≡ map (λ q. q.dlci) (take i data_paths)
+    → named ≡ map (λ q. q.dlci) data_paths
+dlcis_all data_paths i named most e = e ∙ ap (λ (l : List DataPath). map (λ q. q.dlci) l) (take_all i data_paths most)
+
+pub files_none : (data_paths : List DataPath) → [] ≡ opened_files (take 0 data_paths)
+files_none data_paths = refl
+
+pub files_more : (data_paths : List DataPath) (i : ℕ) (p : DataPath) (before after : List (FileState StreamState)) (f : FileState StreamState) → i < length data_paths
+    → before ≡ opened_files (take i data_paths) → f ≡ opened_file (slice_index_or data_paths i p) → after ≡ before ++ f ∷ []
+    → after ≡ opened_files (take (i + 1) data_paths)
+files_more data_paths i p before after f there e is grew =
+    grew ∙ (ap (λ (x : FileState StreamState). before ++ x ∷ []) is ∙ maps_more (λ (q : DataPath). opened_file q) data_paths i p before there e)
+
+pub files_all : (data_paths : List DataPath) (i : ℕ) (files : List (FileState StreamState)) → length data_paths ≤ i → files ≡ opened_files (take i data_paths)
+    → files ≡ opened_files data_paths
+files_all data_paths i files most e = e ∙ ap opened_files (take_all i data_paths most)
+
+-- the files are those of the connections
+pub same_numbers : (data_paths : List DataPath) (named : List Dlci) (files : List (FileState StreamState)) → files ≡ opened_files data_paths
+    → named ≡ map (λ p. p.dlci) data_paths → dlcis files ≡ numbers named
+same_numbers data_paths named files e n = ap dlcis e ∙ (both data_paths ∙ ap numbers (sym n))
+  where
+    both : (ps : List DataPath) → dlcis (opened_files ps) ≡ numbers (map (λ p. p.dlci) ps)
+    both [] = refl
+    both (p ∷ ps) = ap (λ (ds : List ℕ). p.dlci.number ∷ ds) (both ps)
+
+pub all_fresh : (data_paths : List DataPath) (files : List (FileState StreamState)) → files ≡ opened_files data_paths
+    → All (IsFresh (λ (l : StreamState). l.received) (λ (l : StreamState). l.sent)) files
+all_fresh data_paths files e =
+    subst (λ (fs : List (FileState StreamState)). All (IsFresh (λ (l : StreamState). l.received) (λ (l : StreamState). l.sent)) fs) (sym e) (each data_paths)
+  where
+    each : (ps : List DataPath) → All (IsFresh (λ (l : StreamState). l.received) (λ (l : StreamState). l.sent)) (opened_files ps)
+    each [] i f there = absurd (omega (arith, there))
+    each (p ∷ ps) zero f there = record { none_came = refl; none_went = refl; none_waits = refl; none_read = refl }
+    each (p ∷ ps) (suc i) f there = each ps i f (omega (arith, there))
+
+-- ## What is said of lines and files
+
+pub names_only : (input silent said : Option (List ℕ)) → NamesRead input silent said → NamesEnds input silent said
+names_only input silent said h = record { named = said; names = h; ends = []; ends_said = AreSaid.said_none said }
+
+pub names_nothing_of : (input silent : Option (List ℕ)) → NamesEnds input silent silent
+names_nothing_of input silent = names_only input silent silent (names_nothing input silent)
+
+pub names_ends : (input silent named said : Option (List ℕ)) (ends : List FileEnd) → NamesRead input silent named → AreSaid named said (ends_texts ends) → NamesEnds input silent said
+names_ends input silent named said ends h k = record { named = named; names = h; ends = ends; ends_said = k }
+
+-- ## A drive
+
+pub drives_files : {X Y : Type 0} (look : X → LineView) (r s : X → List ℕ) (g t : Y → List ℕ) (e k : Y → ℕ) (rules : Rules) (text : List ℕ) (n1 : ℕ) (line last : X) (files : List (FileState Y))
+    (driven in_the_end : FiledState X Y) (input before after silent named said : Option (List ℕ)) (end : Option DriveFault) (was_bad : Bool) (left : Settled)
+    → DroveData look r s g t rules text n1 line files driven input before after silent named end was_bad left → end ≡ None → HadTurns r s g t e k driven in_the_end.files
+    → HasMoved r s g t in_the_end → All IsWritten in_the_end.files → in_the_end.line.line ≡ last → SaysEnds in_the_end.line.relay.pipes in_the_end.files named said
+    → DroveFiles look r s g t e k rules text n1 line last files input before after silent said was_bad left
+drives_files look r s g t e k rules text n1 line last files driven in_the_end input before after silent named said end was_bad left drove none turns moved written last_is ends = record {
+  driven = driven;
+  named = named;
+  drove = subst (λ (x : Option DriveFault). DroveData look r s g t rules text n1 line files driven input before after silent named x was_bad left) none drove;
+  in_the_end = in_the_end;
+  turns = turns;
+  moved = moved;
+  written = written;
+  last_is = last_is;
+  ends_said = ends;
+}
+
+pub files_captured : {X Y : Type 0} (look : X → LineView) (r s : X → List ℕ) (g t : Y → List ℕ) (e k : Y → ℕ) (rules : Rules) (text : List ℕ) (n1 : ℕ) (line : X) (first : CaptureState)
+    (wrapped last : CapturedState X) (files : List (FileState Y)) (input before after silent said : Option (List ℕ)) (end : Option DriveFault) (was_bad : Bool) (left : Settled) (failed : Bool)
+    → (end ≡ None → DroveFiles (λ (l : CapturedState X). look l.line) (λ (l : CapturedState X). r l.line) (λ (l : CapturedState X). s l.line) g t e k rules text n1 wrapped last files input before after silent said was_bad left)
+    → wrapped ≡ captured_line line first → (end ≡ None) × (failed ≡ false) → failed ≡ last.capture.failed → CapturesUnlessFailed (r last.line) (s last.line) last.capture
+    → DroveFilesCaptured look r s g t e k rules text n1 line files input before after silent said was_bad left
+files_captured {X} look r s g t e k rules text n1 line first wrapped last files input before after silent said end was_bad left failed drove same both failed_is captures = record {
+  first = first;
+  last = last;
+  drove =
+      subst
+      (λ (x : CapturedState X). DroveFiles (λ (l : CapturedState X). look l.line) (λ (l : CapturedState X). r l.line) (λ (l : CapturedState X). s l.line) g t e k rules text n1 x last files input before after silent said was_bad left)
+      same (drove both.0);
+  captures = captures (sym failed_is ∙ both.1);
+}
+
+-- ## Threads that have more to write
+
+pub full_none : (a : Option (List ℕ)) → SaysFull true a a
+full_none a = record { full = []; said = AreSaid.said_none a; none = (λ q. refl, λ q. refl) }
+
+not_none : (ds : List ℕ) (d : ℕ) → ds ++ d ∷ [] ≡ [] → ⊥
+not_none [] d q = cc
+not_none (x ∷ ds) d q = cc
+
+-- one more has more to write
+pub full_more : (before all : Bool) (a b c x : Option (List ℕ)) (d : ℕ) → SaysFull before a b → IsBegun b c (full_text d) → all ≡ false → x ≡ c
+    → SaysFull all a x
+full_more before all a b c x d h begun not_all same = record {
+  full = h.full ++ d ∷ [];
+  said = subst (λ (z : Option (List ℕ)). AreSaid a z (full_texts (h.full ++ d ∷ []))) (sym same)
+      (subst (λ (ts : List (List ℕ)). AreSaid a c ts) (sym (map-append full_text h.full (d ∷ []))) (said_last a b c (full_texts h.full) (full_text d) h.said begun));
+  none = (λ q. absurd (true≢false (sym q ∙ not_all)), λ q. absurd (not_none h.full d q));
+}
+
+-- this one is through
+pub full_same : (before all : Bool) (a b x : Option (List ℕ)) → SaysFull before a b → all ≡ before → x ≡ b → SaysFull all a x
+full_same before all a b x h same none =
+    subst (λ (y : Bool × Option (List ℕ)). SaysFull y.0 a y.1) (λ i. (sym same i, sym none i)) h
+
+-- ## The status
+
+none_said : (a c : Option (List ℕ)) (full : List ℕ) → full ≡ [] → AreSaid a c (full_texts full) → c ≡ a
+none_said a c [] q (AreSaid.said_none _) = refl
+none_said a c (d ∷ full) q said = cc
+
+none_full : (b : Bool) (a c : Option (List ℕ)) → SaysFull b a c → b ≡ true → c ≡ a
+none_full b a c h e = none_said a c h.full (h.none.0 e) h.said
+
+-- it ended without a fault
+pub ran_files : (device capture : List ℕ) (b : Bool) (rules : Rules) (text : List ℕ) (n1 : ℕ) (files : List (FileState StreamState))
+    (before after silent ended filled said : Option (List ℕ)) (r last : Result Driven DriveFault) (is_written : Bool) (n : ℕ)
+    → IfOk r (λ d. d.fault ≡ None → DroveFilesDevice b rules text n1 files before after silent ended d.was_bad d.left) → SaysFull is_written ended filled
+    → EndsWith is_written r last → SaysEnd device capture last filled said → n ≡ end_status last → n ≢ 1
+    → RanFiles b rules text n1 files before after silent said (n == 2)
+ran_files device capture b rules text n1 files before after silent ended filled said (Err why) (Err w) is_written n h full ends s is other = absurd (other is)
+ran_files device capture b rules text n1 files before after silent ended filled said (Err why) (Ok d) is_written n h full ends s is other = cc
+ran_files device capture b rules text n1 files before after silent ended filled said (Ok d) (Err w) is_written n h full ends s is other = absurd (other is)
+ran_files device capture b rules text n1 files before after silent ended filled said (Ok d) (Ok x) is_written n h full ends s is other =
+    let by = by_status x.fault x.was_bad n is other in
+    let whole = ends.2 by.0 in
+    let no_more : SaysFaultIf device capture None s.between said = subst (λ (e : Option DriveFault). SaysFaultIf device capture e s.between said) by.0 s.why in
+    let same : filled ≡ ended = none_full is_written ended filled full whole.1 in
+    let left : AreSaid ended said (left_texts (length d.left.left.items)) =
+    subst (λ (y : Option (List ℕ) × Settled). AreSaid y.0 said (left_texts (length y.1.left.items))) (λ i. (same i, ends.1 i))
+    (subst (λ (w : Option (List ℕ)). AreSaid filled w (left_texts (length x.left.left.items))) (sym no_more) s.left) in
+    record {
+      left = d.left;
+      ended = ended;
+      drove = subst (λ (w : Bool). DroveFilesDevice b rules text n1 files before after silent ended w d.left) (sym (by.1 ∙ ends.0)) (h whole.0);
+      left_said = left;
+    }
+
+-- it ended by a fault, which was said
+pub files_said : (device capture : List ℕ) (data_paths : List DataPath) (silent ended filled said : Option (List ℕ)) (is_written : Bool)
+    → NamesEnds None silent ended → SaysFull is_written ended filled → (left : ℕ) (between : Option (List ℕ)) → AreSaid filled between (left_texts left)
+    → (why : DriveFault) → SaysFault (path_for device capture why) why between said → EndsFilesByFault device capture data_paths silent said
+files_said device capture data_paths silent ended filled said is_written names full left between left_said why fault = record {
+  named = names.named;
+  names = names.names;
+  ends = names.ends;
+  ended = ended;
+  ends_said = names.ends_said;
+  full = full.full;
+  filled = filled;
+  full_said = full.said;
+  left = left;
+  between = between;
+  left_said = left_said;
+  at = device;
+  at_is = inl refl;
+  why = why;
+  fault = fault;
+}
+
+files_driven : (device capture : List ℕ) (data_paths : List DataPath) (silent ended filled said between : Option (List ℕ)) (is_written : Bool)
+    → NamesEnds None silent ended → SaysFull is_written ended filled → (left : ℕ) → AreSaid filled between (left_texts left)
+    → (end : Option DriveFault) (was_bad : Bool) (n : ℕ) → SaysFaultIf device capture end between said → n ≡ driven_status end was_bad → n ≡ 1
+    → EndsFilesByFault device capture data_paths silent said
+files_driven device capture data_paths silent ended filled said between is_written names full left left_said (Some why) was_bad n fault is one =
+    files_said device capture data_paths silent ended filled said is_written names full left between left_said why fault
+files_driven device capture data_paths silent ended filled said between is_written names full left left_said None true n fault is one = absurd (omega (arith, is, one))
+files_driven device capture data_paths silent ended filled said between is_written names full left left_said None false n fault is one = absurd (omega (arith, is, one))
+
+pub files_badly : (device capture : List ℕ) (data_paths : List DataPath) (silent ended filled said : Option (List ℕ)) (last : Result Driven DriveFault) (is_written : Bool) (n : ℕ)
+    → NamesEnds None silent ended → SaysFull is_written ended filled → SaysEnd device capture last filled said → n ≡ end_status last → n ≡ 1
+    → EndsFilesByFault device capture data_paths silent said
+files_badly device capture data_paths silent ended filled said (Err why) is_written n names full s is one =
+    files_said device capture data_paths silent ended filled said is_written names full 0 filled (AreSaid.said_none filled) why s
+files_badly device capture data_paths silent ended filled said (Ok d) is_written n names full s is one =
+    files_driven device capture data_paths silent ended filled said s.between is_written names full (length d.left.left.items) s.left d.fault d.was_bad n s.why is one
+
+-- it was refused before anything was read, and the path is that of the device or of a file
+pub files_refused : (device capture at : List ℕ) (data_paths : List DataPath) (silent said : Option (List ℕ)) (why : DriveFault) → (at ≡ device) ⊎ IsFileOf data_paths at
+    → SaysFault (path_for at capture why) why silent said → EndsFilesByFault device capture data_paths silent said
+files_refused device capture at data_paths silent said why is fault = record {
+  named = silent;
+  names = names_nothing None silent;
+  ends = [];
+  ended = silent;
+  ends_said = AreSaid.said_none silent;
+  full = [];
+  filled = silent;
+  full_said = AreSaid.said_none silent;
+  left = 0;
+  between = silent;
+  left_said = AreSaid.said_none silent;
+  at = at;
+  at_is = is;
+  why = why;
+  fault = fault;
+}
+
+-- with the path of the capture, where the settings name one
+pub by_capture : (device capture path : List ℕ) (data_paths : List DataPath) (silent said : Option (List ℕ)) → path ≡ capture → EndsFilesByFault device path data_paths silent said
+    → EndsFilesByFault device capture data_paths silent said
+by_capture device capture path data_paths silent said is h = subst (λ (p : List ℕ). EndsFilesByFault device p data_paths silent said) is h
+
+-- a line between two rings was driven with files between rings
+pub drove_files_device : (b c : Bool) (rules : Rules) (text : List ℕ) (n1 : ℕ) (line : StreamState) (files opened : List (FileState StreamState)) (before after silent said : Option (List ℕ)) (r : Result Driven DriveFault)
+    → b ≡ c → line ≡ new_stream None None Ended → files ≡ opened
+    → IfOk r
+    (λ d. d.fault ≡ None
+    → DroveFilesLine b device_look (λ (l : StreamState). l.received) (λ (l : StreamState). l.sent) (λ (l : StreamState). l.received) (λ (l : StreamState). l.sent) (λ (l : StreamState). l.empty_reads) (λ (l : StreamState). l.stalled_writes) rules text n1 line files None before after silent said d.was_bad d.left)
+    → IfOk r (λ d. d.fault ≡ None → DroveFilesDevice c rules text n1 opened before after silent said d.was_bad d.left)
+drove_files_device b c rules text n1 line files opened before after silent said r same is are h =
+    subst
+    (λ (x : Bool × StreamState × List (FileState StreamState)). IfOk r
+    (λ d. d.fault ≡ None
+    → DroveFilesLine x.0 device_look (λ (l : StreamState). l.received) (λ (l : StreamState). l.sent) (λ (l : StreamState). l.received) (λ (l : StreamState). l.sent) (λ (l : StreamState). l.empty_reads) (λ (l : StreamState). l.stalled_writes) rules text n1 x.1 x.2 None before after silent said d.was_bad d.left))
+    (λ i. (same i, is i, are i)) h
+
+pub capture_of : (given : Option (Bor (List ℕ))) (other path : Bor (List ℕ)) → path ≡ unwrap_or given other → other.now ≡ [] → path.now ≡ capture_path given
+capture_of given other path is none = ap (λ (b : Bor (List ℕ)). b.now) is ∙ capture_is given other none

@@ -1,0 +1,116 @@
+//! A simulated modem in the multiplexer, whose octets are handed in and out.
+ghost use Rattle.std.specs.Prelude.{◌≡◌, ◌&&◌, ◌||◌, [], not, true, false, IfErr, IfOk, List};
+ghost use Rattle.modem_sim.specs.Acts.{Act, End, is_open_at_modem};
+ghost use Rattle.modem_sim.specs.Sims.{SimGoes, has_ended};
+ghost use Rattle.ctl_sim.specs.HeldLine.{at_first, held_side, sent_by};
+ghost use Rattle.ctl_sim.specs.InMux.{mux_end};
+ghost use Rattle.ctl_sim.specs.Leaving.{IsOfModem};
+ghost use Rattle.ctl_sim.specs.Muxes.{ComesToRest, FitsHeld, FitsMux, IsFed};
+
+use crate::fault::ServeFault;
+use crate::held_line::HeldLine;
+use modem_sim::{Modem, Script, Sim, SimTurn};
+use mux_frame::{Dlci, N1};
+use mux_station::ChannelState;
+use std::alloc::{AllocError, Global};
+
+/// A simulated modem to which nothing has happened yet, at a line in memory.
+pub(crate) fn begun(
+    alloc: Global,
+    modem: Modem,
+    script: Script,
+    n1: N1,
+) -> Result<Sim<HeldLine>, AllocError>
+    ensures { IfOk result (λ s. script.echo ≡ false → FitsMux (mux_end n1.octets modem script.steps) [] [] s []) }
+{
+    match Sim::new(alloc, HeldLine::new(alloc), modem, script, n1.octets) {
+        Ok(sim) => Ok(sim),
+        Err(_) => Err(AllocError),
+    }
+}
+
+/// What a turn came to.
+#[derive(Clone, Copy)]
+enum Turned {
+    /// Something was done.
+    Moves,
+    /// All is read and done, and all is written.
+    Rests,
+    /// It has closed down.
+    Ends,
+}
+
+/// One turn.
+fn turn(sim: &mut Sim<HeldLine>) -> Result<Turned, AllocError>
+    ensures goes { SimGoes (λ l. l.received) sent_by sim.old sim.new }
+    ensures side { held_side sim.new.line ≡ held_side sim.old.line }
+    ensures rests { IfOk result (λ turned. turned ≡ Turned.Rests → ComesToRest sim.old sim.new) }
+    ensures ends { IfOk result (λ turned. turned ≡ Turned.Ends → has_ended sim.new ≡ true) }
+{
+    match sim.turn() {
+        Ok(SimTurn::Moved) => Ok(Turned::Moves),
+        Ok(SimTurn::Ended) => Ok(Turned::Ends),
+        Ok(SimTurn::Idle) => {
+            if !sim.unwritten().is_empty() {
+                Err(AllocError)
+            } else if sim.line().is_read() {
+                Ok(Turned::Rests)
+            } else {
+                Ok(Turned::Moves)
+            }
+        }
+        Err(_) => Err(AllocError),
+    }
+}
+
+/// Turns until it has closed down (true), or is at rest (false).
+fn settle(sim: &mut Sim<HeldLine>) -> Result<bool, ServeFault>
+    ensures goes { SimGoes (λ l. l.received) sent_by sim.old sim.new }
+    ensures side { held_side sim.new.line ≡ held_side sim.old.line }
+    ensures rests { IfOk result (λ ended. ended ≡ false → ComesToRest sim.old sim.new) }
+    ensures ends { IfOk result (λ ended. ended ≡ true → has_ended sim.new ≡ true) }
+    ensures fault { IfErr result IsOfModem }
+{
+    for _ in 0..u64::MAX {
+        match turn(sim)? {
+            Turned::Moves => {}
+            Turned::Rests => return Ok(false),
+            Turned::Ends => return Ok(true),
+        }
+    }
+    Err(ServeFault::EndlessModem)
+}
+
+/// Whether 0 is open at its end.
+fn is_up(sim: &Sim<HeldLine>) -> bool
+    ensures { (e : End) (past : List Act) → FitsHeld e sim.now past → result ≡ is_open_at_modem 0 past }
+{
+    match sim.state(Dlci::CONTROL) {
+        ChannelState::Opened => true,
+        _ => false,
+    }
+}
+
+/// Whether it has closed down, or 0 was open and isn't any more.
+fn is_over(ended: bool, was_up: bool, up: bool) -> bool
+    ensures { result ≡ (ended || (was_up && not up)) }
+{
+    ended || (was_up && !up)
+}
+
+/// Takes octets, does all that can be done, and writes what is sent behind the octets in `out`. Says whether the multiplexer was
+/// closed down: 0 was open and isn't any more, or a CLD was answered.
+pub(crate) fn feed(
+    sim: &mut Sim<HeldLine>,
+    piece: &[u8],
+    out: &mut Vec<u8>,
+) -> Result<bool, ServeFault>
+    ensures fed { IfOk result (λ over. IsFed sim.old sim.new piece.now out.old.items out.new.items over) }
+    ensures fault { IfErr result IsOfModem }
+{
+    let was_up = is_up(sim);
+    sim.line_mut().put(piece)?;
+    let ended = settle(sim)?;
+    sim.line_mut().take(out)?;
+    Ok(is_over(ended, was_up, is_up(sim)))
+}

@@ -1,6 +1,0 @@
-use Rattle.std.proofs.Common.{◌≡◌, map}
-use Rattle.modem_desk.specs.Ends.{place_of}
-use Rattle.modem_play.proofs.desks.submit_all.Given as goal
-
-abbrev pub invariant-loop-place : goal.invariant-loop-place
-invariant-loop-place g l = map place_of l.callers.items ≡ map place_of l.initial.callers.items

@@ -1,6 +1,0 @@
-use Rattle.std.specs.Prelude.{refl}
-use Rattle.modem_runs.proofs.inputs.Dumps.{word_cut}
-use Rattle.modem_runs.proofs.dump.next_word.Goals as goal
-
-pub returns-clause-cut : goal.returns-clause-cut
-returns-clause-cut c = word_cut _ _ _ _ _ c.split_once.ensures refl refl c.unwrap_or.ensures

@@ -1,9 +1,0 @@
-use Rattle.std.specs.Prelude.{◌≡◌, Some, length}
-use Rattle.modem_runs.specs.Dump.{joined, line_octets}
-use Rattle.modem_runs.proofs.dump.push_pairs.Given as goal
-
-abbrev pub invariant-loop-left : goal.invariant-loop-left
-invariant-loop-left l = joined (Some l.octets.items) (line_octets l.left) ≡ joined (Some l.initial.octets.items) (line_octets l.line)
-
-abbrev pub decreases-loop-left : goal.decreases-loop-left
-decreases-loop-left l = length l.left

@@ -1,8 +1,0 @@
-use Rattle.std.specs.Prelude.{refl}
-use Rattle.modem_texts.proofs.FirstWords.{word_cut}
-use Rattle.modem_texts.proofs.lines.first_word.Goals as goal
-
-pub returns : goal.returns
-returns c =
-    let cut = word_cut _ _ _ _ _ c.split_once.ensures refl refl c.unwrap_or.ensures in
-    record { word = cut.0; behind = cut.1 }
