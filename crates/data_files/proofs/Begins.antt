@@ -3,8 +3,9 @@ use Rattle.std.specs.Prelude.{◌≡◌, ℕ, ◌==◌, ◌<◌, ◌+◌, Bool, 
 use Rattle.std.proofs.Common.{ap, sym, ◌∙◌, subst}
 use Rattle.std.proofs.lemmas.List.{append-nil, take_more}
 use Rattle.std.proofs.lemmas.List.Elements.{All-weaker}
+use Rattle.mux_station.specs.declared.role.Role.{Role}
 use Rattle.modem_data.specs.Passing.{Began, data_read, given}
-use Rattle.modem_data.specs.Hops.{BeginsRelay, Hop, Hops, Passed, Relay, passes}
+use Rattle.modem_data.specs.Hops.{BeginsAs, Hop, Hops, Passed, Relay, passes}
 use Rattle.modem_data_line.specs.DataLines.{Before, DataLineState, LineFits, new_data_line}
 use Rattle.modem_data_line.specs.LineLaws.{before_of}
 use Rattle.data_files.specs.Files.{BeginsFiled, FileFits, FileState, HasMoved, IsFresh, begun, dlcis}
@@ -12,7 +13,7 @@ use Rattle.data_files.specs.Moves.{HasBegunTo}
 use Rattle.data_files.proofs.FileSteps.{lane_leads}
 
 pub begins_none : {X Y : Type 0} (r s : X → List ℕ) (files : List (FileState Y)) (v : DataLineState X) → HasBegunTo r s (take 0 files) v v
-begins_none r s files v = record { leads = λ n1 ds b past h. h; same = refl }
+begins_none r s files v = record { leads = λ role n1 ds b past h. h; same = refl }
 
 begun_one : {Y : Type 0} (files : List (FileState Y)) (f : FileState Y) (past : List Hop)
     → begun (files ++ f ∷ []) past ≡ Passed (Began f.dlci f.how f.until) ∷ begun files past
@@ -24,9 +25,9 @@ pub begins_more : {X Y : Type 0} (r s : X → List ℕ) (files : List (FileState
     → Hops v.relay w.relay (Passed (Began (slice_index_or files i f).dlci (slice_index_or files i f).how (slice_index_or files i f).until)) → w ≡ record v { relay = w.relay }
     → HasBegunTo r s (take (i + 1) files) u w
 begins_more r s files i f u v w there h hops e = record {
-  leads = λ n1 ds b past x. subst (λ (hs : List Hop). LineFits r s n1 ds b w hs)
+  leads = λ role n1 ds b past x. subst (λ (hs : List Hop). LineFits r s role n1 ds b w hs)
       (sym (ap (λ (fs : List (FileState _)). begun fs past) (take_more files i f there) ∙ begun_one (take i files) (slice_index_or files i f) past))
-      (lane_leads r s v w (Began (slice_index_or files i f).dlci (slice_index_or files i f).how (slice_index_or files i f).until) hops e n1 ds b (begun (take i files) past) (h.leads n1 ds b past x));
+      (lane_leads r s v w (Began (slice_index_or files i f).dlci (slice_index_or files i f).how (slice_index_or files i f).until) hops e role n1 ds b (begun (take i files) past) (h.leads role n1 ds b past x));
   same = e ∙ ap (λ (x : DataLineState _). record x { relay = w.relay }) h.same;
 }
 
@@ -50,10 +51,10 @@ fresh_fits g t files f h = record {
   read_are = none_read f.dlci files [] refl ∙ (sym h.none_read ∙ ap (λ (xs : List ℕ). xs ++ f.unwritten) (sym h.none_went));
 }
 
-first_fits : {X : Type 0} (r s : X → List ℕ) (n1 : ℕ) (ds : List ℕ) (line : X) (relay : Relay) → BeginsRelay n1 ds relay
-    → LineFits r s n1 ds (before_of r s line) (new_data_line line relay) []
-unfolding BeginsRelay
-first_fits r s n1 ds line relay h = record {
+first_fits : {X : Type 0} (r s : X → List ℕ) (role : Role) (n1 : ℕ) (ds : List ℕ) (line : X) (relay : Relay) → BeginsAs role n1 ds relay
+    → LineFits r s role n1 ds (before_of r s line) (new_data_line line relay) []
+unfolding BeginsAs
+first_fits r s role n1 ds line relay h = record {
   relay_fits = h;
   came = sym (append-nil (r line));
   went = sym (append-nil (s line));
@@ -61,23 +62,29 @@ first_fits r s n1 ds line relay h = record {
   sent_are = refl;
 }
 
-pub begins_filed : {X Y : Type 0} (r s : X → List ℕ) (line : X) (relay : Relay) (n1 : ℕ) (files : List (FileState Y)) (x : DataLineState X) (b : Before)
-    → BeginsRelay n1 (dlcis files) relay → HasBegunTo r s files (new_data_line line relay) x → b ≡ before_of r s line
-    → BeginsFiled r s line relay n1 files (record { line = x; files = files; n1 = n1; before = b })
-begins_filed r s line relay n1 files x b begins h e = record {
+-- a relay that began as this end of the line is that end
+began_role : (role : Role) (n1 : ℕ) (ds : List ℕ) (relay : Relay) → BeginsAs role n1 ds relay → role ≡ relay.pipes.role
+unfolding BeginsAs
+began_role role n1 ds relay h = sym h.pipes_fit.role_is
+
+pub begins_filed : {X Y : Type 0} (r s : X → List ℕ) (line : X) (relay : Relay) (role : Role) (n1 : ℕ) (files : List (FileState Y)) (x : DataLineState X) (b : Before)
+    → BeginsAs role n1 (dlcis files) relay → HasBegunTo r s files (new_data_line line relay) x → b ≡ before_of r s line
+    → BeginsFiled r s line relay n1 files (record { line = x; files = files; role = role; n1 = n1; before = b })
+begins_filed r s line relay role n1 files x b begins h e = record {
   files_are = refl;
+  role_is = began_role role n1 (dlcis files) relay begins;
   n1_is = refl;
   before_is = e;
   line_is = h.same;
-  fits = subst (λ (c : Before). LineFits r s n1 (dlcis files) c x (begun files [])) (sym e)
-      (h.leads n1 (dlcis files) (before_of r s line) [] (first_fits r s n1 (dlcis files) line relay begins));
+  fits = subst (λ (c : Before). LineFits r s role n1 (dlcis files) c x (begun files [])) (sym e)
+      (h.leads role n1 (dlcis files) (before_of r s line) [] (first_fits r s role n1 (dlcis files) line relay begins));
 }
 
-pub has_begun : {X Y : Type 0} (r s : X → List ℕ) (g t : Y → List ℕ) (line : X) (relay : Relay) (n1 : ℕ) (files : List (FileState Y)) (x : DataLineState X) (b : Before)
-    → BeginsRelay n1 (dlcis files) relay → HasBegunTo r s files (new_data_line line relay) x → b ≡ before_of r s line → All (IsFresh g t) files
-    → HasMoved r s g t (record { line = x; files = files; n1 = n1; before = b })
-has_begun r s g t line relay n1 files x b begins h e fresh = record {
+pub has_begun : {X Y : Type 0} (r s : X → List ℕ) (g t : Y → List ℕ) (line : X) (relay : Relay) (role : Role) (n1 : ℕ) (files : List (FileState Y)) (x : DataLineState X) (b : Before)
+    → BeginsAs role n1 (dlcis files) relay → HasBegunTo r s files (new_data_line line relay) x → b ≡ before_of r s line → All (IsFresh g t) files
+    → HasMoved r s g t (record { line = x; files = files; role = role; n1 = n1; before = b })
+has_begun r s g t line relay role n1 files x b begins h e fresh = record {
   past = begun files [];
-  fits = (begins_filed r s line relay n1 files x b begins h e).fits;
+  fits = (begins_filed r s line relay role n1 files x b begins h e).fits;
   files = All-weaker (IsFresh g t) (FileFits g t (passes (begun files []))) (fresh_fits g t files) files fresh;
 }

@@ -4,6 +4,7 @@ use Rattle.std.specs.List.{list_all}
 use Rattle.std.proofs.Common.{ap, arith, sym, ◌∙◌, subst, inl, inr, true≢false}
 use Rattle.std.proofs.lemmas.Bool.{and_from, eq-eqb}
 use Rattle.std.proofs.lemmas.List.{append_assoc, append-nil, length-append}
+use Rattle.mux_station.specs.declared.role.Role.{Role}
 use Rattle.serial_line.specs.Counts.{one_more, counted_if_none}
 use Rattle.modem_data.specs.Passing.{Pass, Gave, Read, given}
 use Rattle.serial_line.specs.declared.line.LineFault.{LineFault}
@@ -19,10 +20,10 @@ same_dlci d = eq-eqb d d refl
 
 -- a call of the lanes is one hop of the line
 pub lane_leads : {X : Type 0} (r s : X → List ℕ) (v w : DataLineState X) (a : Pass) → Hops v.relay w.relay (Passed a) → w ≡ record v { relay = w.relay }
-    → (n1 : ℕ) (ds : List ℕ) (b : Before) (past : List Hop) → LineFits r s n1 ds b v past → LineFits r s n1 ds b w (Passed a ∷ past)
+    → (role : Role) (n1 : ℕ) (ds : List ℕ) (b : Before) (past : List Hop) → LineFits r s role n1 ds b v past → LineFits r s role n1 ds b w (Passed a ∷ past)
 unfolding Hops
-lane_leads r s v w a hops e n1 ds b past h = subst (λ (x : DataLineState _). LineFits r s n1 ds b x (Passed a ∷ past)) (sym e) (record {
-  relay_fits = hops n1 ds past h.relay_fits;
+lane_leads r s v w a hops e role n1 ds b past h = subst (λ (x : DataLineState _). LineFits r s role n1 ds b x (Passed a ∷ past)) (sym e) (record {
+  relay_fits = hops role n1 ds past h.relay_fits;
   came = h.came;
   went = h.went;
   read_are = h.read_are;
@@ -32,18 +33,18 @@ lane_leads r s v w a hops e n1 ds b past h = subst (λ (x : DataLineState _). Li
 -- ## One behind the other
 
 pub moves_none : {X Y : Type 0} (r s : X → List ℕ) (g t : Y → List ℕ) (v : DataLineState X) (f : FileState Y) → FileMoves r s g t v v f f
-moves_none r s g t v f = record { hops = []; only = refl; leads = λ n1 ds b past h. h; dlci_is = refl; fits = λ past h. h }
+moves_none r s g t v f = record { hops = []; only = refl; leads = λ role n1 ds b past h. h; dlci_is = refl; fits = λ past h. h }
 
 pub moves_file : {X Y : Type 0} (r s : X → List ℕ) (g t : Y → List ℕ) (v : DataLineState X) (f h : FileState Y) → h.dlci ≡ f.dlci
     → ((past : List Pass) → FileFits g t past f → FileFits g t past h) → FileMoves r s g t v v f h
-moves_file r s g t v f h e fits = record { hops = []; only = refl; leads = λ n1 ds b past k. k; dlci_is = e; fits = fits }
+moves_file r s g t v f h e fits = record { hops = []; only = refl; leads = λ role n1 ds b past k. k; dlci_is = e; fits = fits }
 
 pub moves_then : {X Y : Type 0} (r s : X → List ℕ) (g t : Y → List ℕ) (u v w : DataLineState X) (f h k : FileState Y)
     → FileMoves r s g t u v f h → FileMoves r s g t v w h k → FileMoves r s g t u w f k
 moves_then r s g t u v w f h k one two = record {
   hops = two.hops ++ one.hops;
   only = all_both (is_of_file f.dlci) two.hops one.hops (subst (λ (d : ℕ). list_all (is_of_file d) two.hops ≡ true) one.dlci_is two.only) one.only;
-  leads = λ n1 ds b past x. subst (λ (hs : List Hop). LineFits r s n1 ds b w hs) (sym (append_assoc two.hops one.hops past)) (two.leads n1 ds b (one.hops ++ past) (one.leads n1 ds b past x));
+  leads = λ role n1 ds b past x. subst (λ (hs : List Hop). LineFits r s role n1 ds b w hs) (sym (append_assoc two.hops one.hops past)) (two.leads role n1 ds b (one.hops ++ past) (one.leads role n1 ds b past x));
   dlci_is = two.dlci_is ∙ one.dlci_is;
   fits = λ past x. subst (λ (ps : List Pass). FileFits g t ps k) (sym (ap (λ (ps : List Pass). ps ++ past) (passes_both two.hops one.hops) ∙ append_assoc (passes two.hops) (passes one.hops) past)) (two.fits (passes one.hops ++ past) (one.fits past x));
 }

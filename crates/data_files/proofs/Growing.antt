@@ -3,6 +3,7 @@ use Rattle.std.specs.Prelude.{◌≡◌, ◌≢◌, ◌==◌, ◌&&◌, ℕ, ◌
 use Rattle.std.proofs.Common.{ap, arith, inl, inr, sym, subst, ◌∙◌}
 use Rattle.std.proofs.lemmas.Bool.{lt-ltb}
 use Rattle.std.proofs.lemmas.List.{length-append, length-drop}
+use Rattle.mux_station.specs.declared.role.Role.{Role}
 use Rattle.serial_line.specs.Counts.{one_more, counted_if_none}
 use Rattle.serial_line.specs.declared.line.LineFault.{LineFault}
 use Rattle.modem_data.specs.declared.error.DataError.{DataError}
@@ -149,13 +150,13 @@ grows_then g t e s f h k one two = record {
 -- ## What waits to be read stays where octets are given
 
 pub unread_same : {X : Type 0} (r s : X → List ℕ) (v w : DataLineState X) (d : ℕ) → w ≡ v → KeepsUnread r s v w d
-unread_same r s v w d e = λ n1 ds b past h. record { behind = past; fits = subst (λ (x : DataLineState _). LineFits r s n1 ds b x past) (sym e) h; same = refl }
+unread_same r s v w d e = λ role n1 ds b past h. record { behind = past; fits = subst (λ (x : DataLineState _). LineFits r s role n1 ds b x past) (sym e) h; same = refl }
 
 pub unread_given : {X : Type 0} (r s : X → List ℕ) (v w : DataLineState X) (d : ℕ) (before after : List ℕ) → GaveFirst v.relay w.relay d before after
     → w ≡ record v { relay = w.relay } → KeepsUnread r s v w d
-unread_given r s v w d before after h e = λ n1 ds b past x. record {
+unread_given r s v w d before after h e = λ role n1 ds b past x. record {
   behind = Passed (Gave d h.octets) ∷ past;
-  fits = lane_leads r s v w (Gave d h.octets) h.gave e n1 ds b past x;
+  fits = lane_leads r s v w (Gave d h.octets) h.gave e role n1 ds b past x;
   same = refl;
 }
 
@@ -170,25 +171,25 @@ some_length : (xs : List ℕ) → xs ≢ [] → 0 < length xs
 some_length [] some = absurd (some refl)
 some_length (x ∷ xs) some = omega arith
 
-gave_some : {X : Type 0} (r s : X → List ℕ) (n1 : ℕ) (ds : List ℕ) (b : Before) (v : DataLineState X) (past : List Hop) (d : ℕ) (before after : List ℕ)
-    → LineFits r s n1 ds b v past → HasRoom d (passes past) → (NoneOf ds d → ⊥) → before ≢ [] → GivesOn v.relay.pipes d before after → length after < length before
+gave_some : {X : Type 0} (r s : X → List ℕ) (role : Role) (n1 : ℕ) (ds : List ℕ) (b : Before) (v : DataLineState X) (past : List Hop) (d : ℕ) (before after : List ℕ)
+    → LineFits r s role n1 ds b v past → HasRoom role d (passes past) → (NoneOf ds d → ⊥) → before ≢ [] → GivesOn v.relay.pipes d before after → length after < length before
 unfolding OfEachPast IsNotData
-gave_some r s n1 ds b v past d before after fits room among some (inl none) = absurd (among (none n1 ds (passes past) fits.relay_fits.pipes_fit))
-gave_some r s n1 ds b v past d before after fits room among some (inr on) =
+gave_some r s role n1 ds b v past d before after fits room among some (inl none) = absurd (among (none role n1 ds (passes past) fits.relay_fits.pipes_fit))
+gave_some r s role n1 ds b v past d before after fits room among some (inr on) =
     let rest : after ≡ drop (min (length before) (most_to_go - to_go d (passes past))) before =
-    on n1 ds (passes past) fits.relay_fits.pipes_fit room.takes room.open_there in
+    on role n1 ds (passes past) fits.relay_fits.pipes_fit room.takes room.open_there in
     let long : length after ≡ length before - min (length before) (most_to_go - to_go d (passes past)) =
     ap length rest ∙ length-drop (min (length before) (most_to_go - to_go d (passes past))) before in
     let there = some_length before some in
     let space = room.room in
     omega (arith, long, there, space)
 
-read_some : {X : Type 0} (r s : X → List ℕ) (n1 : ℕ) (ds : List ℕ) (b : Before) (v : DataLineState X) (past : List Hop) (d : ℕ) (octets : List ℕ)
-    → LineFits r s n1 ds b v past → (NoneOf ds d → ⊥) → 0 < unread d (passes past) → ReadsOn v.relay.pipes d octets → 0 < length octets
+read_some : {X : Type 0} (r s : X → List ℕ) (role : Role) (n1 : ℕ) (ds : List ℕ) (b : Before) (v : DataLineState X) (past : List Hop) (d : ℕ) (octets : List ℕ)
+    → LineFits r s role n1 ds b v past → (NoneOf ds d → ⊥) → 0 < unread role d (passes past) → ReadsOn v.relay.pipes d octets → 0 < length octets
 unfolding OfEachPast IsNotData IsUnread
-read_some r s n1 ds b v past d octets fits among some (inl none) = absurd (among (none n1 ds (passes past) fits.relay_fits.pipes_fit))
-read_some r s n1 ds b v past d octets fits among some (inr count) =
-    let long = count n1 ds (passes past) fits.relay_fits.pipes_fit in
+read_some r s role n1 ds b v past d octets fits among some (inl none) = absurd (among (none role n1 ds (passes past) fits.relay_fits.pipes_fit))
+read_some r s role n1 ds b v past d octets fits among some (inr count) =
+    let long = count role n1 ds (passes past) fits.relay_fits.pipes_fit in
     omega (arith, long, some)
 
 pub asked_later : {Y : Type 0} (g t : Y → List ℕ) (e s : Y → ℕ) (f h k : FileState Y) → IsAskedFile g e f h → FileGrows g t e s h k → IsAskedFile g e f k
@@ -224,25 +225,25 @@ pub record Steps {X Y : Type 0} (r s : X → List ℕ) (g t : Y → List ℕ) (e
   pub h_grows : FileGrows g t e k c h
 
 pub had_turn : {X Y : Type 0} (r s : X → List ℕ) (g t : Y → List ℕ) (e k : Y → ℕ) (u v : DataLineState X) (f a b c h : FileState Y)
-    → Steps r s g t e k u v f a b c h → (n1 : ℕ) (ds : List ℕ) (p : Before) → (NoneOf ds f.dlci → ⊥) → HadTurn r s g t e k n1 ds p u f h
-had_turn r s g t e k u v f a b c h x n1 ds p among = record {
+    → Steps r s g t e k u v f a b c h → (role : Role) (n1 : ℕ) (ds : List ℕ) (p : Before) → (NoneOf ds f.dlci → ⊥) → HadTurn r s g t e k role n1 ds p u f h
+had_turn r s g t e k u v f a b c h x role n1 ds p among = record {
   asked = λ none more. asked_later g t e k f a h (x.asks none more) (grows_then g t e k a c h ac x.h_grows);
   given = λ some past fits room.
       let same : a ≡ f = x.still some in
       let on : GivesOn u.relay.pipes f.dlci f.ungiven b.ungiven =
       subst (λ (y : FileState _). GivesOn u.relay.pipes y.dlci y.ungiven b.ungiven) same x.gives in
-      let lower = gave_some r s n1 ds p u past f.dlci f.ungiven b.ungiven fits room among some on in
+      let lower = gave_some r s role n1 ds p u past f.dlci f.ungiven b.ungiven fits room among some on in
       let file : length (g b.file) ≡ length (g f.file) =
       ap (λ (y : FileState _). length (g y.file)) x.b_is ∙ ap (λ (y : FileState _). length (g y.file)) same in
       let rest = (grows_then g t e k b c h bc x.h_grows).given in
       omega (arith, lower, file, rest);
   read = λ none past fits some.
-      let on = x.keeps n1 ds p past fits in
-      let there : 0 < unread f.dlci (passes on.behind) =
-      subst (λ (d : ℕ). 0 < unread d (passes on.behind)) dlci_a (subst (λ (n : ℕ). 0 < n) (sym on.same) (subst (λ (d : ℕ). 0 < unread d (passes past)) (sym dlci_a) some)) in
+      let on = x.keeps role n1 ds p past fits in
+      let there : 0 < unread role f.dlci (passes on.behind) =
+      subst (λ (d : ℕ). 0 < unread role d (passes on.behind)) dlci_a (subst (λ (n : ℕ). 0 < n) (sym on.same) (subst (λ (d : ℕ). 0 < unread role d (passes past)) (sym dlci_a) some)) in
       let got : ReadsOn v.relay.pipes f.dlci c.unwritten =
       subst (λ (d : ℕ). ReadsOn v.relay.pipes d c.unwritten) (ap (λ (y : FileState _). y.dlci) x.b_is ∙ dlci_a) (x.reads (waits ∙ none)) in
-      let came = read_some r s n1 ds p v on.behind f.dlci c.unwritten on.fits among there got in
+      let came = read_some r s role n1 ds p v on.behind f.dlci c.unwritten on.fits among there got in
       let first : length f.unwritten ≡ 0 = ap length none in
       let before = (grows_then g t e k f a c x.a_grows ac).went in
       let rest = x.h_grows.read in

@@ -5,6 +5,7 @@ use Rattle.std.proofs.Common.{ap, ap₂, sym, ◌∙◌, subst}
 use Rattle.std.proofs.lemmas.Bool.{and_from, and_parts, eqb-true}
 use Rattle.std.proofs.lemmas.List.Folds.{list_all-append}
 use Rattle.std.proofs.lemmas.List.Elements.{filter_map-append}
+use Rattle.mux_station.specs.declared.role.Role.{Role}
 use Rattle.modem_data.specs.Passing.{Pass, Came, Went, Flowed, Left, Lost, Began, EndedLane, Gave, Read, carries, data_came, data_read, given, left, to_go, unread, wire}
 use Rattle.modem_data.specs.Hops.{Hop, Fed, Handed, Took, Wrote, Passed, pass_of, passes}
 use Rattle.modem_data_line.specs.DataLines.{is_of_driver, may_go, may_pass}
@@ -177,17 +178,17 @@ fits_passing gave took f hops past e h =
 -- ## What decides of the data of d
 
 -- octets given and read on other connections leave it as it was
-pub record IsBeside (d : ℕ) (past behind : List Pass) : Type 0 where
-  pub carries_is : carries d behind ≡ carries d past
+pub record IsBeside (role : Role) (d : ℕ) (past behind : List Pass) : Type 0 where
+  pub carries_is : carries role d behind ≡ carries role d past
   pub wire_is : wire behind ≡ wire past
   pub to_go_is : to_go d behind ≡ to_go d past
-  pub unread_is : unread d behind ≡ unread d past
+  pub unread_is : unread role d behind ≡ unread role d past
 
-pub beside_none : (d : ℕ) (past : List Pass) → IsBeside d past past
-beside_none d past = record { carries_is = refl; wire_is = refl; to_go_is = refl; unread_is = refl }
+pub beside_none : (role : Role) (d : ℕ) (past : List Pass) → IsBeside role d past past
+beside_none role d past = record { carries_is = refl; wire_is = refl; to_go_is = refl; unread_is = refl }
 
-pub beside_then : (d : ℕ) (first past behind : List Pass) → IsBeside d first past → IsBeside d past behind → IsBeside d first behind
-beside_then d first past behind one two = record {
+pub beside_then : (role : Role) (d : ℕ) (first past behind : List Pass) → IsBeside role d first past → IsBeside role d past behind → IsBeside role d first behind
+beside_then role d first past behind one two = record {
   carries_is = two.carries_is ∙ one.carries_is;
   wire_is = two.wire_is ∙ one.wire_is;
   to_go_is = two.to_go_is ∙ one.to_go_is;
@@ -195,35 +196,35 @@ beside_then d first past behind one two = record {
 }
 
 -- octets that are given and read change no lane, and no frame passes
-record IsQuiet (d : ℕ) (past behind : List Pass) : Type 0 where
-  pub carries_is : carries d behind ≡ carries d past
+record IsQuiet (role : Role) (d : ℕ) (past behind : List Pass) : Type 0 where
+  pub carries_is : carries role d behind ≡ carries role d past
   pub wire_is : wire behind ≡ wire past
   pub left_is : left d behind ≡ left d past
-  pub came_is : data_came d behind ≡ data_came d past
+  pub came_is : data_came role d behind ≡ data_came role d past
 
-quiet : (c d : ℕ) (hops : List Hop) (past : List Pass) → list_all (is_of_file c) hops ≡ true → IsQuiet d past (passes hops ++ past)
-quiet c d [] past e = record { carries_is = refl; wire_is = refl; left_is = refl; came_is = refl }
-quiet c d (Passed (Gave b o) ∷ hops) past e =
-    let x = quiet c d hops past (and_parts (b == c) (list_all (is_of_file c) hops) e).1 in
+quiet : (role : Role) (c d : ℕ) (hops : List Hop) (past : List Pass) → list_all (is_of_file c) hops ≡ true → IsQuiet role d past (passes hops ++ past)
+quiet role c d [] past e = record { carries_is = refl; wire_is = refl; left_is = refl; came_is = refl }
+quiet role c d (Passed (Gave b o) ∷ hops) past e =
+    let x = quiet role c d hops past (and_parts (b == c) (list_all (is_of_file c) hops) e).1 in
     record { carries_is = x.carries_is; wire_is = x.wire_is; left_is = x.left_is; came_is = x.came_is }
-quiet c d (Passed (Read b o) ∷ hops) past e =
-    let x = quiet c d hops past (and_parts (b == c) (list_all (is_of_file c) hops) e).1 in
+quiet role c d (Passed (Read b o) ∷ hops) past e =
+    let x = quiet role c d hops past (and_parts (b == c) (list_all (is_of_file c) hops) e).1 in
     record { carries_is = x.carries_is; wire_is = x.wire_is; left_is = x.left_is; came_is = x.came_is }
-quiet c d (Passed (Began b k u) ∷ hops) past e = cc
-quiet c d (Passed (Came f) ∷ hops) past e = cc
-quiet c d (Passed (Went f) ∷ hops) past e = cc
-quiet c d (Passed (Flowed f) ∷ hops) past e = cc
-quiet c d (Passed (Left f) ∷ hops) past e = cc
-quiet c d (Passed Lost ∷ hops) past e = cc
-quiet c d (Passed (EndedLane b) ∷ hops) past e = cc
-quiet c d (Fed o ∷ hops) past e = cc
-quiet c d (Handed o ∷ hops) past e = cc
-quiet c d (Took o ∷ hops) past e = cc
-quiet c d (Wrote o ∷ hops) past e = cc
+quiet role c d (Passed (Began b k u) ∷ hops) past e = cc
+quiet role c d (Passed (Came f) ∷ hops) past e = cc
+quiet role c d (Passed (Went f) ∷ hops) past e = cc
+quiet role c d (Passed (Flowed f) ∷ hops) past e = cc
+quiet role c d (Passed (Left f) ∷ hops) past e = cc
+quiet role c d (Passed Lost ∷ hops) past e = cc
+quiet role c d (Passed (EndedLane b) ∷ hops) past e = cc
+quiet role c d (Fed o ∷ hops) past e = cc
+quiet role c d (Handed o ∷ hops) past e = cc
+quiet role c d (Took o ∷ hops) past e = cc
+quiet role c d (Wrote o ∷ hops) past e = cc
 
-pub beside_file : (c d : ℕ) → (c == d) ≡ false → (hops : List Hop) (past : List Pass) → list_all (is_of_file c) hops ≡ true → IsBeside d past (passes hops ++ past)
-beside_file c d apart hops past e =
-    let x = quiet c d hops past e in
+pub beside_file : (role : Role) (c d : ℕ) → (c == d) ≡ false → (hops : List Hop) (past : List Pass) → list_all (is_of_file c) hops ≡ true → IsBeside role d past (passes hops ++ past)
+beside_file role c d apart hops past e =
+    let x = quiet role c d hops past e in
     let others = all_kind (is_of_file c) (is_beside d) hops (of_file_beside c d apart) e in
     record {
       carries_is = x.carries_is;

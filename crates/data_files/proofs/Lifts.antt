@@ -19,7 +19,7 @@ use Rattle.data_files.proofs.Hopping.{all_both, all_kind, any_passes, driver_pas
 -- by hops that give and read nothing of any file
 by_hops : {X Y : Type 0} (r s : X → List ℕ) (g t : Y → List ℕ) (v : FiledState X Y) (x : DataLineState X) (hops : List Hop)
     → ((d : ℕ) → list_all (is_beside d) hops ≡ true)
-    → ((past : List Hop) → LineFits r s v.n1 (dlcis v.files) v.before v.line past → LineFits r s v.n1 (dlcis v.files) v.before x (hops ++ past))
+    → ((past : List Hop) → LineFits r s v.role v.n1 (dlcis v.files) v.before v.line past → LineFits r s v.role v.n1 (dlcis v.files) v.before x (hops ++ past))
     → HasMoved r s g t v → HasMoved r s g t (record v { line = x })
 by_hops r s g t v x hops beside leads h = record {
   past = hops ++ h.past;
@@ -35,12 +35,12 @@ passing hops e d = all_kind (may_pass false) (is_beside d) hops (passes_beside d
 pub line_passes : {X Y : Type 0} (r s : X → List ℕ) (g t : Y → List ℕ) (v : FiledState X Y) (x : DataLineState X) (behind : Bool)
     → LeadsBy r s (may_pass behind) v.line x → HasMoved r s g t v → HasMoved r s g t (record v { line = x })
 line_passes r s g t v x behind l h =
-    by_hops r s g t v x l.hops (passing l.hops (all_kind (may_pass behind) (may_pass false) l.hops (any_passes behind) l.only)) (l.leads v.n1 (dlcis v.files) v.before) h
+    by_hops r s g t v x l.hops (passing l.hops (all_kind (may_pass behind) (may_pass false) l.hops (any_passes behind) l.only)) (l.leads v.role v.n1 (dlcis v.files) v.before) h
 
 pub line_goes : {X Y : Type 0} (r s : X → List ℕ) (g t : Y → List ℕ) (v : FiledState X Y) (x : DataLineState X) (behind : Bool)
     → LeadsBy r s (may_go behind) v.line x → HasMoved r s g t v → HasMoved r s g t (record v { line = x })
 line_goes r s g t v x behind l h =
-    by_hops r s g t v x l.hops (passing l.hops (all_kind (may_go behind) (may_pass false) l.hops (goes_passes behind) l.only)) (l.leads v.n1 (dlcis v.files) v.before) h
+    by_hops r s g t v x l.hops (passing l.hops (all_kind (may_go behind) (may_pass false) l.hops (goes_passes behind) l.only)) (l.leads v.role v.n1 (dlcis v.files) v.before) h
 
 -- octets that the driver writes
 taken_before : (octets : List ℕ) (before past : List Hop) → with_taken octets (before ++ past) ≡ with_taken octets before ++ past
@@ -58,9 +58,9 @@ line_takes r s g t v x octets l h =
     (λ d. all_both (is_beside d) l.after (with_taken octets l.before)
     (passing l.after (all_kind (may_go x.is_behind) (may_pass false) l.after (goes_passes x.is_behind) l.only_after) d)
     (taken_beside octets l.before d (passing l.before (all_kind is_of_driver (may_pass false) l.before driver_passes l.only_before) d)))
-    (λ past k. subst (λ (hs : List Hop). LineFits r s v.n1 (dlcis v.files) v.before x hs)
+    (λ past k. subst (λ (hs : List Hop). LineFits r s v.role v.n1 (dlcis v.files) v.before x hs)
     (ap (λ (hs : List Hop). l.after ++ hs) (taken_before octets l.before past) ∙ sym (append_assoc l.after (with_taken octets l.before) past))
-    (l.leads v.n1 (dlcis v.files) v.before past k)) h
+    (l.leads v.role v.n1 (dlcis v.files) v.before past k)) h
 
 -- a call that failed, and was counted
 pub line_counts : {X Y : Type 0} (r s : X → List ℕ) (g t : Y → List ℕ) (v : FiledState X Y) (x : DataLineState X) (calls failures : ℕ)
@@ -128,7 +128,7 @@ pub moves_at : {X Y : Type 0} (r s : X → List ℕ) (g t : Y → List ℕ) (v :
     → HasMoved r s g t (record v { line = x; files = slice_set v.files i f })
 moves_at r s g t v x i f there m h = record {
   past = m.hops ++ h.past;
-  fits = subst (λ (ds : List ℕ). LineFits r s v.n1 ds v.before x (m.hops ++ h.past)) (sym (set_dlcis v.files i f m.dlci_is)) (m.leads v.n1 (dlcis v.files) v.before h.past h.fits);
+  fits = subst (λ (ds : List ℕ). LineFits r s v.role v.n1 ds v.before x (m.hops ++ h.past)) (sym (set_dlcis v.files i f m.dlci_is)) (m.leads v.role v.n1 (dlcis v.files) v.before h.past h.fits);
   files = subst (λ (ps : List Pass). All (FileFits g t ps) (slice_set v.files i f)) (sym (passes_both m.hops h.past))
       (each_on r s g t v.files v.line x i f (passes h.past) h.fits.relay_fits.pipes_fit.apart there m h.files);
 }

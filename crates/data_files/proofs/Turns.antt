@@ -4,8 +4,8 @@ use Rattle.std.proofs.Common.{ap, arith, sym, ◌∙◌, subst, true≢false}
 use Rattle.std.proofs.lemmas.Bool.{eqb-true, eqb-false}
 use Rattle.std.proofs.lemmas.List.{get_or-set_same, get_or-set_other, get_or_default}
 use Rattle.std.proofs.lemmas.List.Elements.{All-get_or}
-use Rattle.mux_station.specs.declared.role.Role.TheVariants.{Initiator}
 use Rattle.mux_station.specs.Opening.{is_open}
+use Rattle.mux_station.specs.declared.role.Role.{Role}
 use Rattle.modem_data.specs.Switching.{takes_given}
 use Rattle.modem_data.specs.Passing.{Pass}
 use Rattle.modem_data.specs.PipeSets.{NoneOf}
@@ -29,21 +29,21 @@ not_none files i f there none =
 -- ## What passed before a file's turn
 
 -- the line has come to fit a past from this one, beside d
-pub record Reached {X : Type 0} (r s : X → List ℕ) (n1 : ℕ) (ds : List ℕ) (p : Before) (v : DataLineState X) (d : ℕ) (past : List Hop) : Type 0 where
+pub record Reached {X : Type 0} (r s : X → List ℕ) (role : Role) (n1 : ℕ) (ds : List ℕ) (p : Before) (v : DataLineState X) (d : ℕ) (past : List Hop) : Type 0 where
   pub behind : List Hop
-  pub fits : LineFits r s n1 ds p v behind
-  pub beside : IsBeside d (passes past) (passes behind)
+  pub fits : LineFits r s role n1 ds p v behind
+  pub beside : IsBeside role d (passes past) (passes behind)
 
-turn_back : {X Y : Type 0} (r s : X → List ℕ) (g t : Y → List ℕ) (e k : Y → ℕ) (n1 : ℕ) (ds : List ℕ) (p : Before) (u v : DataLineState X) (f h : FileState Y)
-    → ((past : List Hop) → LineFits r s n1 ds p u past → Reached r s n1 ds p v f.dlci past) → HadTurn r s g t e k n1 ds p v f h → HadTurn r s g t e k n1 ds p u f h
-turn_back r s g t e k n1 ds p u v f h reach turn = record {
+turn_back : {X Y : Type 0} (r s : X → List ℕ) (g t : Y → List ℕ) (e k : Y → ℕ) (role : Role) (n1 : ℕ) (ds : List ℕ) (p : Before) (u v : DataLineState X) (f h : FileState Y)
+    → ((past : List Hop) → LineFits r s role n1 ds p u past → Reached r s role n1 ds p v f.dlci past) → HadTurn r s g t e k role n1 ds p v f h → HadTurn r s g t e k role n1 ds p u f h
+turn_back r s g t e k role n1 ds p u v f h reach turn = record {
   asked = turn.asked;
   given = λ some past fits room.
       let x = reach past fits in
       turn.given some x.behind x.fits
       (record {
         takes = ap takes_given x.beside.carries_is ∙ room.takes;
-        open_there = ap (λ w. is_open Initiator f.dlci w) x.beside.wire_is ∙ room.open_there;
+        open_there = ap (λ w. is_open role f.dlci w) x.beside.wire_is ∙ room.open_there;
         room = let same = x.beside.to_go_is in let few = room.room in omega (arith, same, few);
       });
   read = λ none past fits some.
@@ -55,9 +55,9 @@ turn_back r s g t e k n1 ds p u v f h reach turn = record {
 
 -- ## One behind the other
 
-turn_then : {X Y : Type 0} (r s : X → List ℕ) (g t : Y → List ℕ) (e k : Y → ℕ) (n1 : ℕ) (ds : List ℕ) (p : Before) (u : DataLineState X) (f h m : FileState Y)
-    → HadTurn r s g t e k n1 ds p u f h → FileGrows g t e k h m → HadTurn r s g t e k n1 ds p u f m
-turn_then r s g t e k n1 ds p u f h m turn on = record {
+turn_then : {X Y : Type 0} (r s : X → List ℕ) (g t : Y → List ℕ) (e k : Y → ℕ) (role : Role) (n1 : ℕ) (ds : List ℕ) (p : Before) (u : DataLineState X) (f h m : FileState Y)
+    → HadTurn r s g t e k role n1 ds p u f h → FileGrows g t e k h m → HadTurn r s g t e k role n1 ds p u f m
+turn_then r s g t e k role n1 ds p u f h m turn on = record {
   asked = λ none more. asked_later g t e k f h m (turn.asked none more) on;
   given = λ some past fits room. let one = turn.given some past fits room in let two = on.given in omega (arith, one, two);
   read = λ none past fits some. let one = turn.read none past fits some in let two = on.read in omega (arith, one, two);
@@ -71,7 +71,7 @@ pub turns_then : {X Y : Type 0} (r s : X → List ℕ) (g t : Y → List ℕ) (e
 turns_then r s g t e k u v now one two = record {
   count = two.count ∙ one.count;
   each = λ i f there.
-      turn_then r s g t e k u.n1 (dlcis u.files) u.before u.line (slice_index_or u.files i f) (slice_index_or v.files i f) (slice_index_or now i f) (one.each i f there)
+      turn_then r s g t e k u.role u.n1 (dlcis u.files) u.before u.line (slice_index_or u.files i f) (slice_index_or v.files i f) (slice_index_or now i f) (one.each i f there)
       (two.each i f (let same = one.count in omega (arith, there, same))).grows;
 }
 
@@ -80,24 +80,26 @@ turns_then r s g t e k u v now one two = record {
 -- the turn of the first so many came, and the others are as they were
 pub record TurnsSoFar {X Y : Type 0} (r s : X → List ℕ) (g t : Y → List ℕ) (e k : Y → ℕ) (n : ℕ) (u v : FiledState X Y) : Type 0 where
   pub long : length v.files ≡ length u.files
+  pub role_is : v.role ≡ u.role
   pub n1_is : v.n1 ≡ u.n1
   pub before_is : v.before ≡ u.before
   pub dlcis_are : dlcis v.files ≡ dlcis u.files
   pub came : (i : ℕ) (f : FileState Y) → i < n → i < length u.files
-      → HadTurn r s g t e k u.n1 (dlcis u.files) u.before u.line (slice_index_or u.files i f) (slice_index_or v.files i f)
+      → HadTurn r s g t e k u.role u.n1 (dlcis u.files) u.before u.line (slice_index_or u.files i f) (slice_index_or v.files i f)
   pub others : (i : ℕ) (f : FileState Y) → n ≤ i → slice_index_or v.files i f ≡ slice_index_or u.files i f
-  pub reaches : (i : ℕ) (f : FileState Y) → n ≤ i → i < length u.files → (past : List Hop) → LineFits r s u.n1 (dlcis u.files) u.before u.line past
-      → Reached r s u.n1 (dlcis u.files) u.before v.line (slice_index_or u.files i f).dlci past
+  pub reaches : (i : ℕ) (f : FileState Y) → n ≤ i → i < length u.files → (past : List Hop) → LineFits r s u.role u.n1 (dlcis u.files) u.before u.line past
+      → Reached r s u.role u.n1 (dlcis u.files) u.before v.line (slice_index_or u.files i f).dlci past
 
 pub turns_none : {X Y : Type 0} (r s : X → List ℕ) (g t : Y → List ℕ) (e k : Y → ℕ) (u : FiledState X Y) → TurnsSoFar r s g t e k 0 u u
 turns_none r s g t e k u = record {
   long = refl;
+  role_is = refl;
   n1_is = refl;
   before_is = refl;
   dlcis_are = refl;
   came = λ i f few there. absurd (omega (arith, few));
   others = λ i f most. refl;
-  reaches = λ i f most there past fits. record { behind = past; fits = fits; beside = beside_none (slice_index_or u.files i f).dlci (passes past) };
+  reaches = λ i f most there past fits. record { behind = past; fits = fits; beside = beside_none u.role (slice_index_or u.files i f).dlci (passes past) };
 }
 
 pub turns_more : {X Y : Type 0} (r s : X → List ℕ) (g t : Y → List ℕ) (e k : Y → ℕ) (n : ℕ) (u v w : FiledState X Y) → TurnsSoFar r s g t e k n u v
@@ -105,10 +107,11 @@ pub turns_more : {X Y : Type 0} (r s : X → List ℕ) (g t : Y → List ℕ) (e
     → TurnsSoFar r s g t e k (n + 1) u w
 turns_more r s g t e k n u v w h short m same long = record {
   long = long ∙ h.long;
+  role_is = ap (λ (x : FiledState _ _). x.role) same ∙ h.role_is;
   n1_is = ap (λ (x : FiledState _ _). x.n1) same ∙ h.n1_is;
   before_is = ap (λ (x : FiledState _ _). x.before) same ∙ h.before_is;
   dlcis_are = ap dlcis m.files_are ∙ (set_dlcis v.files n m.file m.moves.dlci_is ∙ h.dlcis_are);
-  came = λ i f few there. subst (λ (xs : List (FileState _)). HadTurn r s g t e k u.n1 (dlcis u.files) u.before u.line (slice_index_or u.files i f) (slice_index_or xs i f))
+  came = λ i f few there. subst (λ (xs : List (FileState _)). HadTurn r s g t e k u.role u.n1 (dlcis u.files) u.before u.line (slice_index_or u.files i f) (slice_index_or xs i f))
       (sym m.files_are) (at i f (i == n) refl few there);
   others = λ i f most. ap (λ (xs : List (FileState _)). slice_index_or xs i f) m.files_are
       ∙ (get_or-set_other v.files n i m.file f (λ q. omega (arith, most, q)) ∙ h.others i f (omega (arith, most)));
@@ -119,10 +122,10 @@ turns_more r s g t e k n u v w h short m same long = record {
       subst (λ (y : FileState _). (y.dlci == d) ≡ false) (sym (here f)) (apart_at u.files n i f fits.relay_fits.pipes_fit.apart short_u there (λ q. omega (arith, most, q))) in
       record {
         behind = m.moves.hops ++ x.behind;
-        fits = m.moves.leads u.n1 (dlcis u.files) u.before x.behind x.fits;
-        beside = beside_then d (passes past) (passes x.behind) (passes (m.moves.hops ++ x.behind)) x.beside
-            (subst (λ (ps : List Pass). IsBeside d (passes x.behind) ps) (sym (passes_both m.moves.hops x.behind))
-            (beside_file (slice_index_or v.files n m.file).dlci d apart m.moves.hops (passes x.behind) m.moves.only));
+        fits = m.moves.leads u.role u.n1 (dlcis u.files) u.before x.behind x.fits;
+        beside = beside_then u.role d (passes past) (passes x.behind) (passes (m.moves.hops ++ x.behind)) x.beside
+            (subst (λ (ps : List Pass). IsBeside u.role d (passes x.behind) ps) (sym (passes_both m.moves.hops x.behind))
+            (beside_file u.role (slice_index_or v.files n m.file).dlci d apart m.moves.hops (passes x.behind) m.moves.only));
       };
 }
   where
@@ -132,24 +135,25 @@ turns_more r s g t e k n u v w h short m same long = record {
     here : (f : FileState _) → slice_index_or v.files n m.file ≡ slice_index_or u.files n f
     here f = get_or_default v.files n m.file f short ∙ h.others n f (omega arith)
 
-    turn : HadTurn r s g t e k u.n1 (dlcis u.files) u.before v.line (slice_index_or v.files n m.file) m.file
-    turn = subst (λ (x : ℕ × List ℕ × Before). HadTurn r s g t e k x.0 x.1 x.2 v.line (slice_index_or v.files n m.file) m.file)
-        (λ i. (h.n1_is i, h.dlcis_are i, h.before_is i)) m.turn
+    turn : HadTurn r s g t e k u.role u.n1 (dlcis u.files) u.before v.line (slice_index_or v.files n m.file) m.file
+    turn = subst (λ (o : Role). HadTurn r s g t e k o u.n1 (dlcis u.files) u.before v.line (slice_index_or v.files n m.file) m.file) h.role_is
+        (subst (λ (x : ℕ × List ℕ × Before). HadTurn r s g t e k v.role x.0 x.1 x.2 v.line (slice_index_or v.files n m.file) m.file)
+        (λ i. (h.n1_is i, h.dlcis_are i, h.before_is i)) m.turn)
 
     at : (i : ℕ) (f : FileState _) (b : Bool) → (i == n) ≡ b → i < n + 1 → i < length u.files
-        → HadTurn r s g t e k u.n1 (dlcis u.files) u.before u.line (slice_index_or u.files i f) (slice_index_or (slice_set v.files n m.file) i f)
+        → HadTurn r s g t e k u.role u.n1 (dlcis u.files) u.before u.line (slice_index_or u.files i f) (slice_index_or (slice_set v.files n m.file) i f)
     at i f true q few there =
         let same_place : i ≡ n = eqb-true i n q in
         let now : slice_index_or (slice_set v.files n m.file) i f ≡ m.file =
         ap (λ (j : ℕ). slice_index_or (slice_set v.files n m.file) j f) same_place ∙ get_or-set_same v.files n m.file f short in
         let was : slice_index_or v.files n m.file ≡ slice_index_or u.files i f = here f ∙ ap (λ (j : ℕ). slice_index_or u.files j f) (sym same_place) in
-        subst (λ (x : FileState _). HadTurn r s g t e k u.n1 (dlcis u.files) u.before u.line (slice_index_or u.files i f) x) (sym now)
-        (turn_back r s g t e k u.n1 (dlcis u.files) u.before u.line v.line (slice_index_or u.files i f) m.file
+        subst (λ (x : FileState _). HadTurn r s g t e k u.role u.n1 (dlcis u.files) u.before u.line (slice_index_or u.files i f) x) (sym now)
+        (turn_back r s g t e k u.role u.n1 (dlcis u.files) u.before u.line v.line (slice_index_or u.files i f) m.file
         (h.reaches i f (omega (arith, same_place)) there)
-        (subst (λ (x : FileState _). HadTurn r s g t e k u.n1 (dlcis u.files) u.before v.line x m.file) was turn))
+        (subst (λ (x : FileState _). HadTurn r s g t e k u.role u.n1 (dlcis u.files) u.before v.line x m.file) was turn))
     at i f false q few there =
         let other : i ≢ n = λ r. eqb-false i n q r in
-        subst (λ (x : FileState _). HadTurn r s g t e k u.n1 (dlcis u.files) u.before u.line (slice_index_or u.files i f) x)
+        subst (λ (x : FileState _). HadTurn r s g t e k u.role u.n1 (dlcis u.files) u.before u.line (slice_index_or u.files i f) x)
         (sym (get_or-set_other v.files n i m.file f other)) (h.came i f (omega (arith, few, other)) there)
 
 pub turns_all : {X Y : Type 0} (r s : X → List ℕ) (g t : Y → List ℕ) (e k : Y → ℕ) (n : ℕ) (u v : FiledState X Y) → TurnsSoFar r s g t e k n u v

@@ -21,11 +21,11 @@ pub reads_512 : (old new : Relay) (d n : ℕ) (octets : List ℕ) → length oct
     → Hops old new (Passed (Read d (take (min n 512) octets)))
 reads_512 old new d n octets e h = subst (λ (xs : List ℕ). Hops old new (Passed (Read d xs))) (sym (in_room n octets e)) h
 
-pub counts_512 : (pipes : PipeSet) (d n m : ℕ) (octets : List ℕ) → length octets ≡ 512 → m ≡ 512 → OfEachPast pipes (λ past. n ≡ min (unread d past) m)
+pub counts_512 : (pipes : PipeSet) (d n m : ℕ) (octets : List ℕ) → length octets ≡ 512 → m ≡ 512 → OfEachPast pipes (λ role past. n ≡ min (unread role d past) m)
     → IsUnread pipes d (length (take (min n 512) octets))
 unfolding OfEachPast IsUnread
-counts_512 pipes d n m octets e q h n1 ds past fits =
-    let count = h n1 ds past fits in
+counts_512 pipes d n m octets e q h role n1 ds past fits =
+    let count = h role n1 ds past fits in
     let long = length-take (min n 512) octets in
     omega (arith, count, long, e, q)
 
@@ -53,18 +53,18 @@ gave_first old new d n k before after h least rest = record {
 }
 
 pub gives_ok : (pipes : PipeSet) (d n k : ℕ) (before after : List ℕ)
-    → OfEachPast pipes (λ past. n ≡ min (length before) (most_to_go - (length (given d past) - length (left d past)))) → k ≡ min n (length before) → after ≡ drop k before
+    → OfEachPast pipes (λ role past. n ≡ min (length before) (most_to_go - (length (given d past) - length (left d past)))) → k ≡ min n (length before) → after ≡ drop k before
     → GivesOn pipes d before after
 unfolding OfEachPast
-gives_ok pipes d n k before after h least rest = inr (λ n1 ds past fits carried may.
-    let count = h n1 ds past fits in
+gives_ok pipes d n k before after h least rest = inr (λ role n1 ds past fits carried may.
+    let count = h role n1 ds past fits in
     rest ∙ ap (λ (m : ℕ). drop m before) (let both : k ≡ min (length before) (most_to_go - to_go d past) = omega (arith, count, least) in both))
 
 pub gives_err : (pipes : PipeSet) (d : ℕ) (before : List ℕ) (r : Result ℕ DataError)
     → (r ≡ Err error.NotData) ⊎ ((r ≡ Err error.NotOpen) ⊎ (r ≡ Err error.Lines)) → (r ≡ Err error.NotData → IsNotData pipes d)
-    → (r ≡ Err error.NotOpen → OfEachPast pipes (λ past. is_open Initiator d (wire past) ≡ false))
-    → (r ≡ Err error.Lines → OfEachPast pipes (λ past. takes_given (carries d past) ≡ false)) → GivesOn pipes d before before
+    → (r ≡ Err error.NotOpen → OfEachPast pipes (λ role past. is_open role d (wire past) ≡ false))
+    → (r ≡ Err error.Lines → OfEachPast pipes (λ role past. takes_given (carries role d past) ≡ false)) → GivesOn pipes d before before
 unfolding OfEachPast
 gives_err pipes d before r (inl x) none shut lines = inl (none x)
-gives_err pipes d before r (inr (inl x)) none shut lines = inr (λ n1 ds past fits carried may. absurd (true≢false (sym may ∙ shut x n1 ds past fits)))
-gives_err pipes d before r (inr (inr x)) none shut lines = inr (λ n1 ds past fits carried may. absurd (true≢false (sym carried ∙ lines x n1 ds past fits)))
+gives_err pipes d before r (inr (inl x)) none shut lines = inr (λ role n1 ds past fits carried may. absurd (true≢false (sym may ∙ shut x role n1 ds past fits)))
+gives_err pipes d before r (inr (inr x)) none shut lines = inr (λ role n1 ds past fits carried may. absurd (true≢false (sym carried ∙ lines x role n1 ds past fits)))

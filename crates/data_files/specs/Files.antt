@@ -1,5 +1,6 @@
 -- A line some of whose connections carry the data of files, as contracts see it. A past is written newest first.
 use Rattle.std.specs.Prelude.{◌≡◌, ℕ, Bool, false, List, [], ◌∷◌, ◌++◌, All, map}
+use Rattle.mux_station.specs.declared.role.Role.{Role}
 use Rattle.modem_data.specs.declared.begin.Begin.{Begin}
 use Rattle.modem_data.specs.declared.begin.Until.{Until}
 use Rattle.modem_data.specs.Passing.{Pass, Began, data_read, given}
@@ -36,10 +37,11 @@ new_file dlci how until file = record {
 abbrev pub dlcis : {Y : Type 0} → List (FileState Y) → List ℕ
 dlcis files = map (λ f. f.dlci) files
 
--- a line with its relay, the files, N1, and what the line itself had given and taken before
+-- a line with its relay, the files, which end of the line it is, N1, and what the line itself had given and taken before
 pub record FiledState (X Y : Type 0) : Type 0 where
   pub line : DataLineState X
   pub files : List (FileState Y)
+  pub role : Role
   pub n1 : ℕ
   pub before : Before
 
@@ -52,7 +54,7 @@ pub record FileFits {Y : Type 0} (received sent : Y → List ℕ) (past : List P
 -- The line fits a past in which just the connections of the files may carry data, and each file fits that past too.
 pub record HasMoved {X Y : Type 0} (received sent : X → List ℕ) (gave took : Y → List ℕ) (v : FiledState X Y) : Type 0 where
   pub past : List Hop
-  pub fits : LineFits received sent v.n1 (dlcis v.files) v.before v.line past
+  pub fits : LineFits received sent v.role v.n1 (dlcis v.files) v.before v.line past
   pub files : All (FileFits gave took (passes past)) v.files
 
 -- nothing has passed at a file
@@ -71,7 +73,8 @@ begun (f ∷ files) past = begun files (Passed (Began f.dlci f.how f.until) ∷ 
 pub record BeginsFiled {X Y : Type 0} (received sent : X → List ℕ) (line : X) (relay : Relay) (n1 : ℕ) (files : List (FileState Y))
     (v : FiledState X Y) : Type 0 where
   pub files_are : v.files ≡ files
+  pub role_is : v.role ≡ relay.pipes.role
   pub n1_is : v.n1 ≡ n1
   pub before_is : v.before ≡ before_of received sent line
   pub line_is : v.line ≡ record (new_data_line line relay) { relay = v.line.relay }
-  pub fits : LineFits received sent n1 (dlcis files) v.before v.line (begun files [])
+  pub fits : LineFits received sent v.role n1 (dlcis files) v.before v.line (begun files [])

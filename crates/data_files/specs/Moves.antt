@@ -1,8 +1,8 @@
 -- What moves between a connection that carries data and its file.
 use Rattle.std.specs.Prelude.{◌≡◌, ◌≢◌, ◌⊎◌, ◌==◌, ℕ, ◌+◌, ◌-◌, ◌^◌, ◌<◌, ◌≤◌, Bool, true, false, List, [], ◌++◌, drop, length, min, slice_index_or, slice_set}
 use Rattle.std.specs.List.{list_all}
-use Rattle.mux_station.specs.declared.role.Role.TheVariants.{Initiator}
 use Rattle.mux_station.specs.Opening.{is_open}
+use Rattle.mux_station.specs.declared.role.Role.{Role}
 use Rattle.serial_line.specs.Counts.{one_more}
 use Rattle.modem_data.specs.DataLanes.{most_to_go}
 use Rattle.modem_data.specs.Switching.{takes_given}
@@ -23,8 +23,8 @@ pub record FileMoves {X Y : Type 0} (received sent : X → List ℕ) (gave took 
     (f g : FileState Y) : Type 0 where
   pub hops : List Hop
   pub only : list_all (is_of_file f.dlci) hops ≡ true
-  pub leads : (n1 : ℕ) (ds : List ℕ) (b : Before) (past : List Hop) → LineFits received sent n1 ds b old past
-      → LineFits received sent n1 ds b new (hops ++ past)
+  pub leads : (role : Role) (n1 : ℕ) (ds : List ℕ) (b : Before) (past : List Hop) → LineFits received sent role n1 ds b old past
+      → LineFits received sent role n1 ds b new (hops ++ past)
   pub dlci_is : g.dlci ≡ f.dlci
   pub fits : (past : List Pass) → FileFits gave took past f → FileFits gave took (passes hops ++ past) g
 
@@ -36,32 +36,32 @@ pub record GaveFirst (old new : Relay) (d : ℕ) (before after : List ℕ) : Typ
 
 -- Of the octets that wait to be given, the connection took as many as may wait to leave, where it is open and takes them.
 abbrev pub GivesOn : PipeSet → ℕ → (before after : List ℕ) → Type 0
-GivesOn pipes d before after = IsNotData pipes d ⊎ OfEachPast pipes (λ past. takes_given (carries d past) ≡ true → is_open Initiator d (wire past) ≡ true
+GivesOn pipes d before after = IsNotData pipes d ⊎ OfEachPast pipes (λ role past. takes_given (carries role d past) ≡ true → is_open role d (wire past) ≡ true
     → after ≡ drop (min (length before) (most_to_go - to_go d past)) before)
 
 -- d, if it carries data, took so many octets that haven't left
 abbrev pub IsUnsent : PipeSet → ℕ → (count : ℕ) → Type 0
-IsUnsent pipes d count = IsNotData pipes d ⊎ OfEachPast pipes (λ past. count ≡ to_go d past)
+IsUnsent pipes d count = IsNotData pipes d ⊎ OfEachPast pipes (λ role past. count ≡ to_go d past)
 
 -- so many are all octets of data that wait to be read, up to 512
 unfoldable pub IsUnread : PipeSet → ℕ → (count : ℕ) → Type 0
-IsUnread pipes d count = OfEachPast pipes (λ past. count ≡ min (unread d past) 512)
+IsUnread pipes d count = OfEachPast pipes (λ role past. count ≡ min (unread role d past) 512)
 
 -- these were read of d
 abbrev pub ReadsOn : PipeSet → ℕ → (octets : List ℕ) → Type 0
 ReadsOn pipes d octets = IsNotData pipes d ⊎ IsUnread pipes d (length octets)
 
 -- the data that waits to be read of d is the same behind one line as before, whatever passed
-pub record StaysUnread {X : Type 0} (received sent : X → List ℕ) (new : DataLineState X) (n1 : ℕ) (ds : List ℕ) (b : Before) (d : ℕ)
+pub record StaysUnread {X : Type 0} (received sent : X → List ℕ) (new : DataLineState X) (role : Role) (n1 : ℕ) (ds : List ℕ) (b : Before) (d : ℕ)
     (past : List Hop) : Type 0 where
   pub behind : List Hop
-  pub fits : LineFits received sent n1 ds b new behind
-  pub same : unread d (passes behind) ≡ unread d (passes past)
+  pub fits : LineFits received sent role n1 ds b new behind
+  pub same : unread role d (passes behind) ≡ unread role d (passes past)
 
 -- that holds of each past
 abbrev pub KeepsUnread : {X : Type 0} (received sent : X → List ℕ) → (old new : DataLineState X) → ℕ → Type 0
-KeepsUnread received sent old new d = (n1 : ℕ) (ds : List ℕ) (b : Before) (past : List Hop) → LineFits received sent n1 ds b old past
-    → StaysUnread received sent new n1 ds b d past
+KeepsUnread received sent old new d = (role : Role) (n1 : ℕ) (ds : List ℕ) (b : Before) (past : List Hop) → LineFits received sent role n1 ds b old past
+    → StaysUnread received sent new role n1 ds b d past
 
 -- ## A turn
 
@@ -92,20 +92,20 @@ pub record FileGrows {Y : Type 0} (received sent : Y → List ℕ) (empty_reads 
   pub broken : f.is_broken ≡ true → g.is_broken ≡ true
 
 -- d is open, takes octets, and has room for some
-pub record HasRoom (d : ℕ) (past : List Pass) : Type 0 where
-  pub takes : takes_given (carries d past) ≡ true
-  pub open_there : is_open Initiator d (wire past) ≡ true
+pub record HasRoom (role : Role) (d : ℕ) (past : List Pass) : Type 0 where
+  pub takes : takes_given (carries role d past) ≡ true
+  pub open_there : is_open role d (wire past) ≡ true
   pub room : to_go d past < most_to_go
 
 -- Since a line was as it is here, a file had a turn. Where none of its octets waited it was asked for some; where some did, and its
 -- connection had room, some more of them were given there. Where none waited for it, and there was data, some was read; where some
 -- did, they were offered to it. And nothing of it came back.
 pub record HadTurn {X Y : Type 0} (received sent : X → List ℕ) (gave took : Y → List ℕ) (empty_reads stalled_writes : Y → ℕ)
-    (n1 : ℕ) (ds : List ℕ) (b : Before) (v : DataLineState X) (f g : FileState Y) : Type 0 where
+    (role : Role) (n1 : ℕ) (ds : List ℕ) (b : Before) (v : DataLineState X) (f g : FileState Y) : Type 0 where
   pub asked : f.ungiven ≡ [] → f.has_ended ≡ false → IsAskedFile gave empty_reads f g
-  pub given : f.ungiven ≢ [] → (past : List Hop) → LineFits received sent n1 ds b v past → HasRoom f.dlci (passes past)
+  pub given : f.ungiven ≢ [] → (past : List Hop) → LineFits received sent role n1 ds b v past → HasRoom role f.dlci (passes past)
       → length (gave f.file) + length g.ungiven < length (gave g.file) + length f.ungiven
-  pub read : f.unwritten ≡ [] → (past : List Hop) → LineFits received sent n1 ds b v past → 0 < unread f.dlci (passes past)
+  pub read : f.unwritten ≡ [] → (past : List Hop) → LineFits received sent role n1 ds b v past → 0 < unread role f.dlci (passes past)
       → length (took f.file) + length f.unwritten < length (took g.file) + length g.unwritten
   pub offered : f.unwritten ≢ [] → IsOfferedFile took stalled_writes f g
   pub grows : FileGrows gave took empty_reads stalled_writes f g
@@ -115,7 +115,7 @@ pub record HadTurns {X Y : Type 0} (received sent : X → List ℕ) (gave took :
     (v : FiledState X Y) (now : List (FileState Y)) : Type 0 where
   pub count : length now ≡ length v.files
   pub each : (i : ℕ) (f : FileState Y) → i < length v.files
-      → HadTurn received sent gave took empty_reads stalled_writes v.n1 (dlcis v.files) v.before v.line
+      → HadTurn received sent gave took empty_reads stalled_writes v.role v.n1 (dlcis v.files) v.before v.line
       (slice_index_or v.files i f) (slice_index_or now i f)
 
 -- at one place the file moved on with the line, and no other changed
@@ -123,12 +123,12 @@ pub record MovesAt {X Y : Type 0} (received sent : X → List ℕ) (gave took : 
     (v w : FiledState X Y) : Type 0 where
   pub file : FileState Y
   pub moves : FileMoves received sent gave took v.line w.line (slice_index_or v.files place file) file
-  pub turn : HadTurn received sent gave took empty_reads stalled_writes v.n1 (dlcis v.files) v.before v.line
+  pub turn : HadTurn received sent gave took empty_reads stalled_writes v.role v.n1 (dlcis v.files) v.before v.line
       (slice_index_or v.files place file) file
   pub files_are : w.files ≡ slice_set v.files place file
 
 -- the lanes of the first so many files began on a line, in order, and nothing else happened to it
 pub record HasBegunTo {X Y : Type 0} (received sent : X → List ℕ) (files : List (FileState Y)) (old new : DataLineState X) : Type 0 where
-  pub leads : (n1 : ℕ) (ds : List ℕ) (b : Before) (past : List Hop) → LineFits received sent n1 ds b old past
-      → LineFits received sent n1 ds b new (begun files past)
+  pub leads : (role : Role) (n1 : ℕ) (ds : List ℕ) (b : Before) (past : List Hop) → LineFits received sent role n1 ds b old past
+      → LineFits received sent role n1 ds b new (begun files past)
   pub same : new ≡ record old { relay = new.relay }

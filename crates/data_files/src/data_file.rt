@@ -1,5 +1,6 @@
 //! A file beside a connection that carries data.
 ghost use Rattle.std.specs.Prelude.{◌≡◌, ◌≢◌, ◌⊎◌, ◌↔◌, ◌≤◌, ℕ, List, [], length, true, false, IfOk, OnErr, OnOk};
+ghost use Rattle.mux_station.specs.declared.role.Role.{Role};
 ghost use Rattle.modem_data.specs.Passing.{IsOver, Pass};
 ghost use Rattle.modem_data.specs.PipeSets.{IsNotData, NoneOf, OfEachPast};
 ghost use Rattle.modem_data_line.specs.DataLines.{Before};
@@ -204,7 +205,7 @@ impl<P: SerialLine> DataFile<P> {
         ensures beside { line.new ≡ record line.old { relay = line.new.relay } }
         ensures reads { self.old.unwritten ≡ [] → ReadsOn line.old.relay.pipes self.old.dlci self.new.unwritten }
         ensures over { self.old.unwritten ≡ [] → IsNotData line.old.relay.pipes self.old.dlci
-            ⊎ OfEachPast line.new.relay.pipes (λ past. self.new.is_over ≡ true ↔ IsOver self.old.dlci past) }
+            ⊎ OfEachPast line.new.relay.pipes (λ role past. self.new.is_over ≡ true ↔ IsOver role self.old.dlci past) }
         ensures still { self.old.unwritten ≢ [] → self.new ≡ self.old }
         ensures more { length self.old.unwritten ≤ length self.new.unwritten }
     {
@@ -248,8 +249,8 @@ impl<P: SerialLine> DataFile<P> {
     pub(crate) fn move_on<L: SerialLine>(&mut self, line: &mut DataLine<L>) -> bool
         ensures moves { FileMoves L.received L.sent P.received P.sent line.old line.new self.old self.new }
         ensures beside { line.new ≡ record line.old { relay = line.new.relay } }
-        ensures turn { (n1 : ℕ) (ds : List ℕ) (b : Before) → (NoneOf ds self.old.dlci → ⊥)
-            → HadTurn L.received L.sent P.received P.sent P.empty_reads P.stalled_writes n1 ds b line.old self.old self.new }
+        ensures turn { (role : Role) (n1 : ℕ) (ds : List ℕ) (b : Before) → (NoneOf ds self.old.dlci → ⊥)
+            → HadTurn L.received L.sent P.received P.sent P.empty_reads P.stalled_writes role n1 ds b line.old self.old self.new }
     {
         self.read_file();
         let gave = self.give(line);

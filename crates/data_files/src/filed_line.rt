@@ -1,7 +1,7 @@
 //! A line some of whose connections carry the data of files.
 ghost use Rattle.std.specs.Prelude.{◌≡◌, ◌+◌, ◌<◌, ◌≤◌, ◌++◌, All, length, take, IfOk, OnOk, OnErr, MatchResult};
 ghost use Rattle.serial_line.specs.Counts.{one_more, counted_if_none};
-ghost use Rattle.modem_data.specs.Hops.{BeginsRelay};
+ghost use Rattle.modem_data.specs.Hops.{BeginsAs, BeginsRelay};
 ghost use Rattle.modem_data_line.specs.DataLines.{new_data_line};
 ghost use Rattle.data_files.specs.Files.{BeginsFiled, HasMoved, IsFresh, dlcis};
 ghost use Rattle.data_files.specs.Moves.{HadTurns, HasBegunTo, IsUnsent, MovesAt};
@@ -11,6 +11,7 @@ use crate::data_file::DataFile;
 use modem_data::{DataError, Relay};
 use modem_data_line::DataLine;
 use mux_frame::Dlci;
+use mux_station::Role;
 use serial_line::{LineFault, SerialLine};
 use std::alloc::Global;
 use std::marker::Model;
@@ -22,11 +23,12 @@ const ROUNDS: u32 = 256;
 /// Before each read octets move between connections and files, as `move_all` does. What a file gave goes to its connection,
 /// and what came on the connection goes to the file, in order and as far as it is taken. What isn't taken waits.
 ///
-/// Contracts see the line with its relay, the files, N1, and what the line itself had given and taken before.
+/// Contracts see the line with its relay, the files, which end of the line it is, N1, and what the line itself had given and taken before.
 #[derive(Drop)]
 pub struct FiledLine<L: SerialLine, P: SerialLine> {
     pub(crate) line: DataLine<L>,
     pub(crate) files: Vec<DataFile<P>>,
+    role: Role,
     n1: u16,
     before: Before,
 }
@@ -36,11 +38,12 @@ impl<L: SerialLine, P: SerialLine> Model for FiledLine<L, P> {
 
     ghost Value = { FiledState L P };
 
-    ghost view = { λ l. record { line = l.line; files = l.files.items; n1 = l.n1; before = l.before } };
+    ghost view = { λ l. record { line = l.line; files = l.files.items; role = l.role; n1 = l.n1; before = l.before } };
 
     ghost invariant = { λ l. HasMoved L.received L.sent P.received P.sent (record {
       line = l.line;
       files = l.files.items;
+      role = l.role;
       n1 = l.n1;
       before = l.before;
     }) };
@@ -82,9 +85,7 @@ fn begun_line<L: SerialLine + Drop, P: SerialLine>(
 }
 
 impl<L: SerialLine + Drop, P: SerialLine + Drop> FiledLine<L, P> {
-    /// This line with these files, on whose connections alone its relay carries data. The lane of each begins. Refused for memory.
-    /// Requires that nothing has passed at the relay and the files.
-    #[tactic(auto, using(crate::proofs::Begins::begins_filed, crate::proofs::Begins::has_begun))]
+    /// This line at the client's end, with these files, as `with_role` has it.
     pub fn new(
         alloc: Global,
         line: L,
@@ -96,11 +97,30 @@ impl<L: SerialLine + Drop, P: SerialLine + Drop> FiledLine<L, P> {
         requires fresh { All (IsFresh P.received P.sent) files.items }
         ensures begins { IfOk result (BeginsFiled L.received L.sent line relay n1 files.items) }
     {
+        FiledLine::with_role(alloc, Role::Initiator, line, relay, n1, files)
+    }
+
+    /// This line with these files, on whose connections alone its relay carries data. The lane of each begins. Refused for memory.
+    /// Requires that nothing has passed at the files, and at the relay, which was made for this end of the line.
+    #[tactic(auto, using(crate::proofs::Begins::begins_filed, crate::proofs::Begins::has_begun))]
+    pub fn with_role(
+        alloc: Global,
+        role: Role,
+        line: L,
+        relay: Relay,
+        n1: u16,
+        files: Vec<DataFile<P>>,
+    ) -> Result<FiledLine<L, P>, DataError>
+        requires relay { BeginsAs role n1 (dlcis files.items) relay }
+        requires fresh { All (IsFresh P.received P.sent) files.items }
+        ensures begins { IfOk result (BeginsFiled L.received L.sent line relay n1 files.items) }
+    {
         let before = Before::of(&line);
         let line = begun_line(alloc, line, relay, files.as_slice())?;
         Ok(FiledLine {
             line,
             files,
+            role,
             n1,
             before,
         })

@@ -76,7 +76,7 @@ impl Unwritten {
         requires { self.old ≡ [] }
         ensures count { OnOk result (IsUnread line.old.relay.pipes dlci.number (length self.new)) }
         ensures read { OnOk result (Hops line.old.relay line.new.relay (Passed (Read dlci.number self.new))) }
-        ensures over { IfOk result (λ over. OfEachPast line.new.relay.pipes (λ past. over ≡ true ↔ IsOver dlci.number past)) }
+        ensures over { IfOk result (λ over. OfEachPast line.new.relay.pipes (λ role past. over ≡ true ↔ IsOver role dlci.number past)) }
         ensures beside { line.new ≡ record line.old { relay = line.new.relay } }
         ensures not_data { OnErr result (IsNotData line.old.relay.pipes dlci.number) }
         ensures err { OnErr result ((line.new ≡ line.old) × (self.new ≡ [])) }

@@ -13,5 +13,6 @@ mod PromptRowFacts
 mod Prompting
 mod WholeLanes
 mod RelayRowFacts
+mod OwnRowFacts
 mod CarrierRowFacts
 pub mod FrameRoom

@@ -5,6 +5,7 @@ use Rattle.std.proofs.lemmas.Bool.{eqb-true, eqb-false, ne_eqb, ltb-true, ltb-fa
 use Rattle.std.proofs.lemmas.List.{get_or-map, length-map, map-append, map_more, take_all}
 use Rattle.std.proofs.lemmas.List.Elements.{All-push}
 use Rattle.mux_frame.specs.declared.dlci.Dlci.{Dlci}
+use Rattle.mux_station.specs.declared.role.Role.{Role}
 use Rattle.modem_data.specs.Pipes.{BeginsPipe, Pipe, PipeFits}
 use Rattle.modem_data.specs.PipeSets.{AreApart, IsAmong, IsTwice, connections, numbers}
 
@@ -71,9 +72,9 @@ one_more ps p named i d there those is =
     ∙ (ap (λ e. numbers (take i named) ++ e ∷ []) is
     ∙ sym (map_more (λ (c : Dlci). c.number) named i d there)))
 
-pub each_more : (ps : List Pipe) (p : Pipe) (e : ℕ) → All (λ (q : Pipe). (n1 : ℕ) → PipeFits n1 q.watch.dlci q []) ps → BeginsPipe e p → p.watch.dlci ≡ e → All (λ (q : Pipe). (n1 : ℕ) → PipeFits n1 q.watch.dlci q []) (ps ++ p ∷ [])
+pub each_more : (role : Role) (ps : List Pipe) (p : Pipe) (e : ℕ) → All (λ (q : Pipe). (n1 : ℕ) → PipeFits role n1 q.watch.dlci q []) ps → BeginsPipe role e p → p.watch.dlci ≡ e → All (λ (q : Pipe). (n1 : ℕ) → PipeFits role n1 q.watch.dlci q []) (ps ++ p ∷ [])
 unfolding BeginsPipe
-each_more ps p e each begins is = All-push (λ (q : Pipe). (n1 : ℕ) → PipeFits n1 q.watch.dlci q []) ps p each (λ n1. subst (λ d. PipeFits n1 d p []) (sym is) (begins n1))
+each_more role ps p e each begins is = All-push (λ (q : Pipe). (n1 : ℕ) → PipeFits role n1 q.watch.dlci q []) ps p each (λ n1. subst (λ d. PipeFits role n1 d p []) (sym is) (begins n1))
 
 pub those_all : (ps : List Pipe) (named : List Dlci) (n : ℕ) → length named ≤ n → connections ps ≡ numbers (take n named) → connections ps ≡ numbers named
 those_all ps named n all those = those ∙ ap numbers (take_all n named all)

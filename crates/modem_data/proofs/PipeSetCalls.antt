@@ -5,7 +5,7 @@ use Rattle.std.proofs.lemmas.Bool.{eqb-true, eqb-false, ne_eqb, eq-eqb, and_part
 use Rattle.std.proofs.lemmas.List.{length-append, length-map, get_or_default}
 use Rattle.std.proofs.lemmas.List.Elements.{All-get_or, All-nil, All-cons}
 use Rattle.mux_frame.specs.Frames.{Frame}
-use Rattle.mux_station.specs.declared.role.Role.TheVariants.{Initiator}
+use Rattle.mux_station.specs.declared.role.Role.{Role}
 use Rattle.mux_station.specs.Opening.{is_open}
 use Rattle.modem_data.specs.declared.begin.Begin.{Begin}
 use Rattle.modem_data.specs.declared.begin.Until.{Until}
@@ -26,9 +26,10 @@ use Rattle.modem_data.proofs.PipeSets.{all_by, one_by, one_info, number_at, plai
 apart_from : (d e : ℕ) → (d == e) ≡ false → (e == d) ≡ false
 apart_from d e x = ne_eqb e d (λ q. eqb-false d e x (sym q))
 
-other_began : (n1 d e : ℕ) (how : Begin) (until : Until) (past : List Pass) (p : Pipe) → (e == d) ≡ false → AllowsPass n1 past (Began e how until) → PipeFits n1 d p past → PipeFits n1 d p (Began e how until ∷ past)
+other_began : (role : Role) (n1 d e : ℕ) (how : Begin) (until : Until) (past : List Pass) (p : Pipe) → (e == d) ≡ false → AllowsPass role n1 past (Began e how until) → PipeFits role n1 d p past → PipeFits role n1 d p (Began e how until ∷ past)
 unfolding LawfulPasses
-other_began n1 d e how until past p x allowed h = record {
+other_began role n1 d e how until past p x allowed h = record {
+  role_is = h.role_is;
   dlci_is = h.dlci_is;
   not_control = h.not_control;
   lawful = (allowed, h.lawful);
@@ -41,9 +42,10 @@ other_began n1 d e how until past p x allowed h = record {
   by_driver_is = h.by_driver_is;
 }
 
-other_ended : (n1 d e : ℕ) (past : List Pass) (p : Pipe) → (e == d) ≡ false → PipeFits n1 d p past → PipeFits n1 d p (EndedLane e ∷ past)
+other_ended : (role : Role) (n1 d e : ℕ) (past : List Pass) (p : Pipe) → (e == d) ≡ false → PipeFits role n1 d p past → PipeFits role n1 d p (EndedLane e ∷ past)
 unfolding LawfulPasses
-other_ended n1 d e past p x h = record {
+other_ended role n1 d e past p x h = record {
+  role_is = h.role_is;
   dlci_is = h.dlci_is;
   not_control = h.not_control;
   lawful = (tt, h.lawful);
@@ -56,9 +58,10 @@ other_ended n1 d e past p x h = record {
   by_driver_is = h.by_driver_is;
 }
 
-other_gave : (n1 d e : ℕ) (octets : List ℕ) (past : List Pass) (p : Pipe) → (e == d) ≡ false → AllowsPass n1 past (Gave e octets) → PipeFits n1 d p past → PipeFits n1 d p (Gave e octets ∷ past)
+other_gave : (role : Role) (n1 d e : ℕ) (octets : List ℕ) (past : List Pass) (p : Pipe) → (e == d) ≡ false → AllowsPass role n1 past (Gave e octets) → PipeFits role n1 d p past → PipeFits role n1 d p (Gave e octets ∷ past)
 unfolding LawfulPasses
-other_gave n1 d e octets past p x allowed h = record {
+other_gave role n1 d e octets past p x allowed h = record {
+  role_is = h.role_is;
   dlci_is = h.dlci_is;
   not_control = h.not_control;
   lawful = (allowed, h.lawful);
@@ -71,9 +74,10 @@ other_gave n1 d e octets past p x allowed h = record {
   by_driver_is = h.by_driver_is;
 }
 
-other_read : (n1 d e : ℕ) (octets : List ℕ) (past : List Pass) (p : Pipe) → (e == d) ≡ false → AllowsPass n1 past (Read e octets) → PipeFits n1 d p past → PipeFits n1 d p (Read e octets ∷ past)
+other_read : (role : Role) (n1 d e : ℕ) (octets : List ℕ) (past : List Pass) (p : Pipe) → (e == d) ≡ false → AllowsPass role n1 past (Read e octets) → PipeFits role n1 d p past → PipeFits role n1 d p (Read e octets ∷ past)
 unfolding LawfulPasses
-other_read n1 d e octets past p x allowed h = record {
+other_read role n1 d e octets past p x allowed h = record {
+  role_is = h.role_is;
   dlci_is = h.dlci_is;
   not_control = h.not_control;
   lawful = (allowed, h.lawful);
@@ -86,13 +90,13 @@ other_read n1 d e octets past p x allowed h = record {
   by_driver_is = h.by_driver_is;
 }
 
-first_allowed : (n1 : ℕ) (past : List Pass) (a : Pass) → LawfulPasses n1 (a ∷ past) → AllowsPass n1 past a
+first_allowed : (role : Role) (n1 : ℕ) (past : List Pass) (a : Pass) → LawfulPasses role n1 (a ∷ past) → AllowsPass role n1 past a
 unfolding LawfulPasses
-first_allowed n1 past a h = h.0
+first_allowed role n1 past a h = h.0
 
 -- what the pipe at a place fits
-fits_at : (n1 : ℕ) (ds : List ℕ) (past : List Pass) (v : PipeSet) (i : ℕ) (p : Pipe) (e : ℕ) → i < length v.each → (slice_index_or v.each i p).watch.dlci ≡ e → PipesFit n1 ds v past → PipeFits n1 e (slice_index_or v.each i p) past
-fits_at n1 ds past v i p e there here h = subst (λ d. PipeFits n1 d (slice_index_or v.each i p) past) here (All-get_or (λ q. PipeFits n1 q.watch.dlci q past) v.each i p there h.each)
+fits_at : (role : Role) (n1 : ℕ) (ds : List ℕ) (past : List Pass) (v : PipeSet) (i : ℕ) (p : Pipe) (e : ℕ) → i < length v.each → (slice_index_or v.each i p).watch.dlci ≡ e → PipesFit role n1 ds v past → PipeFits role n1 e (slice_index_or v.each i p) past
+fits_at role n1 ds past v i p e there here h = subst (λ d. PipeFits role n1 d (slice_index_or v.each i p) past) here (All-get_or (λ q. PipeFits role n1 q.watch.dlci q past) v.each i p there h.each)
 
 each_is : (v w : PipeSet) (ps : List Pipe) → w ≡ record v { each = ps } → w.each ≡ ps
 each_is v w ps is = ap (λ (x : PipeSet). x.each) is
@@ -100,15 +104,18 @@ each_is v w ps is = ap (λ (x : PipeSet). x.each) is
 turn_is : (v w : PipeSet) (ps : List Pipe) → w ≡ record v { each = ps } → w.turn ≡ v.turn
 turn_is v w ps is = ap (λ (x : PipeSet). x.turn) is
 
+role_same : (v w : PipeSet) (ps : List Pipe) → w ≡ record v { each = ps } → w.role ≡ v.role
+role_same v w ps is = ap (λ (x : PipeSet). x.role) is
+
 pub one_began : (v w : PipeSet) (i : ℕ) (p : Pipe) (e : ℕ) (how : Begin) (until : Until) → i < length v.each → (slice_index_or v.each i p).watch.dlci ≡ e → Leads (slice_index_or v.each i p) p (Began e how until) → p.watch ≡ (slice_index_or v.each i p).watch → w ≡ record v { each = slice_set v.each i p } → AllLead v w (Began e how until)
 unfolding AllLead Leads
-one_began v w i p e how until there here leads same is n1 ds past h =
+one_began v w i p e how until there here leads same is role n1 ds past h =
     let one = ap (λ (x : Watch). x.dlci) same in
     let it = one ∙ here in
-    let fits = subst (λ d. PipeFits n1 d p (Began e how until ∷ past)) (sym it) (leads n1 e past (fits_at n1 ds past v i p e there here h)) in
+    let fits = subst (λ d. PipeFits role n1 d p (Began e how until ∷ past)) (sym it) (leads role n1 e past (fits_at role n1 ds past v i p e there here h)) in
     let off : (c : ℕ) → (c == p.watch.dlci) ≡ false → (e == c) ≡ false = λ c x. apart_from c e (subst (λ d. (c == d) ≡ false) it x) in
-    one_by n1 ds past (Began e how until) v w i p there one (each_is v w (slice_set v.each i p) is) (turn_is v w (slice_set v.each i p) is ∙ h.turn_is) fits
-    (λ q x k. other_began n1 q.watch.dlci e how until past q (off q.watch.dlci x) (first_allowed n1 past (Began e how until) fits.lawful) k)
+    one_by role n1 ds past (Began e how until) v w i p there one (each_is v w (slice_set v.each i p) is) (turn_is v w (slice_set v.each i p) is ∙ h.turn_is) (role_same v w (slice_set v.each i p) is) fits
+    (λ q x k. other_began role n1 q.watch.dlci e how until past q (off q.watch.dlci x) (first_allowed role n1 past (Began e how until) fits.lawful) k)
     (λ c x k. record { idle = rw (off c x) k.idle; held_is = k.held_is }) h
 
 pub still_idle : (b : Bool) (c : Carries) → c ≡ Idle → (if b then ended_by_call c else c) ≡ Idle
@@ -117,55 +124,55 @@ still_idle false c e = e
 
 pub one_ended : (v w : PipeSet) (i : ℕ) (p : Pipe) (e : ℕ) → i < length v.each → (slice_index_or v.each i p).watch.dlci ≡ e → Leads (slice_index_or v.each i p) p (EndedLane e) → p.watch ≡ (slice_index_or v.each i p).watch → w ≡ record v { each = slice_set v.each i p } → AllLead v w (EndedLane e)
 unfolding AllLead Leads
-one_ended v w i p e there here leads same is n1 ds past h =
+one_ended v w i p e there here leads same is role n1 ds past h =
     let one = ap (λ (x : Watch). x.dlci) same in
     let it = one ∙ here in
-    let fits = subst (λ d. PipeFits n1 d p (EndedLane e ∷ past)) (sym it) (leads n1 e past (fits_at n1 ds past v i p e there here h)) in
-    one_by n1 ds past (EndedLane e) v w i p there one (each_is v w (slice_set v.each i p) is) (turn_is v w (slice_set v.each i p) is ∙ h.turn_is) fits
-    (λ q x k. other_ended n1 q.watch.dlci e past q (apart_from q.watch.dlci e (subst (λ d. (q.watch.dlci == d) ≡ false) it x)) k)
-    (λ c x k. record { idle = still_idle (e == c) (carries c past) k.idle; held_is = k.held_is }) h
+    let fits = subst (λ d. PipeFits role n1 d p (EndedLane e ∷ past)) (sym it) (leads role n1 e past (fits_at role n1 ds past v i p e there here h)) in
+    one_by role n1 ds past (EndedLane e) v w i p there one (each_is v w (slice_set v.each i p) is) (turn_is v w (slice_set v.each i p) is ∙ h.turn_is) (role_same v w (slice_set v.each i p) is) fits
+    (λ q x k. other_ended role n1 q.watch.dlci e past q (apart_from q.watch.dlci e (subst (λ d. (q.watch.dlci == d) ≡ false) it x)) k)
+    (λ c x k. record { idle = still_idle (e == c) (carries role c past) k.idle; held_is = k.held_is }) h
 
 pub one_gave : (v w : PipeSet) (i : ℕ) (p : Pipe) (e : ℕ) (octets : List ℕ) → i < length v.each → (slice_index_or v.each i p).watch.dlci ≡ e → Leads (slice_index_or v.each i p) p (Gave e octets) → p.watch ≡ (slice_index_or v.each i p).watch → w ≡ record v { each = slice_set v.each i p } → AllLead v w (Gave e octets)
 unfolding AllLead Leads
-one_gave v w i p e octets there here leads same is n1 ds past h =
+one_gave v w i p e octets there here leads same is role n1 ds past h =
     let one = ap (λ (x : Watch). x.dlci) same in
     let it = one ∙ here in
-    let fits = subst (λ d. PipeFits n1 d p (Gave e octets ∷ past)) (sym it) (leads n1 e past (fits_at n1 ds past v i p e there here h)) in
-    one_by n1 ds past (Gave e octets) v w i p there one (each_is v w (slice_set v.each i p) is) (turn_is v w (slice_set v.each i p) is ∙ h.turn_is) fits
-    (λ q x k. other_gave n1 q.watch.dlci e octets past q (apart_from q.watch.dlci e (subst (λ d. (q.watch.dlci == d) ≡ false) it x)) (first_allowed n1 past (Gave e octets) fits.lawful) k)
+    let fits = subst (λ d. PipeFits role n1 d p (Gave e octets ∷ past)) (sym it) (leads role n1 e past (fits_at role n1 ds past v i p e there here h)) in
+    one_by role n1 ds past (Gave e octets) v w i p there one (each_is v w (slice_set v.each i p) is) (turn_is v w (slice_set v.each i p) is ∙ h.turn_is) (role_same v w (slice_set v.each i p) is) fits
+    (λ q x k. other_gave role n1 q.watch.dlci e octets past q (apart_from q.watch.dlci e (subst (λ d. (q.watch.dlci == d) ≡ false) it x)) (first_allowed role n1 past (Gave e octets) fits.lawful) k)
     (λ c x k. record { idle = k.idle; held_is = k.held_is }) h
 
 pub one_read : (v w : PipeSet) (i : ℕ) (p : Pipe) (e : ℕ) (octets : List ℕ) → i < length v.each → (slice_index_or v.each i p).watch.dlci ≡ e → Leads (slice_index_or v.each i p) p (Read e octets) → p.watch ≡ (slice_index_or v.each i p).watch → w ≡ record v { each = slice_set v.each i p } → AllLead v w (Read e octets)
 unfolding AllLead Leads
-one_read v w i p e octets there here leads same is n1 ds past h =
+one_read v w i p e octets there here leads same is role n1 ds past h =
     let one = ap (λ (x : Watch). x.dlci) same in
     let it = one ∙ here in
-    let fits = subst (λ d. PipeFits n1 d p (Read e octets ∷ past)) (sym it) (leads n1 e past (fits_at n1 ds past v i p e there here h)) in
-    one_by n1 ds past (Read e octets) v w i p there one (each_is v w (slice_set v.each i p) is) (turn_is v w (slice_set v.each i p) is ∙ h.turn_is) fits
-    (λ q x k. other_read n1 q.watch.dlci e octets past q (apart_from q.watch.dlci e (subst (λ d. (q.watch.dlci == d) ≡ false) it x)) (first_allowed n1 past (Read e octets) fits.lawful) k)
+    let fits = subst (λ d. PipeFits role n1 d p (Read e octets ∷ past)) (sym it) (leads role n1 e past (fits_at role n1 ds past v i p e there here h)) in
+    one_by role n1 ds past (Read e octets) v w i p there one (each_is v w (slice_set v.each i p) is) (turn_is v w (slice_set v.each i p) is ∙ h.turn_is) (role_same v w (slice_set v.each i p) is) fits
+    (λ q x k. other_read role n1 q.watch.dlci e octets past q (apart_from q.watch.dlci e (subst (λ d. (q.watch.dlci == d) ≡ false) it x)) (first_allowed role n1 past (Read e octets) fits.lawful) k)
     (λ c x k. record { idle = k.idle; held_is = k.held_is }) h
 
 -- ## What it is answered
 
-pub under_way_at : (v : PipeSet) (i : ℕ) (p : Pipe) (e : ℕ) → i < length v.each → (slice_index_or v.each i p).watch.dlci ≡ e → SaysLane (slice_index_or v.each i p) true → OfEachPast v (λ past. is_idle (carries e past) ≡ false)
+pub under_way_at : (v : PipeSet) (i : ℕ) (p : Pipe) (e : ℕ) → i < length v.each → (slice_index_or v.each i p).watch.dlci ≡ e → SaysLane (slice_index_or v.each i p) true → OfEachPast v (λ role past. is_idle (carries role e past) ≡ false)
 unfolding OfEachPast SaysLane
-under_way_at v i p e there here says n1 ds past h = at (is_idle (carries e past)) (says n1 e past (fits_at n1 ds past v i p e there here h))
+under_way_at v i p e there here says role n1 ds past h = at (is_idle (carries role e past)) (says role n1 e past (fits_at role n1 ds past v i p e there here h))
   where
     at : (b : Bool) → true ≡ not b → b ≡ false
     at true q = cc
     at false q = refl
 
-pub unread_at : (v : PipeSet) (i : ℕ) (p : Pipe) (e : ℕ) → i < length v.each → (slice_index_or v.each i p).watch.dlci ≡ e → HasUnread (slice_index_or v.each i p) → OfEachPast v (λ past. (carries e past ≡ Idle) × (data_read e past ≢ data_came e past))
+pub unread_at : (v : PipeSet) (i : ℕ) (p : Pipe) (e : ℕ) → i < length v.each → (slice_index_or v.each i p).watch.dlci ≡ e → HasUnread (slice_index_or v.each i p) → OfEachPast v (λ role past. (carries role e past ≡ Idle) × (data_read e past ≢ data_came role e past))
 unfolding OfEachPast HasUnread
-unread_at v i p e there here says n1 ds past h = says n1 e past (fits_at n1 ds past v i p e there here h)
+unread_at v i p e there here says role n1 ds past h = says role n1 e past (fits_at role n1 ds past v i p e there here h)
 
-pub shut_at : (v : PipeSet) (i : ℕ) (p : Pipe) (e : ℕ) → i < length v.each → (slice_index_or v.each i p).watch.dlci ≡ e → IsShut (slice_index_or v.each i p) → OfEachPast v (λ past. is_open Initiator e (wire past) ≡ false)
+pub shut_at : (v : PipeSet) (i : ℕ) (p : Pipe) (e : ℕ) → i < length v.each → (slice_index_or v.each i p).watch.dlci ≡ e → IsShut (slice_index_or v.each i p) → OfEachPast v (λ role past. is_open role e (wire past) ≡ false)
 unfolding OfEachPast IsShut
-shut_at v i p e there here says n1 ds past h = says n1 e past (fits_at n1 ds past v i p e there here h)
+shut_at v i p e there here says role n1 ds past h = says role n1 e past (fits_at role n1 ds past v i p e there here h)
 
-pub takes_none_at : (v : PipeSet) (i : ℕ) (p : Pipe) (e : ℕ) → i < length v.each → (slice_index_or v.each i p).watch.dlci ≡ e → TakesNone (slice_index_or v.each i p) → OfEachPast v (λ past. takes_given (carries e past) ≡ false)
+pub takes_none_at : (v : PipeSet) (i : ℕ) (p : Pipe) (e : ℕ) → i < length v.each → (slice_index_or v.each i p).watch.dlci ≡ e → TakesNone (slice_index_or v.each i p) → OfEachPast v (λ role past. takes_given (carries role e past) ≡ false)
 unfolding OfEachPast TakesNone
-takes_none_at v i p e there here says n1 ds past h = says n1 e past (fits_at n1 ds past v i p e there here h)
+takes_none_at v i p e there here says role n1 ds past h = says role n1 e past (fits_at role n1 ds past v i p e there here h)
 
 unread_is : (x y z : List ℕ) → x ++ y ≡ z → length y ≡ length z - length x
 unread_is x y z e =
@@ -173,40 +180,40 @@ unread_is x y z e =
     let m = ap (λ (xs : List ℕ). length xs) e in
     omega (arith, n, m)
 
-pub reads_at : (v : PipeSet) (i : ℕ) (p : Pipe) (e : ℕ) (count room : ℕ) → i < length v.each → (slice_index_or v.each i p).watch.dlci ≡ e → count ≡ min (length (slice_index_or v.each i p).lane.came) room → OfEachPast v (λ past. count ≡ min (unread e past) room)
+pub reads_at : (v : PipeSet) (i : ℕ) (p : Pipe) (e : ℕ) (count room : ℕ) → i < length v.each → (slice_index_or v.each i p).watch.dlci ≡ e → count ≡ min (length (slice_index_or v.each i p).lane.came) room → OfEachPast v (λ role past. count ≡ min (unread role e past) room)
 unfolding OfEachPast
-reads_at v i p e count room there here is n1 ds past h =
-    let k = fits_at n1 ds past v i p e there here h in
-    is ∙ ap (λ n. min n room) (unread_is (data_read e past) (slice_index_or v.each i p).lane.came (data_came e past) k.came_is)
+reads_at v i p e count room there here is role n1 ds past h =
+    let k = fits_at role n1 ds past v i p e there here h in
+    is ∙ ap (λ n. min n room) (unread_is (data_read e past) (slice_index_or v.each i p).lane.came (data_came role e past) k.came_is)
 
-pub gives_at : (v : PipeSet) (i : ℕ) (p : Pipe) (e : ℕ) (count many : ℕ) → i < length v.each → (slice_index_or v.each i p).watch.dlci ≡ e → count ≡ min many (most_to_go - length (slice_index_or v.each i p).lane.to_go) → OfEachPast v (λ past. count ≡ min many (most_to_go - (length (given e past) - length (left e past))))
+pub gives_at : (v : PipeSet) (i : ℕ) (p : Pipe) (e : ℕ) (count many : ℕ) → i < length v.each → (slice_index_or v.each i p).watch.dlci ≡ e → count ≡ min many (most_to_go - length (slice_index_or v.each i p).lane.to_go) → OfEachPast v (λ role past. count ≡ min many (most_to_go - (length (given e past) - length (left e past))))
 unfolding OfEachPast
-gives_at v i p e count many there here is n1 ds past h =
-    let k = fits_at n1 ds past v i p e there here h in
+gives_at v i p e count many there here is role n1 ds past h =
+    let k = fits_at role n1 ds past v i p e there here h in
     is ∙ ap (λ n. min many (most_to_go - n)) (unread_is (left e past) (slice_index_or v.each i p).lane.to_go (given e past) k.to_go_is)
 
-pub over_at : (v : PipeSet) (i : ℕ) (p : Pipe) (e : ℕ) (b : Bool) → i < length v.each → (slice_index_or v.each i p).watch.dlci ≡ e → SaysOver (slice_index_or v.each i p) b → OfEachPast v (λ past. b ≡ true ↔ IsOver e past)
+pub over_at : (v : PipeSet) (i : ℕ) (p : Pipe) (e : ℕ) (b : Bool) → i < length v.each → (slice_index_or v.each i p).watch.dlci ≡ e → SaysOver (slice_index_or v.each i p) b → OfEachPast v (λ role past. b ≡ true ↔ IsOver role e past)
 unfolding OfEachPast SaysOver
-over_at v i p e b there here says n1 ds past h = says n1 e past (fits_at n1 ds past v i p e there here h)
+over_at v i p e b there here says role n1 ds past h = says role n1 e past (fits_at role n1 ds past v i p e there here h)
 
-pub to_go_at : (v : PipeSet) (i : ℕ) (p : Pipe) (e : ℕ) (count : ℕ) → i < length v.each → (slice_index_or v.each i p).watch.dlci ≡ e → count ≡ length (slice_index_or v.each i p).lane.to_go → OfEachPast v (λ past. count ≡ to_go e past)
+pub to_go_at : (v : PipeSet) (i : ℕ) (p : Pipe) (e : ℕ) (count : ℕ) → i < length v.each → (slice_index_or v.each i p).watch.dlci ≡ e → count ≡ length (slice_index_or v.each i p).lane.to_go → OfEachPast v (λ role past. count ≡ to_go e past)
 unfolding OfEachPast
-to_go_at v i p e count there here is n1 ds past h =
-    let k = fits_at n1 ds past v i p e there here h in
+to_go_at v i p e count there here is role n1 ds past h =
+    let k = fits_at role n1 ds past v i p e there here h in
     is ∙ unread_is (left e past) (slice_index_or v.each i p).lane.to_go (given e past) k.to_go_is
 
-pub behind_at : (v : PipeSet) (i : ℕ) (p : Pipe) (e : ℕ) (b : Bool) → i < length v.each → (slice_index_or v.each i p).watch.dlci ≡ e → SaysBehind (slice_index_or v.each i p) b → OfEachPast v (λ past. b ≡ is_behind_lines (carries e past))
+pub behind_at : (v : PipeSet) (i : ℕ) (p : Pipe) (e : ℕ) (b : Bool) → i < length v.each → (slice_index_or v.each i p).watch.dlci ≡ e → SaysBehind (slice_index_or v.each i p) b → OfEachPast v (λ role past. b ≡ is_behind_lines (carries role e past))
 unfolding OfEachPast SaysBehind
-behind_at v i p e b there here says n1 ds past h = says n1 e past (fits_at n1 ds past v i p e there here h)
+behind_at v i p e b there here says role n1 ds past h = says role n1 e past (fits_at role n1 ds past v i p e there here h)
 
-pub not_behind : (v : PipeSet) (e : ℕ) → NoneOf (connections v.each) e → OfEachPast v (λ past. false ≡ is_behind_lines (carries e past))
+pub not_behind : (v : PipeSet) (e : ℕ) → NoneOf (connections v.each) e → OfEachPast v (λ role past. false ≡ is_behind_lines (carries role e past))
 unfolding OfEachPast
-not_behind v e none n1 ds past h = ap is_behind_lines (sym (h.others e (subst (λ cs. NoneOf cs e) h.connections_are none)).idle)
+not_behind v e none role n1 ds past h = ap is_behind_lines (sym (h.others e (subst (λ cs. NoneOf cs e) h.connections_are none)).idle)
 
 pub has_pipe : {A X : Type 0} (v : PipeSet) (i : ℕ) (p : Pipe) (e : ℕ) (r : Result A X) → i < length v.each → (slice_index_or v.each i p).watch.dlci ≡ e → OnOk r (HasPipe v e)
 unfolding HasPipe
 has_pipe v i p e (Err x) there here = tt
-has_pipe v i p e (Ok x) there here = λ n1 ds past h.
+has_pipe v i p e (Ok x) there here = λ role n1 ds past h.
     let long : length ds ≡ length v.each = ap (λ (cs : List ℕ). length cs) (sym h.connections_are) ∙ length-map v.each (λ (q : Pipe). q.watch.dlci) in
     record {
       place = i;
@@ -216,7 +223,7 @@ has_pipe v i p e (Ok x) there here = λ n1 ds past h.
 
 pub not_data : (v : PipeSet) (e : ℕ) → NoneOf (connections v.each) e → IsNotData v e
 unfolding IsNotData
-not_data v e none n1 ds past h = subst (λ cs. NoneOf cs e) h.connections_are none
+not_data v e none role n1 ds past h = subst (λ cs. NoneOf cs e) h.connections_are none
 
 -- ## Each connection is one of them, or none
 
@@ -237,13 +244,13 @@ find (p ∷ ps) e = at (p.watch.dlci == e) refl (find ps e)
     at false q (inr none) = inr (All-cons (λ d. (d == e) ≡ false) p.watch.dlci (connections ps) q none)
 
 -- what holds of the pipe of each connection, and of those that have none, holds of all
-pub each_one : (v : PipeSet) (P : List Pass → ℕ → Type 0) → ((j : ℕ) (p : Pipe) → j < length v.each → (n1 : ℕ) (past : List Pass) → PipeFits n1 (slice_index_or v.each j p).watch.dlci (slice_index_or v.each j p) past → P past (slice_index_or v.each j p).watch.dlci) → ((past : List Pass) (e : ℕ) → IsPlain e past → P past e) → OfEachPast v (λ past. (e : ℕ) → P past e)
+pub each_one : (v : PipeSet) (P : Role → List Pass → ℕ → Type 0) → ((j : ℕ) (p : Pipe) → j < length v.each → (role : Role) (n1 : ℕ) (past : List Pass) → PipeFits role n1 (slice_index_or v.each j p).watch.dlci (slice_index_or v.each j p) past → P role past (slice_index_or v.each j p).watch.dlci) → ((role : Role) (past : List Pass) (e : ℕ) → IsPlain role e past → P role past e) → OfEachPast v (λ role past. (e : ℕ) → P role past e)
 unfolding OfEachPast
-each_one v P own other n1 ds past h e = at (find v.each e)
+each_one v P own other role n1 ds past h e = at (find v.each e)
   where
-    at : IsAt v.each e ⊎ NoneOf (connections v.each) e → P past e
-    at (inr none) = other past e (h.others e (subst (λ cs. NoneOf cs e) h.connections_are none))
-    at (inl i) = subst (λ d. P past d) i.here (own i.place i.pipe i.there n1 past (All-get_or (λ q. PipeFits n1 q.watch.dlci q past) v.each i.place i.pipe i.there h.each))
+    at : IsAt v.each e ⊎ NoneOf (connections v.each) e → P role past e
+    at (inr none) = other role past e (h.others e (subst (λ cs. NoneOf cs e) h.connections_are none))
+    at (inl i) = subst (λ d. P role past d) i.here (own i.place i.pipe i.there role n1 past (All-get_or (λ q. PipeFits role n1 q.watch.dlci q past) v.each i.place i.pipe i.there h.each))
 
 -- ## Flow
 
@@ -254,36 +261,36 @@ some_pipe : (ps : List Pipe) (i : ℕ) → i < length ps → Pipe
 some_pipe [] i there = absurd (omega (arith, there))
 some_pipe (p ∷ ps) i there = p
 
-pub due_of : (v : PipeSet) (d : ℕ) (go : Bool) → IsFlowOf v.each d go → OfEachPast v (λ past. IsDue d past go)
+pub due_of : (v : PipeSet) (d : ℕ) (go : Bool) → IsFlowOf v.each d go → OfEachPast v (λ role past. IsDue role d past go)
 unfolding OfEachPast SaysFlow
-due_of v d go f n1 ds past h =
+due_of v d go f role n1 ds past h =
     let p = some_pipe v.each f.place f.there in
-    f.says p n1 d past (fits_at n1 ds past v f.place p d f.there (f.here p) h)
+    f.says p role n1 d past (fits_at role n1 ds past v f.place p d f.there (f.here p) h)
 
 -- nothing is to be said of any pipe
-pub none_due : (v : PipeSet) → ((j : ℕ) (p : Pipe) → j < length v.each → SaysFlow (slice_index_or v.each j p) None) → OfEachPast v (λ past. (e : ℕ) (go : Bool) → ¬ IsDue e past go)
+pub none_due : (v : PipeSet) → ((j : ℕ) (p : Pipe) → j < length v.each → SaysFlow (slice_index_or v.each j p) None) → OfEachPast v (λ role past. (e : ℕ) (go : Bool) → ¬ IsDue role e past go)
 unfolding SaysFlow
 none_due v say =
-    each_one v (λ past e. (go : Bool) → ¬ IsDue e past go)
-    (λ j p there n1 past k go due. say j p there n1 (slice_index_or v.each j p).watch.dlci past go k due)
-    (λ past e plain go due. plain_due e past go plain due)
+    each_one v (λ role past e. (go : Bool) → ¬ IsDue role e past go)
+    (λ j p there role n1 past k go due. say j p there role n1 (slice_index_or v.each j p).watch.dlci past go k due)
+    (λ role past e plain go due. plain_due role e past go plain due)
 
 -- what is due is said, and each pipe sees it
-pub all_flowed : (v w : PipeSet) (d : ℕ) (go : Bool) (f : Frame) → OfEachPast v (λ past. IsDue d past go) → f ≡ flow_frame d go → w ≡ record v { each = map (flowed_pipe f) v.each } → AllLead v w (Flowed f)
+pub all_flowed : (v w : PipeSet) (d : ℕ) (go : Bool) (f : Frame) → OfEachPast v (λ role past. IsDue role d past go) → f ≡ flow_frame v.role d go → w ≡ record v { each = map (flowed_pipe f) v.each } → AllLead v w (Flowed f)
 unfolding AllLead LawfulPasses OfEachPast
-all_flowed v w d go f due written e n1 ds past h =
-    let allowed : AllowsPass n1 past (Flowed f) = record { dlci = d; go = go; is_due = due n1 ds past h; as_written = written } in
-    all_by n1 ds past (Flowed f) (flowed_pipe f) v w e (λ p. refl) (λ p k. flowed_fits n1 p.watch.dlci p past f allowed k) (allowed, h.lawful) (λ c k. plain_flowed n1 c past f allowed k) refl h
+all_flowed v w d go f due written e role n1 ds past h =
+    let allowed : AllowsPass role n1 past (Flowed f) = record { dlci = d; go = go; is_due = due role n1 ds past h; as_written = written ∙ ap (λ r. flow_frame r d go) h.role_is } in
+    all_by role n1 ds past (Flowed f) (flowed_pipe f) v w e (λ p. refl) (λ p k. flowed_fits role n1 p.watch.dlci p past f allowed k) (allowed, h.lawful) (λ c k. plain_flowed role n1 c past f allowed k) refl h
 
 -- ## Data leaves
 
 -- nothing may leave any
-pub none_leaves : (v : PipeSet) → ((j : ℕ) (p : Pipe) → j < length v.each → HasNoneToSend (slice_index_or v.each j p)) → OfEachPast v (λ past. (e : ℕ) → NoneLeaves past e)
+pub none_leaves : (v : PipeSet) → ((j : ℕ) (p : Pipe) → j < length v.each → HasNoneToSend (slice_index_or v.each j p)) → OfEachPast v (λ role past. (e : ℕ) → NoneLeaves role past e)
 unfolding HasNoneToSend
 none_leaves v none =
-    each_one v (λ past e. NoneLeaves past e)
-    (λ j p there n1 past k. none j p there n1 (slice_index_or v.each j p).watch.dlci past k)
-    (λ past e plain lets may.
+    each_one v (λ role past e. NoneLeaves role past e)
+    (λ j p there role n1 past k. none j p there role n1 (slice_index_or v.each j p).watch.dlci past k)
+    (λ role past e plain lets may.
     let x : false ≡ true = ap lets_leave (sym plain.idle) ∙ lets in
     cc)
 
@@ -329,9 +336,10 @@ behind_there (d ∷ ds) (suc i) e there here before =
     let later = behind_there ds i e (omega (arith, there)) here (λ j x l. before (suc j) x (omega (arith, l))) in
     rw (before 0 0 (omega arith)) (omega (arith, later))
 
-other_left : (n1 d : ℕ) (f : Frame) (past : List Pass) (p : Pipe) → (f.dlci == d) ≡ false → (f.dlci == 0) ≡ false → AllowsPass n1 past (Left f) → PipeFits n1 d p past → PipeFits n1 d p (Left f ∷ past)
+other_left : (role : Role) (n1 d : ℕ) (f : Frame) (past : List Pass) (p : Pipe) → (f.dlci == d) ≡ false → (f.dlci == 0) ≡ false → AllowsPass role n1 past (Left f) → PipeFits role n1 d p past → PipeFits role n1 d p (Left f ∷ past)
 unfolding LawfulPasses
-other_left n1 d f past p x z allowed h = record {
+other_left role n1 d f past p x z allowed h = record {
+  role_is = h.role_is;
   dlci_is = h.dlci_is;
   not_control = h.not_control;
   lawful = (allowed, h.lawful);
@@ -344,11 +352,11 @@ other_left n1 d f past p x z allowed h = record {
   by_driver_is = h.by_driver_is;
 }
 
-pub leaves : (n1 : ℕ) (v w : PipeSet) (i : ℕ) (p : Pipe) (f : Frame) → IsNext v i → LeadsLeft n1 (slice_index_or v.each i p) p f → f.dlci ≡ (slice_index_or v.each i p).watch.dlci → p.watch ≡ (slice_index_or v.each i p).watch → w.each ≡ slice_set v.each i p → w.turn ≡ i + 1 → LeavesInTurn n1 v w f
+pub leaves : (n1 : ℕ) (v w : PipeSet) (i : ℕ) (p : Pipe) (f : Frame) → IsNext v i → LeadsLeft n1 (slice_index_or v.each i p) p f → f.dlci ≡ (slice_index_or v.each i p).watch.dlci → p.watch ≡ (slice_index_or v.each i p).watch → w.each ≡ slice_set v.each i p → w.turn ≡ i + 1 → w.role ≡ v.role → LeavesInTurn n1 v w f
 unfolding LeavesInTurn LeadsLeft AreApart HasNoneToSend
-leaves n1 v w i p f next leads on same is turn ds past h = (
-  one_by n1 ds past (Left f) v w i p next.there one is (turn ∙ sym behind) fits
-      (λ q x k. other_left n1 q.watch.dlci f past q (apart_from q.watch.dlci f.dlci (subst (λ d. (q.watch.dlci == d) ≡ false) it x)) not_zero (first_allowed n1 past (Left f) fits.lawful) k)
+leaves n1 v w i p f next leads on same is turn end role ds past h = (
+  one_by role n1 ds past (Left f) v w i p next.there one is (turn ∙ sym behind) end fits
+      (λ q x k. other_left role n1 q.watch.dlci f past q (apart_from q.watch.dlci f.dlci (subst (λ d. (q.watch.dlci == d) ≡ false) it x)) not_zero (first_allowed role n1 past (Left f) fits.lawful) k)
       (λ c x k. record { idle = k.idle; held_is = k.held_is }) h,
   record {
     place = i;
@@ -357,8 +365,8 @@ leaves n1 v w i p f next leads on same is turn ds past h = (
     none_before = λ j x short before.
         let near : j < length v.each = omega (arith, long, short) in
         let is_number : (slice_index_or v.each j p).watch.dlci ≡ slice_index_or ds j x = sym (number_at v.each j p x near) ∙ ap (λ (cs : List ℕ). slice_index_or cs j x) h.connections_are in
-        let k = All-get_or (λ q. PipeFits n1 q.watch.dlci q past) v.each j p near h.each in
-        subst (λ d. NoneLeaves past d) is_number (next.none_before j p near (subst (λ t. comes_before t j i ≡ true) (sym h.turn_is) before) n1 (slice_index_or v.each j p).watch.dlci past k);
+        let k = All-get_or (λ q. PipeFits role n1 q.watch.dlci q past) v.each j p near h.each in
+        subst (λ d. NoneLeaves role past d) is_number (next.none_before j p near (subst (λ t. comes_before t j i ≡ true) (sym h.turn_is) before) role n1 (slice_index_or v.each j p).watch.dlci past k);
   },
 )
   where
@@ -371,11 +379,11 @@ leaves n1 v w i p f next leads on same is turn ds past h = (
     it : p.watch.dlci ≡ f.dlci
     it = one ∙ sym on
 
-    old : PipeFits n1 (slice_index_or v.each i p).watch.dlci (slice_index_or v.each i p) past
-    old = All-get_or (λ q. PipeFits n1 q.watch.dlci q past) v.each i p next.there h.each
+    old : PipeFits role n1 (slice_index_or v.each i p).watch.dlci (slice_index_or v.each i p) past
+    old = All-get_or (λ q. PipeFits role n1 q.watch.dlci q past) v.each i p next.there h.each
 
-    fits : PipeFits n1 p.watch.dlci p (Left f ∷ past)
-    fits = subst (λ d. PipeFits n1 d p (Left f ∷ past)) (sym one) (leads (slice_index_or v.each i p).watch.dlci past old)
+    fits : PipeFits role n1 p.watch.dlci p (Left f ∷ past)
+    fits = subst (λ d. PipeFits role n1 d p (Left f ∷ past)) (sym one) (leads role (slice_index_or v.each i p).watch.dlci past old)
 
     not_zero : (f.dlci == 0) ≡ false
     not_zero = ap (λ d. d == 0) on ∙ old.not_control
@@ -420,7 +428,7 @@ pub gave_by : {X : Type 0} (v w : PipeSet) (i : ℕ) (p : Pipe) (e : ℕ) (octet
 gave_by v w i p e octets (Ok count) there here leads same is = one_gave v w i p e (take count octets) there here leads same is
 gave_by v w i p e octets (Err x) there here leads same is = tt
 
-pub gives_by : {X : Type 0} (v : PipeSet) (i : ℕ) (p : Pipe) (e many : ℕ) (r : Result ℕ X) → i < length v.each → (slice_index_or v.each i p).watch.dlci ≡ e → IfOk r (λ count. count ≡ min many (most_to_go - length (slice_index_or v.each i p).lane.to_go)) → IfOk r (λ count. OfEachPast v (λ past. count ≡ min many (most_to_go - (length (given e past) - length (left e past)))))
+pub gives_by : {X : Type 0} (v : PipeSet) (i : ℕ) (p : Pipe) (e many : ℕ) (r : Result ℕ X) → i < length v.each → (slice_index_or v.each i p).watch.dlci ≡ e → IfOk r (λ count. count ≡ min many (most_to_go - length (slice_index_or v.each i p).lane.to_go)) → IfOk r (λ count. OfEachPast v (λ role past. count ≡ min many (most_to_go - (length (given e past) - length (left e past)))))
 gives_by v i p e many (Ok count) there here is = gives_at v i p e count many there here is
 gives_by v i p e many (Err x) there here is = tt
 
@@ -428,6 +436,6 @@ pub came_by : {A X : Type 0} (v w : PipeSet) (i : ℕ) (p : Pipe) (f : Frame) (r
 came_by v w i p f (Ok x) e there here leads same is = one_info v w i p f e there here leads same is
 came_by v w i p f (Err x) e there here leads same is = tt
 
-pub due_by : (v : PipeSet) (r : Option Flow) → IfSome r (λ f. IsFlowOf v.each f.dlci.number f.go) → IfSome r (λ f. OfEachPast v (λ past. IsDue f.dlci.number past f.go))
+pub due_by : (v : PipeSet) (r : Option Flow) → IfSome r (λ f. IsFlowOf v.each f.dlci.number f.go) → IfSome r (λ f. OfEachPast v (λ role past. IsDue role f.dlci.number past f.go))
 due_by v (Some f) is = due_of v f.dlci.number f.go is
 due_by v None is = tt

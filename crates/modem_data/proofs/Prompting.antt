@@ -8,7 +8,7 @@ use Rattle.std.proofs.lemmas.List.{append_assoc, append-nil, length-drop, take_a
 use Rattle.at_text.specs.Lines.{is_line_end, unfinished, cut, kept_run}
 use Rattle.at_text.proofs.lines.UnfinishedLines.{reads_on as reads_lines_on, unfinished-behind, has_end-take, has_end-unfinished}
 use Rattle.modem_data.specs.Prompts.{may_prompt, is_mark, before_prompt, behind_prompt, prompts, NeverPrompts, IsUnprompted, IsPrompted, IsPromptSplit}
-use Rattle.modem_data.specs.Switching.{Carries, Idle, Prompts, Marked, Sends, Owes, lines_of, data_of, marked, carries_prompt, carries_after, has_prompt}
+use Rattle.modem_data.specs.Switching.{Carries, Idle, Prompts, Marked, Sends, Owes, Owns, lines_of, data_of, marked, carries_prompt, carries_after, has_prompt}
 use Rattle.modem_data.specs.Splits.{ReadsOn, IsPromptCut}
 
 -- ## The unfinished line, an octet later
@@ -276,6 +276,9 @@ both_whole x y = append-nil (x ++ y) ∙ (ap (λ t. x ++ t) (sym (append-nil y))
 pub whole_on : (m : Carries) (x y : List ℕ) → (m ≡ Sends) ⊎ (m ≡ Idle) → ReadsOn m x y
 whole_on m x y (inl e) = rw e (record { lines_go_on = both_whole x y; data_goes_on = refl; stands = refl })
 whole_on m x y (inr e) = rw e (record { lines_go_on = both_whole x y; data_goes_on = refl; stands = refl })
+
+pub owns_on : (kept x y : List ℕ) → ReadsOn (Owns kept) x y
+owns_on kept x y = record { lines_go_on = both_whole x y; data_goes_on = refl; stands = refl }
 
 pub owes_on : (x y : List ℕ) → ReadsOn Owes x y
 owes_on [] y = record { lines_go_on = refl; data_goes_on = refl; stands = refl }

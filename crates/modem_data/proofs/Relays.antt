@@ -5,6 +5,7 @@ use Rattle.std.proofs.lemmas.List.{append_assoc, append-nil, take-append-drop, n
 use Rattle.std.proofs.lemmas.Bool.{eqb-true}
 use Rattle.std.proofs.lemmas.Grind.{flat_map-append}
 use Rattle.mux_frame.specs.Frames.{Frame}
+use Rattle.mux_station.specs.declared.role.Role.{Role}
 use Rattle.mux_frame.specs.Spelling.{spelled}
 use Rattle.mux_frame.specs.Reading.{Reads}
 use Rattle.mux_frame.specs.Deframing.{Deframes, TakesIn, IsDeframed}
@@ -17,13 +18,13 @@ use Rattle.modem_data.specs.Passing.{Came, Went, Flowed, Left, Lost, Began, Ende
 use Rattle.modem_data.specs.PipeSets.{AllHand, AllLead, BeginsAll, HasPipe, LeavesInTurn, NoneLeaves, OfEachPast, PipesFit}
 use Rattle.modem_data.specs.declared.pipe.Reading.{Reading}
 use Rattle.modem_data.specs.Handing.{PassesIn, PassesOut, PassesOver, handed}
-use Rattle.modem_data.specs.Hops.{Relay, RelayFits, Hop, Fed, Handed, Took, Wrote, Passed, Hops, HopsBy, BeginsRelay, LawfulHops, DriverFirst, AllCame, HoldsNothing, LineIn, PassesOn, DriverOut, still_there, driver_out, OneOut, flow_out, still_out, went_out, left_out, spell, due, line_frames, with_lines, for_driver, for_line, fed, taken, wrote, handed_over, came, went, passes}
+use Rattle.modem_data.specs.Hops.{Relay, RelayFits, Hop, Fed, Handed, Took, Wrote, Passed, Hops, HopsBy, BeginsAs, LawfulHops, DriverFirst, AllCame, HoldsNothing, LineIn, PassesOn, DriverOut, still_there, driver_out, OneOut, flow_out, still_out, went_out, left_out, spell, due, line_frames, with_lines, for_driver, for_line, fed, taken, wrote, handed_over, came, went, passes}
 
 -- ## Octets
 
 pub hops_fed : (v w : Relay) (octets : List ℕ) → TakesIn v.outer octets w.outer → w.outer.n1 ≡ v.outer.n1 → w ≡ record v { outer = w.outer } → Hops v w (Fed octets)
 unfolding Hops LawfulHops
-hops_fed v w octets takes n e n1 ds past h = rw e (record {
+hops_fed v w octets takes n e role n1 ds past h = rw e (record {
   outer_n1 = n ∙ h.outer_n1;
   inner_n1 = h.inner_n1;
   lawful = (tt, h.lawful);
@@ -36,7 +37,7 @@ hops_fed v w octets takes n e n1 ds past h = rw e (record {
 
 pub hops_took : (v w : Relay) (octets : List ℕ) → TakesIn v.inner octets w.inner → w.inner.n1 ≡ v.inner.n1 → w ≡ record v { inner = w.inner } → Hops v w (Took octets)
 unfolding Hops LawfulHops
-hops_took v w octets takes n e n1 ds past h = rw e (record {
+hops_took v w octets takes n e role n1 ds past h = rw e (record {
   outer_n1 = h.outer_n1;
   inner_n1 = n ∙ h.inner_n1;
   lawful = (tt, h.lawful);
@@ -53,7 +54,7 @@ given_on before waits n = append_assoc before (take n waits) (drop n waits) ∙ 
 
 pub hops_handed : (v w : Relay) (octets : List ℕ) (n : ℕ) → octets ≡ take n v.to_driver → w.to_driver ≡ drop n v.to_driver → w ≡ record v { to_driver = w.to_driver } → Hops v w (Handed octets)
 unfolding Hops LawfulHops
-hops_handed v w octets n o t e n1 ds past h = rw e (record {
+hops_handed v w octets n o t e role n1 ds past h = rw e (record {
   outer_n1 = h.outer_n1;
   inner_n1 = h.inner_n1;
   lawful = (tt, h.lawful);
@@ -66,7 +67,7 @@ hops_handed v w octets n o t e n1 ds past h = rw e (record {
 
 pub hops_wrote : (v w : Relay) (octets : List ℕ) (n : ℕ) → octets ≡ take n v.to_line → w.to_line ≡ drop n v.to_line → w ≡ record v { to_line = w.to_line } → Hops v w (Wrote octets)
 unfolding Hops LawfulHops
-hops_wrote v w octets n o t e n1 ds past h = rw e (record {
+hops_wrote v w octets n o t e role n1 ds past h = rw e (record {
   outer_n1 = h.outer_n1;
   inner_n1 = h.inner_n1;
   lawful = (tt, h.lawful);
@@ -84,12 +85,12 @@ frames_are : (f : Frame) (cut : LineCut) (m : Carries) → IsCut cut m f.info �
 frames_are f cut m is = rw (is.mark, is.before, is.behind) refl
 
 -- what was written for the driver is what it was due
-handed_due : (n1 : ℕ) (ds : List ℕ) (v : Relay) (past : List Hop) (f : Frame) (cut : Option LineCut) → RelayFits n1 ds v past → AllHand v.pipes f cut → handed f cut ≡ spell (due (passes past) f)
+handed_due : (role : Role) (n1 : ℕ) (ds : List ℕ) (v : Relay) (past : List Hop) (f : Frame) (cut : Option LineCut) → RelayFits role n1 ds v past → AllHand v.pipes f cut → handed f cut ≡ spell (due role (passes past) f)
 unfolding AllHand
-handed_due n1 ds v past f None h on = rw (on n1 ds (passes past) h.pipes_fit) (sym (append-nil (spelled f)))
-handed_due n1 ds v past f (Some cut) h on =
-    let hand = on n1 ds (passes past) h.pipes_fit in
-    rw hand.0 (ap spell (frames_are f cut (carries f.dlci (passes past)) hand.1))
+handed_due role n1 ds v past f None h on = rw (on role n1 ds (passes past) h.pipes_fit) (sym (append-nil (spelled f)))
+handed_due role n1 ds v past f (Some cut) h on =
+    let hand = on role n1 ds (passes past) h.pipes_fit in
+    rw hand.0 (ap spell (frames_are f cut (carries role f.dlci (passes past)) hand.1))
 
 put_behind : (before waits more : List ℕ) (fs gs : List Frame) → before ++ waits ≡ spell fs → more ≡ spell gs → before ++ (waits ++ more) ≡ spell (fs ++ gs)
 put_behind before waits more fs gs h e = sym (append_assoc before waits more) ∙ (ap (λ x. x ++ more) h ∙ (ap (λ x. spell fs ++ x) e ∙ sym (flat_map-append spelled fs gs)))
@@ -98,15 +99,15 @@ pub hops_came : (v w : Relay) → PassesIn v.outer.next v.pipes w.pipes v.to_dri
 unfolding Hops LawfulHops PassesOver AllLead
 hops_came v w p over n i l = record {
   frame = p.frame;
-  leads = λ n1 ds past h. record {
+  leads = λ role n1 ds past h. record {
     outer_n1 = n ∙ h.outer_n1;
     inner_n1 = ap (λ x. x.n1) i ∙ h.inner_n1;
     lawful = (tt, h.lawful);
     line_in = over (fed past) (came past) p.frame p.is_at_hand h.line_in;
     driver_out = rw i (subst (λ fs. Deframes (taken past) fs v.inner) (sym (append-nil (went past))) h.driver_out);
-    to_driver_is = ap (λ x. handed_over past ++ x) p.written ∙ put_behind (handed_over past) v.to_driver (handed p.frame p.cut) (for_driver past) (due (passes past) p.frame) h.to_driver_is (handed_due n1 ds v past p.frame p.cut h p.hands);
+    to_driver_is = ap (λ x. handed_over past ++ x) p.written ∙ put_behind (handed_over past) v.to_driver (handed p.frame p.cut) (for_driver role past) (due role (passes past) p.frame) h.to_driver_is (handed_due role n1 ds v past p.frame p.cut h p.hands);
     to_line_is = rw l (subst (λ fs. wrote past ++ v.to_line ≡ spell fs) (sym (append-nil (for_line past))) h.to_line_is);
-    pipes_fit = p.leads n1 ds (passes past) h.pipes_fit;
+    pipes_fit = p.leads role n1 ds (passes past) h.pipes_fit;
   };
 }
 
@@ -114,7 +115,7 @@ pub hops_went : (v w : Relay) → PassesOut v.inner.next v.pipes w.pipes v.to_li
 unfolding Hops LawfulHops PassesOver AllLead
 hops_went v w p over n i l = record {
   frame = p.frame;
-  leads = λ n1 ds past h. record {
+  leads = λ role n1 ds past h. record {
     outer_n1 = ap (λ x. x.n1) i ∙ h.outer_n1;
     inner_n1 = n ∙ h.inner_n1;
     lawful = (tt, h.lawful);
@@ -122,7 +123,7 @@ hops_went v w p over n i l = record {
     driver_out = over (taken past) (went past) p.frame p.is_at_hand h.driver_out;
     to_driver_is = rw l h.to_driver_is;
     to_line_is = ap (λ x. wrote past ++ x) p.written ∙ put_behind (wrote past) v.to_line (spelled p.frame) (for_line past) (p.frame ∷ []) h.to_line_is (sym (append-nil (spelled p.frame)));
-    pipes_fit = p.leads n1 ds (passes past) h.pipes_fit;
+    pipes_fit = p.leads role n1 ds (passes past) h.pipes_fit;
   };
 }
 
@@ -130,11 +131,11 @@ hops_went v w p over n i l = record {
 
 pub all_came : (v : Relay) → IsDeframed → v.outer.next ≡ None → AllCame v
 unfolding AllCame
-all_came v law none n1 ds past h = subst (λ n. Reads n (fed past) (came past) v.outer.undecided) h.outer_n1 ((law (fed past) (came past) v.outer h.line_in).all none)
+all_came v law none role n1 ds past h = subst (λ n. Reads n (fed past) (came past) v.outer.undecided) h.outer_n1 ((law (fed past) (came past) v.outer h.line_in).all none)
 
 -- every frame of the driver's has gone
-all_went : (n1 : ℕ) (ds : List ℕ) (v : Relay) (past : List Hop) → IsDeframed → v.inner.next ≡ None → RelayFits n1 ds v past → DriverFirst n1 past
-all_went n1 ds v past law none h = record {
+all_went : (role : Role) (n1 : ℕ) (ds : List ℕ) (v : Relay) (past : List Hop) → IsDeframed → v.inner.next ≡ None → RelayFits role n1 ds v past → DriverFirst n1 past
+all_went role n1 ds v past law none h = record {
   rest = v.inner.undecided;
   all_went = subst (λ n. Reads n (taken past) (went past) v.inner.undecided) h.inner_n1 ((law (taken past) (went past) v.inner h.driver_out).all none);
 }
@@ -143,17 +144,17 @@ all_went n1 ds v past law none h = record {
 
 pub hops_left : (v w : Relay) (f : Frame) → IsDeframed → v.inner.next ≡ None → LeavesInTurn v.outer.n1 v.pipes w.pipes f → w.to_line ≡ v.to_line ++ spelled f → w ≡ record v { pipes = w.pipes; to_line = w.to_line } → Hops v w (Passed (Left f))
 unfolding Hops LawfulHops LeavesInTurn
-hops_left v w f law none leads out e n1 ds past h =
-    let both = leads ds (passes past) (subst (λ n. PipesFit n ds v.pipes (passes past)) (sym h.outer_n1) h.pipes_fit) in
+hops_left v w f law none leads out e role n1 ds past h =
+    let both = leads role ds (passes past) (subst (λ n. PipesFit role n ds v.pipes (passes past)) (sym h.outer_n1) h.pipes_fit) in
     rw e (record {
       outer_n1 = h.outer_n1;
       inner_n1 = h.inner_n1;
-      lawful = ((all_went n1 ds v past law none h, both.1), h.lawful);
+      lawful = ((all_went role n1 ds v past law none h, both.1), h.lawful);
       line_in = subst (λ fs. Deframes (fed past) fs v.outer) (sym (append-nil (came past))) h.line_in;
       driver_out = subst (λ fs. Deframes (taken past) fs v.inner) (sym (append-nil (went past))) h.driver_out;
       to_driver_is = h.to_driver_is;
       to_line_is = ap (λ x. wrote past ++ x) out ∙ put_behind (wrote past) v.to_line (spelled f) (for_line past) (f ∷ []) h.to_line_is (sym (append-nil (spelled f)));
-      pipes_fit = subst (λ n. PipesFit n ds w.pipes (Left f ∷ passes past)) h.outer_n1 both.0;
+      pipes_fit = subst (λ n. PipesFit role n ds w.pipes (Left f ∷ passes past)) h.outer_n1 both.0;
     })
 
 -- ## What a call answers
@@ -171,7 +172,7 @@ none_by v (Err x) law none = tt
 -- octets given or read, a lane that begins, and a loss pass no deframer
 pub hops_read : (v w : Relay) (e : ℕ) (octets : List ℕ) → AllLead v.pipes w.pipes (Read e octets) → w ≡ record v { pipes = w.pipes } → Hops v w (Passed (Read e octets))
 unfolding Hops LawfulHops AllLead
-hops_read v w c octets leads e n1 ds past h = rw e (record {
+hops_read v w c octets leads e role n1 ds past h = rw e (record {
   outer_n1 = h.outer_n1;
   inner_n1 = h.inner_n1;
   lawful = (tt, h.lawful);
@@ -179,12 +180,12 @@ hops_read v w c octets leads e n1 ds past h = rw e (record {
   driver_out = subst (λ fs. Deframes (taken past) fs v.inner) (sym (append-nil (went past))) h.driver_out;
   to_driver_is = h.to_driver_is;
   to_line_is = subst (λ fs. wrote past ++ v.to_line ≡ spell fs) (sym (append-nil (for_line past))) h.to_line_is;
-  pipes_fit = leads n1 ds (passes past) h.pipes_fit;
+  pipes_fit = leads role n1 ds (passes past) h.pipes_fit;
 })
 
 pub hops_gave : (v w : Relay) (e : ℕ) (octets : List ℕ) → AllLead v.pipes w.pipes (Gave e octets) → w ≡ record v { pipes = w.pipes } → Hops v w (Passed (Gave e octets))
 unfolding Hops LawfulHops AllLead
-hops_gave v w c octets leads e n1 ds past h = rw e (record {
+hops_gave v w c octets leads e role n1 ds past h = rw e (record {
   outer_n1 = h.outer_n1;
   inner_n1 = h.inner_n1;
   lawful = (tt, h.lawful);
@@ -192,12 +193,12 @@ hops_gave v w c octets leads e n1 ds past h = rw e (record {
   driver_out = subst (λ fs. Deframes (taken past) fs v.inner) (sym (append-nil (went past))) h.driver_out;
   to_driver_is = h.to_driver_is;
   to_line_is = subst (λ fs. wrote past ++ v.to_line ≡ spell fs) (sym (append-nil (for_line past))) h.to_line_is;
-  pipes_fit = leads n1 ds (passes past) h.pipes_fit;
+  pipes_fit = leads role n1 ds (passes past) h.pipes_fit;
 })
 
 pub hops_lost : (v w : Relay) → AllLead v.pipes w.pipes Lost → w ≡ record v { pipes = w.pipes } → Hops v w (Passed Lost)
 unfolding Hops LawfulHops AllLead
-hops_lost v w leads e n1 ds past h = rw e (record {
+hops_lost v w leads e role n1 ds past h = rw e (record {
   outer_n1 = h.outer_n1;
   inner_n1 = h.inner_n1;
   lawful = (tt, h.lawful);
@@ -205,25 +206,25 @@ hops_lost v w leads e n1 ds past h = rw e (record {
   driver_out = subst (λ fs. Deframes (taken past) fs v.inner) (sym (append-nil (went past))) h.driver_out;
   to_driver_is = h.to_driver_is;
   to_line_is = subst (λ fs. wrote past ++ v.to_line ≡ spell fs) (sym (append-nil (for_line past))) h.to_line_is;
-  pipes_fit = leads n1 ds (passes past) h.pipes_fit;
+  pipes_fit = leads role n1 ds (passes past) h.pipes_fit;
 })
 
 pub hops_began : (v w : Relay) (d : ℕ) (how : Begin) (until : Until) → HasPipe v.pipes d → AllLead v.pipes w.pipes (Began d how until) → w ≡ record v { pipes = w.pipes } → Hops v w (Passed (Began d how until))
 unfolding Hops LawfulHops AllLead HasPipe
-hops_began v w d how until has leads e n1 ds past h = rw e (record {
+hops_began v w d how until has leads e role n1 ds past h = rw e (record {
   outer_n1 = h.outer_n1;
   inner_n1 = h.inner_n1;
-  lawful = (has n1 ds (passes past) h.pipes_fit, h.lawful);
+  lawful = (has role n1 ds (passes past) h.pipes_fit, h.lawful);
   line_in = subst (λ fs. Deframes (fed past) fs v.outer) (sym (append-nil (came past))) h.line_in;
   driver_out = subst (λ fs. Deframes (taken past) fs v.inner) (sym (append-nil (went past))) h.driver_out;
   to_driver_is = h.to_driver_is;
   to_line_is = subst (λ fs. wrote past ++ v.to_line ≡ spell fs) (sym (append-nil (for_line past))) h.to_line_is;
-  pipes_fit = leads n1 ds (passes past) h.pipes_fit;
+  pipes_fit = leads role n1 ds (passes past) h.pipes_fit;
 })
 
 pub hops_ended : (v w : Relay) (d : ℕ) → AllLead v.pipes w.pipes (EndedLane d) → w ≡ record v { pipes = w.pipes } → Hops v w (Passed (EndedLane d))
 unfolding Hops LawfulHops AllLead
-hops_ended v w d leads e n1 ds past h = rw e (record {
+hops_ended v w d leads e role n1 ds past h = rw e (record {
   outer_n1 = h.outer_n1;
   inner_n1 = h.inner_n1;
   lawful = (tt, h.lawful);
@@ -231,7 +232,7 @@ hops_ended v w d leads e n1 ds past h = rw e (record {
   driver_out = subst (λ fs. Deframes (taken past) fs v.inner) (sym (append-nil (went past))) h.driver_out;
   to_driver_is = h.to_driver_is;
   to_line_is = subst (λ fs. wrote past ++ v.to_line ≡ spell fs) (sym (append-nil (for_line past))) h.to_line_is;
-  pipes_fit = leads n1 ds (passes past) h.pipes_fit;
+  pipes_fit = leads role n1 ds (passes past) h.pipes_fit;
 })
 
 pub ended_by : {A X : Type 0} (v w : Relay) (d : ℕ) (r : Result A X) → OnOk r (AllLead v.pipes w.pipes (EndedLane d)) → w ≡ record v { pipes = w.pipes } → OnOk r (Hops v w (Passed (EndedLane d)))
@@ -250,9 +251,9 @@ pub read_by : {X : Type 0} (v w : Relay) (d : ℕ) (octets : Reading → List �
 read_by v w d octets (Ok x) leads is = hops_read v w d (octets x) leads is
 read_by v w d octets (Err x) leads is = tt
 
-pub begins : (n1 : ℕ) (ds : List ℕ) (v : Relay) → v.outer.n1 ≡ n1 → v.inner.n1 ≡ n1 → Deframes [] [] v.outer → Deframes [] [] v.inner → BeginsAll ds v.pipes → v.to_driver ≡ [] → v.to_line ≡ [] → BeginsRelay n1 ds v
-unfolding BeginsRelay BeginsAll LawfulHops
-begins n1 ds v o i out inn p t l = record {
+pub begins : (role : Role) (n1 : ℕ) (ds : List ℕ) (v : Relay) → v.outer.n1 ≡ n1 → v.inner.n1 ≡ n1 → Deframes [] [] v.outer → Deframes [] [] v.inner → BeginsAll role ds v.pipes → v.to_driver ≡ [] → v.to_line ≡ [] → BeginsAs role n1 ds v
+unfolding BeginsAs BeginsAll LawfulHops
+begins role n1 ds v o i out inn p t l = record {
   outer_n1 = o;
   inner_n1 = i;
   lawful = tt;
@@ -265,19 +266,19 @@ begins n1 ds v o i out inn p t l = record {
 
 -- ## Nothing is held back
 
-pub holds_nothing : (v : Relay) → IsDeframed → v.inner.next ≡ None → v.to_line ≡ [] → OfEachPast v.pipes (λ past. (d : ℕ) (go : Bool) → ¬ IsDue d past go) → OfEachPast v.pipes (λ past. (d : ℕ) → NoneLeaves past d) → HoldsNothing v
+pub holds_nothing : (v : Relay) → IsDeframed → v.inner.next ≡ None → v.to_line ≡ [] → OfEachPast v.pipes (λ role past. (d : ℕ) (go : Bool) → ¬ IsDue role d past go) → OfEachPast v.pipes (λ role past. (d : ℕ) → NoneLeaves role past d) → HoldsNothing v
 unfolding HoldsNothing OfEachPast
-holds_nothing v law none l say idle n1 ds past h = record {
+holds_nothing v law none l say idle role n1 ds past h = record {
   all_given = sym (append-nil (wrote past)) ∙ (ap (λ x. wrote past ++ x) (sym l) ∙ h.to_line_is);
-  first = all_went n1 ds v past law none h;
-  none_due = say n1 ds (passes past) h.pipes_fit;
-  no_data = idle n1 ds (passes past) h.pipes_fit;
+  first = all_went role n1 ds v past law none h;
+  none_due = say role n1 ds (passes past) h.pipes_fit;
+  no_data = idle role n1 ds (passes past) h.pipes_fit;
 }
 
 -- ## Whole calls
 
 pub line_none : (k : Relay) → LineIn k k []
-line_none k = record { hops = []; only = refl; fed_are = refl; leads = λ n1 ds past h. h }
+line_none k = record { hops = []; only = refl; fed_are = refl; leads = λ role n1 ds past h. h }
 
 pub passes_none : (k : Relay) → PassesOn k k
 unfolding PassesOn
@@ -289,7 +290,7 @@ line_passed k0 k1 k2 octets l b = record {
   hops = Passed (Came b.frame) ∷ l.hops;
   only = l.only;
   fed_are = l.fed_are;
-  leads = λ n1 ds past h. b.leads n1 ds (l.hops ++ past) (l.leads n1 ds past h);
+  leads = λ role n1 ds past h. b.leads role n1 ds (l.hops ++ past) (l.leads role n1 ds past h);
 }
 
 pub passes_one : (k0 k1 k2 : Relay) → PassesOn k0 k1 → HopsBy k1 k2 (λ f. Passed (Came f)) → PassesOn k0 k2
@@ -306,7 +307,7 @@ line_fed k0 k1 k2 xs ys l b = record {
   hops = Fed ys ∷ l.hops;
   only = l.only;
   fed_are = ap (λ x. x ++ ys) l.fed_are;
-  leads = λ n1 ds past h. b n1 ds (l.hops ++ past) (l.leads n1 ds past h);
+  leads = λ role n1 ds past h. b role n1 ds (l.hops ++ past) (l.leads role n1 ds past h);
 }
 
 pub line_more : (k0 k1 k2 : Relay) (octets : List ℕ) (n count : ℕ) → LineIn k0 k1 (take n octets) → Hops k1 k2 (Fed (take count (drop n octets))) → LineIn k0 k2 (take (n + count) octets)
@@ -330,8 +331,8 @@ out_goes v w b = went_out b
 pub out_leaves : (v w : Relay) → HopsBy v w (λ f. Passed (Left f)) → OneOut v w
 out_leaves v w b = left_out b
 
-pub holds_by : (v w y x : Relay) (said : Bool) → IsDeframed → (length v.to_line == 0) ≡ true → v.inner.next ≡ None → w ≡ v → OfEachPast w.pipes (λ past. (d : ℕ) (go : Bool) → ¬ IsDue d past go) → y ≡ w → (said ≡ false → OfEachPast y.pipes (λ past. (d : ℕ) → NoneLeaves past d)) → (said ≡ false → x ≡ y) → said ≡ false → HoldsNothing x
-holds_by v w y x said law empty none e say e2 idle still f = subst HoldsNothing (sym (still f ∙ (e2 ∙ e))) (holds_nothing v law none (nil_from_length v.to_line (eqb-true (length v.to_line) 0 empty)) (subst (λ (k : Relay). OfEachPast k.pipes (λ past. (d : ℕ) (go : Bool) → ¬ IsDue d past go)) e say) (subst (λ (k : Relay). OfEachPast k.pipes (λ past. (d : ℕ) → NoneLeaves past d)) (e2 ∙ e) (idle f)))
+pub holds_by : (v w y x : Relay) (said : Bool) → IsDeframed → (length v.to_line == 0) ≡ true → v.inner.next ≡ None → w ≡ v → OfEachPast w.pipes (λ role past. (d : ℕ) (go : Bool) → ¬ IsDue role d past go) → y ≡ w → (said ≡ false → OfEachPast y.pipes (λ role past. (d : ℕ) → NoneLeaves role past d)) → (said ≡ false → x ≡ y) → said ≡ false → HoldsNothing x
+holds_by v w y x said law empty none e say e2 idle still f = subst HoldsNothing (sym (still f ∙ (e2 ∙ e))) (holds_nothing v law none (nil_from_length v.to_line (eqb-true (length v.to_line) 0 empty)) (subst (λ (k : Relay). OfEachPast k.pipes (λ role past. (d : ℕ) (go : Bool) → ¬ IsDue role d past go)) e say) (subst (λ (k : Relay). OfEachPast k.pipes (λ role past. (d : ℕ) → NoneLeaves role past d)) (e2 ∙ e) (idle f)))
 
 pub out_flows : (v w : Relay) → HopsBy v w (λ f. Passed (Flowed f)) → OneOut v w
 out_flows v w b = flow_out b
@@ -342,14 +343,14 @@ pub hops_flowed : (v w : Relay) (f : Frame) → IsDeframed → v.inner.next ≡ 
 unfolding Hops LawfulHops AllLead
 hops_flowed v w f law none leads out e = record {
   frame = f;
-  leads = λ n1 ds past h. rw e (record {
+  leads = λ role n1 ds past h. rw e (record {
     outer_n1 = h.outer_n1;
     inner_n1 = h.inner_n1;
-    lawful = (all_went n1 ds v past law none h, h.lawful);
+    lawful = (all_went role n1 ds v past law none h, h.lawful);
     line_in = subst (λ fs. Deframes (fed past) fs v.outer) (sym (append-nil (came past))) h.line_in;
     driver_out = subst (λ fs. Deframes (taken past) fs v.inner) (sym (append-nil (went past))) h.driver_out;
     to_driver_is = h.to_driver_is;
     to_line_is = ap (λ x. wrote past ++ x) out ∙ put_behind (wrote past) v.to_line (spelled f) (for_line past) (f ∷ []) h.to_line_is (sym (append-nil (spelled f)));
-    pipes_fit = leads n1 ds (passes past) h.pipes_fit;
+    pipes_fit = leads role n1 ds (passes past) h.pipes_fit;
   });
 }

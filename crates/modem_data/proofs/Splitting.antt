@@ -6,9 +6,9 @@ use Rattle.std.proofs.lemmas.List.{append_assoc, append-nil}
 use Rattle.std.proofs.lemmas.List.Folds.{list_any-append}
 use Rattle.at_text.specs.Lines.{lines, kept_run}
 use Rattle.at_text.proofs.lines.UnfinishedLines.{reads_on as reads_lines_on}
-use Rattle.modem_data.specs.Switching.{Carries, Idle, Lines, Ended, Data, Prompts, Marked, Sends, Owes, is_connect, connects, lines_from, lines_of, data_from, data_of, behind, behind_end, carries_from, carries_after, IsGap, no_gap, its_lf, IsSplit}
-use Rattle.modem_data.specs.Splits.{ReadsOn, AreSplit}
-use Rattle.modem_data.proofs.Prompting.{marked_on, owes_on, prompts_on, whole_on}
+use Rattle.modem_data.specs.Switching.{Carries, Idle, Lines, Ended, Data, Prompts, Marked, Sends, Owes, Owns, Answered, answered, as_own, carries_sent, is_behind_lines, is_connect, connects, lines_from, lines_of, data_from, data_of, behind, behind_end, carries_from, carries_after, IsGap, no_gap, its_lf, IsSplit}
+use Rattle.modem_data.specs.Splits.{ReadsOn, AreSplit, IsOwnSwitch, SendsOn}
+use Rattle.modem_data.proofs.Prompting.{marked_on, owes_on, owns_on, prompts_on, whole_on}
 
 -- ## Cuts
 
@@ -64,6 +64,47 @@ reads_on (Prompts starts) x y = prompts_on starts x y
 reads_on Marked x y = marked_on x y
 reads_on Sends x y = whole_on Sends x y (inl refl)
 reads_on Owes x y = owes_on x y
+reads_on (Owns kept) x y = owns_on kept x y
+reads_on Answered x y = record { lines_go_on = refl; data_goes_on = refl; stands = refl }
+
+-- ## What the driver writes
+
+own_ended : (b : Bool) (y : List ℕ) → carries_sent (if b then Answered else Data) y ≡ (if b then answered y else Data)
+own_ended true y = refl
+own_ended false y = refl
+
+still_data : (b : Bool) → Data ≡ (if b then Data else Data)
+still_data true = refl
+still_data false = refl
+
+own_behind : (by : ℕ) (x y : List ℕ) → as_own (behind by (x ++ y)) ≡ carries_sent (as_own (behind by x)) y
+own_behind by [] [] = sym (own_ended (by == 13) [])
+own_behind by [] (c ∷ y) = still_data (by == 13) ∙ sym (own_ended (by == 13) (c ∷ y))
+own_behind by (c ∷ x) y = refl
+
+own_on : (kept x y : List ℕ) → as_own (carries_from kept (x ++ y)) ≡ carries_sent (as_own (carries_from kept x)) y
+own_on kept [] y = refl
+own_on kept (c ∷ x) y = at (connects kept c) (own_on (kept_run (kept ++ c ∷ [])) x y)
+  where
+    at : (b : Bool) → as_own (carries_from (kept_run (kept ++ c ∷ [])) (x ++ y)) ≡ carries_sent (as_own (carries_from (kept_run (kept ++ c ∷ [])) x)) y → as_own (if b then behind c (x ++ y) else carries_from (kept_run (kept ++ c ∷ [])) (x ++ y)) ≡ carries_sent (as_own (if b then behind c x else carries_from (kept_run (kept ++ c ∷ [])) x)) y
+    at true h = own_behind c x y
+    at false h = h
+
+answered_on : (x y : List ℕ) → answered (x ++ y) ≡ carries_sent (answered x) y
+answered_on [] y = refl
+answered_on (c ∷ x) y = refl
+
+pub sends_on : (m : Carries) (x y : List ℕ) → SendsOn m x y
+sends_on Idle x y = refl
+sends_on (Lines kept) x y = refl
+sends_on (Ended by) x y = refl
+sends_on Data x y = refl
+sends_on (Prompts starts) x y = refl
+sends_on Marked x y = refl
+sends_on Sends x y = refl
+sends_on Owes x y = refl
+sends_on (Owns kept) x y = own_on kept x y
+sends_on Answered x y = answered_on x y
 
 -- ## The whole
 
@@ -114,3 +155,31 @@ split_from p kept (c ∷ text) none e =
 
 pub are_split : (text : List ℕ) → AreSplit text
 are_split text = subst (λ (t : List ℕ). IsSplit text t (data_from [] text)) (sym (append-nil (lines_from [] text))) (split_from [] [] text refl refl)
+
+-- ## The driver's own CONNECT line
+
+ended_behind : (b : Bool) → is_behind_lines (if b then Answered else Data) ≡ true
+ended_behind true = refl
+ended_behind false = refl
+
+own_there : (by : ℕ) (text : List ℕ) → is_behind_lines (as_own (behind by text)) ≡ true
+own_there by [] = ended_behind (by == 13)
+own_there by (c ∷ text) = refl
+
+-- a CONNECT line stays in a text that goes on
+line_stays : (p text : List ℕ) → list_any is_connect (lines p) ≡ true → list_any is_connect (lines (p ++ text)) ≡ true
+line_stays p text one = ap (list_any is_connect) (reads_lines_on p text).reads_kept ∙ (list_any-append is_connect (lines p) (lines (kept_run p ++ text)) ∙ rw one refl)
+
+own_at : (p kept : List ℕ) (c : ℕ) (text : List ℕ) (b : Bool) → connects kept c ≡ b → list_any is_connect (lines (p ++ c ∷ [])) ≡ b → (b ≡ false → is_behind_lines (as_own (carries_from (kept_run (kept ++ c ∷ [])) text)) ≡ list_any is_connect (lines ((p ++ c ∷ []) ++ text))) → is_behind_lines (as_own (if b then behind c text else carries_from (kept_run (kept ++ c ∷ [])) text)) ≡ list_any is_connect (lines ((p ++ c ∷ []) ++ text))
+own_at p kept c text true e one on = own_there c text ∙ sym (line_stays (p ++ c ∷ []) text one)
+own_at p kept c text false e one on = on refl
+
+own_from : (p kept text : List ℕ) → list_any is_connect (lines p) ≡ false → kept ≡ kept_run p → is_behind_lines (as_own (carries_from kept text)) ≡ list_any is_connect (lines (p ++ text))
+own_from p kept [] none e = sym (rw (append-nil p) none)
+own_from p kept (c ∷ text) none e =
+    subst (λ t. is_behind_lines (as_own (carries_from kept (c ∷ text))) ≡ list_any is_connect (lines t)) (append_assoc p (c ∷ []) text)
+    (own_at p kept c text (connects kept c) refl (there p kept c none e)
+    (λ b. own_from (p ++ c ∷ []) (kept_run (kept ++ c ∷ [])) text (there p kept c none e ∙ b) (later p kept c e)))
+
+pub own_switch : (text : List ℕ) → IsOwnSwitch text
+own_switch text = own_from [] [] text refl refl

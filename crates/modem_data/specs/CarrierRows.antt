@@ -1,7 +1,7 @@
 -- Worked losses of a carrier (27.010, 5.4.6.3.7): DV is bit 8 of the signals, 80; 8D has it, 0D hasn't. 0, 1 and 2 are open.
 use Rattle.std.specs.Prelude.{◌≡◌, ℕ, true, false, Bool, List, [], ◌∷◌, ◌++◌, None, codes}
 use Rattle.mux_frame.specs.Frames.{Frame}
-use Rattle.mux_station.specs.declared.role.Role.TheVariants.{Responder}
+use Rattle.mux_station.specs.declared.role.Role.TheVariants.{Initiator, Responder}
 use Rattle.mux_station.specs.Acts.{Got, Sent}
 use Rattle.mux_station.specs.Tables.{msc_frame}
 use Rattle.modem_data.specs.declared.begin.Begin.TheVariants.{AtOnce, ByConnect, ByPrompt}
@@ -28,7 +28,7 @@ control octets = says 0 octets
 
 -- so it is of a frame that comes behind these acts
 abbrev pub falls : List Hop → Frame → Bool
-falls past f = loses_carrier 2 (wire (passes past)) (Got f)
+falls past f = loses_carrier Initiator 2 (wire (passes past)) (Got f)
 
 abbrev pub carried : List Hop
 carried = Passed (Came (with_dv 2)) ∷ opened
@@ -56,7 +56,7 @@ pub record FallsSo : Type 0 where
   -- a response has the driver's own signals, and says nothing of the modem's; nor does what the driver sends
   pub response : falls carried (control (0xe1 ∷ 5 ∷ 11 ∷ 0x0d ∷ [])) ≡ false
   pub behind_response : falls (Passed (Came (control (0xe1 ∷ 5 ∷ 11 ∷ 0x8d ∷ []))) ∷ opened) (without_dv 2) ≡ false
-  pub sent : loses_carrier 2 (wire (passes carried)) (Sent (without_dv 2)) ≡ false
+  pub sent : loses_carrier Initiator 2 (wire (passes carried)) (Sent (without_dv 2)) ≡ false
   pub behind_sent : falls (Passed (Went (with_dv 2)) ∷ opened) (without_dv 2) ≡ false
   -- the other bits are none of it: FC; none but EA; all but DV
   pub fc : falls carried (msc_frame Responder 2 0x8f) ≡ false
@@ -94,38 +94,38 @@ by_close = Passed (Came (without_dv 2)) ∷ with_data (Passed (Began 2 ByConnect
 
 pub record HangsUpSo : Type 0 where
   -- data is over with that frame, which goes on; what comes then are lines; nothing that was given leaves
-  pub before : carries 2 (passes (with_data dialling)) ≡ Data
-  pub over : carries 2 (passes hung_up) ≡ Idle
-  pub none_under_way : under_way 2 (passes hung_up) ≡ None
-  pub goes_on : for_driver hung_up ≡ for_driver (with_data dialling) ++ without_dv 2 ∷ []
-  pub lines_again : for_driver (Passed (Came (says 2 no_carrier)) ∷ hung_up) ≡ for_driver hung_up ++ says 2 no_carrier ∷ []
-  pub none_leaves : lets_leave (carries 2 (passes hung_up)) ≡ false
-  pub none_given : takes_given (carries 2 (passes hung_up)) ≡ false
-  pub stays_readable : data_came 2 (passes (Passed (Came (says 2 no_carrier)) ∷ hung_up)) ≡ 126 ∷ 255 ∷ []
+  pub before : carries Initiator 2 (passes (with_data dialling)) ≡ Data
+  pub over : carries Initiator 2 (passes hung_up) ≡ Idle
+  pub none_under_way : under_way Initiator 2 (passes hung_up) ≡ None
+  pub goes_on : for_driver Initiator hung_up ≡ for_driver Initiator (with_data dialling) ++ without_dv 2 ∷ []
+  pub lines_again : for_driver Initiator (Passed (Came (says 2 no_carrier)) ∷ hung_up) ≡ for_driver Initiator hung_up ++ says 2 no_carrier ∷ []
+  pub none_leaves : lets_leave (carries Initiator 2 (passes hung_up)) ≡ false
+  pub none_given : takes_given (carries Initiator 2 (passes hung_up)) ≡ false
+  pub stays_readable : data_came Initiator 2 (passes (Passed (Came (says 2 no_carrier)) ∷ hung_up)) ≡ 126 ∷ 255 ∷ []
   -- what came before that frame is data, whatever it says
-  pub in_data : data_came 2 (passes (Passed (Came (without_dv 2)) ∷ Passed (Came (says 2 no_carrier)) ∷ with_data dialling)) ≡ 126 ∷ 255 ∷ no_carrier
-  pub by_words : carries 2 (passes (Passed (Came (says 2 no_carrier)) ∷ with_data dialling)) ≡ Data
+  pub in_data : data_came Initiator 2 (passes (Passed (Came (without_dv 2)) ∷ Passed (Came (says 2 no_carrier)) ∷ with_data dialling)) ≡ 126 ∷ 255 ∷ no_carrier
+  pub by_words : carries Initiator 2 (passes (Passed (Came (says 2 no_carrier)) ∷ with_data dialling)) ≡ Data
   -- without the option it changes nothing
-  pub goes_on_with_data : carries 2 (passes by_close) ≡ Data
-  pub no_lines : for_driver (Passed (Came (says 2 no_carrier)) ∷ by_close) ≡ for_driver by_close
-  pub all_data : data_came 2 (passes (Passed (Came (says 2 no_carrier)) ∷ by_close)) ≡ 126 ∷ 255 ∷ no_carrier
+  pub goes_on_with_data : carries Initiator 2 (passes by_close) ≡ Data
+  pub no_lines : for_driver Initiator (Passed (Came (says 2 no_carrier)) ∷ by_close) ≡ for_driver Initiator by_close
+  pub all_data : data_came Initiator 2 (passes (Passed (Came (says 2 no_carrier)) ∷ by_close)) ≡ 126 ∷ 255 ∷ no_carrier
   -- the last lane's option isn't the next one's
-  pub next_by_close : carries 2 (passes (Passed (Came (without_dv 2)) ∷ Passed (Came (with_dv 2)) ∷ Passed (Began 2 AtOnce Close) ∷ hung_up)) ≡ Data
-  pub next_by_carrier : carries 2 (passes (Passed (Came (without_dv 2)) ∷ Passed (Came (with_dv 2)) ∷ Passed (Began 2 AtOnce CarrierLoss) ∷ by_close)) ≡ Idle
+  pub next_by_close : carries Initiator 2 (passes (Passed (Came (without_dv 2)) ∷ Passed (Came (with_dv 2)) ∷ Passed (Began 2 AtOnce Close) ∷ hung_up)) ≡ Data
+  pub next_by_carrier : carries Initiator 2 (passes (Passed (Came (without_dv 2)) ∷ Passed (Came (with_dv 2)) ∷ Passed (Began 2 AtOnce CarrierLoss) ∷ by_close)) ≡ Idle
   -- a lane that waits for its CONNECT still does; the carrier is then lost anew, or not at all
-  pub waits : carries 2 (passes (Passed (Came (without_dv 2)) ∷ dialling)) ≡ Lines []
-  pub then_data : carries 2 (passes (Passed (Came (without_dv 2)) ∷ with_data (Passed (Came (without_dv 2)) ∷ dialling))) ≡ Data
-  pub then_over : carries 2 (passes (Passed (Came (without_dv 2)) ∷ with_data (Passed (Came (with_dv 2)) ∷ Passed (Came (without_dv 2)) ∷ dialling))) ≡ Idle
+  pub waits : carries Initiator 2 (passes (Passed (Came (without_dv 2)) ∷ dialling)) ≡ Lines []
+  pub then_data : carries Initiator 2 (passes (Passed (Came (without_dv 2)) ∷ with_data (Passed (Came (without_dv 2)) ∷ dialling))) ≡ Data
+  pub then_over : carries Initiator 2 (passes (Passed (Came (without_dv 2)) ∷ with_data (Passed (Came (with_dv 2)) ∷ Passed (Came (without_dv 2)) ∷ dialling))) ≡ Idle
   -- CONNECT has ended, and no octet came behind it
-  pub just_connected : carries 2 (passes (Passed (Came (without_dv 2)) ∷ Passed (Came (says 2 (codes "CONNECT" ++ 13 ∷ []))) ∷ dialling)) ≡ Idle
+  pub just_connected : carries Initiator 2 (passes (Passed (Came (without_dv 2)) ∷ Passed (Came (says 2 (codes "CONNECT" ++ 13 ∷ []))) ∷ dialling)) ≡ Idle
   -- data at once, begun in this opening or before it
-  pub at_once : carries 2 (passes (Passed (Came (without_dv 2)) ∷ Passed (Began 2 AtOnce CarrierLoss) ∷ carried)) ≡ Idle
-  pub first_without : carries 2 (passes (Passed (Came (without_dv 2)) ∷ opened ++ Passed (Began 2 AtOnce CarrierLoss) ∷ [])) ≡ Data
-  pub from_the_opening : carries 2 (passes (Passed (Came (without_dv 2)) ∷ carried ++ Passed (Began 2 AtOnce CarrierLoss) ∷ [])) ≡ Idle
+  pub at_once : carries Initiator 2 (passes (Passed (Came (without_dv 2)) ∷ Passed (Began 2 AtOnce CarrierLoss) ∷ carried)) ≡ Idle
+  pub first_without : carries Initiator 2 (passes (Passed (Came (without_dv 2)) ∷ opened ++ Passed (Began 2 AtOnce CarrierLoss) ∷ [])) ≡ Data
+  pub from_the_opening : carries Initiator 2 (passes (Passed (Came (without_dv 2)) ∷ carried ++ Passed (Began 2 AtOnce CarrierLoss) ∷ [])) ≡ Idle
   -- another connection's carrier
-  pub of_another : carries 2 (passes (Passed (Came (without_dv 1)) ∷ Passed (Came (with_dv 1)) ∷ with_data dialling)) ≡ Data
+  pub of_another : carries Initiator 2 (passes (Passed (Came (without_dv 1)) ∷ Passed (Came (with_dv 1)) ∷ with_data dialling)) ≡ Data
   -- a text: its prompt hasn't come, or it has
-  pub half_a_prompt : carries 2 (passes (Passed (Came (without_dv 2)) ∷ Passed (Came (says 2 (62 ∷ []))) ∷ Passed (Began 2 ByPrompt CarrierLoss) ∷ carried)) ≡ Marked
-  pub behind_it : carries 2 (passes (Passed (Came (without_dv 2)) ∷ Passed (Came (says 2 (62 ∷ 32 ∷ []))) ∷ Passed (Began 2 ByPrompt CarrierLoss) ∷ carried)) ≡ Idle
+  pub half_a_prompt : carries Initiator 2 (passes (Passed (Came (without_dv 2)) ∷ Passed (Came (says 2 (62 ∷ []))) ∷ Passed (Began 2 ByPrompt CarrierLoss) ∷ carried)) ≡ Marked
+  pub behind_it : carries Initiator 2 (passes (Passed (Came (without_dv 2)) ∷ Passed (Came (says 2 (62 ∷ 32 ∷ []))) ∷ Passed (Began 2 ByPrompt CarrierLoss) ∷ carried)) ≡ Idle
   -- a lane that a call has ended stays so
-  pub ended : carries 2 (passes (Passed (Came (without_dv 2)) ∷ Passed (EndedLane 2) ∷ with_data dialling)) ≡ Idle
+  pub ended : carries Initiator 2 (passes (Passed (Came (without_dv 2)) ∷ Passed (EndedLane 2) ∷ with_data dialling)) ≡ Idle

@@ -1,7 +1,7 @@
 -- What is kept of the data of a connection, from the beginning of a lane to its end.
 use Rattle.std.specs.Prelude.{◌≡◌, ◌≤◌, ℕ, List, [], ◌++◌, length, if◌then◌else◌}
 use Rattle.modem_data.specs.declared.switch.LineCut.{LineCut}
-use Rattle.modem_data.specs.Switching.{Carries, Idle, IsCut, is_idle, data_of, carries_after, ended_by_call, without_carrier}
+use Rattle.modem_data.specs.Switching.{Carries, Idle, IsCut, is_idle, data_of, carries_after, carries_sent, ended_by_call, without_carrier}
 
 -- what it carries, the data that came and was not read yet, and the octets that were given and have not left yet
 pub record DataLane : Type 0 where
@@ -31,6 +31,10 @@ new_lane = record { carries = Idle; came = []; to_go = [] }
 -- a lane begins so: what was given before isn't sent
 abbrev pub begun_lane : DataLane → Carries → DataLane
 begun_lane l begin = record l { carries = begin; to_go = [] }
+
+-- the driver writes these octets
+abbrev pub sent_lane : DataLane → List ℕ → DataLane
+sent_lane l info = record l { carries = carries_sent l.carries info }
 
 -- a lane is over: what came and wasn't read stays
 abbrev pub ended_lane : DataLane → DataLane

@@ -2,6 +2,8 @@
 use Rattle.std.specs.Prelude.{◌≡◌, ℕ, Bool, true, false, List, [], ◌∷◌, ◌++◌, length, Option, Some, None, filter_map, flat_map, if◌then◌else◌}
 use Rattle.std.specs.List.{list_all}
 use Rattle.mux_frame.specs.Frames.{Frame}
+use Rattle.mux_station.specs.declared.role.Role.{Role}
+use Rattle.mux_station.specs.declared.role.Role.TheVariants.{Initiator}
 use Rattle.mux_frame.specs.Spelling.{spelled}
 use Rattle.mux_frame.specs.Reading.{Reads}
 use Rattle.mux_frame.specs.Deframing.{Deframing, Deframes}
@@ -80,13 +82,13 @@ abbrev pub JoinsLines : Carries → Frame → Type 0
 JoinsLines m f = flat_map (λ g. g.info) (line_frames m f) ≡ lines_of m f.info
 
 -- what the driver is due of a frame that comes: its lines where it is information of a lane, else all of it
-abbrev pub due : List Pass → Frame → List Frame
-due p f = if is_data f.dlci p f then line_frames (carries f.dlci p) f else f ∷ []
+abbrev pub due : Role → List Pass → Frame → List Frame
+due role p f = if is_data role f.dlci p f then line_frames (carries role f.dlci p) f else f ∷ []
 
-abbrev pub for_driver : List Hop → List Frame
-for_driver [] = []
-for_driver (Passed (Came f) ∷ past) = for_driver past ++ due (passes past) f
-for_driver (_ ∷ past) = for_driver past
+abbrev pub for_driver : Role → List Hop → List Frame
+for_driver role [] = []
+for_driver role (Passed (Came f) ∷ past) = for_driver role past ++ due role (passes past) f
+for_driver role (_ ∷ past) = for_driver role past
 
 -- the frames for the line: the driver's, those of data and the relay's own, as they passed
 abbrev pub for_line_of : Hop → List Frame
@@ -108,15 +110,15 @@ pub record DriverFirst (n1 : ℕ) (past : List Hop) : Type 0 where
 
 -- frames of data and of the relay's own leave behind the driver's, and those of data in their connections' turns; lanes
 -- begin on these connections alone
-abbrev pub AllowsHop : ℕ → List ℕ → List Hop → Hop → Type 0
-AllowsHop n1 ds past (Passed (Left f)) = DriverFirst n1 past × InTurn ds (passes past) f
-AllowsHop n1 ds past (Passed (Flowed f)) = DriverFirst n1 past
-AllowsHop n1 ds past (Passed (Began d how until)) = IsAmong ds (length ds) d
-AllowsHop n1 ds past _ = Unit {0}
+abbrev pub AllowsHop : Role → ℕ → List ℕ → List Hop → Hop → Type 0
+AllowsHop role n1 ds past (Passed (Left f)) = DriverFirst n1 past × InTurn role ds (passes past) f
+AllowsHop role n1 ds past (Passed (Flowed f)) = DriverFirst n1 past
+AllowsHop role n1 ds past (Passed (Began d how until)) = IsAmong ds (length ds) d
+AllowsHop role n1 ds past _ = Unit {0}
 
-unfoldable pub LawfulHops : ℕ → List ℕ → List Hop → Type 0
-LawfulHops n1 ds [] = Unit {0}
-LawfulHops n1 ds (a ∷ past) = AllowsHop n1 ds past a × LawfulHops n1 ds past
+unfoldable pub LawfulHops : Role → ℕ → List ℕ → List Hop → Type 0
+LawfulHops role n1 ds [] = Unit {0}
+LawfulHops role n1 ds (a ∷ past) = AllowsHop role n1 ds past a × LawfulHops role n1 ds past
 
 -- ## What a relay keeps
 
@@ -134,60 +136,63 @@ spell fs = flat_map spelled fs
 -- went; what the driver was given, and then what waits for it, are the frames due to it, spelled whole and in order; what
 -- the line was given, and then what waits for it, are the frames for it; and its pipes, which are those of these connections,
 -- fit what passed.
-pub record RelayFits (n1 : ℕ) (ds : List ℕ) (v : Relay) (past : List Hop) : Type 0 where
+pub record RelayFits (role : Role) (n1 : ℕ) (ds : List ℕ) (v : Relay) (past : List Hop) : Type 0 where
   pub outer_n1 : v.outer.n1 ≡ n1
   pub inner_n1 : v.inner.n1 ≡ n1
-  pub lawful : LawfulHops n1 ds past
+  pub lawful : LawfulHops role n1 ds past
   pub line_in : Deframes (fed past) (came past) v.outer
   pub driver_out : Deframes (taken past) (went past) v.inner
-  pub to_driver_is : handed_over past ++ v.to_driver ≡ spell (for_driver past)
+  pub to_driver_is : handed_over past ++ v.to_driver ≡ spell (for_driver role past)
   pub to_line_is : wrote past ++ v.to_line ≡ spell (for_line past)
-  pub pipes_fit : PipesFit n1 ds v.pipes (passes past)
+  pub pipes_fit : PipesFit role n1 ds v.pipes (passes past)
 
 -- ## Calls
 
 -- a hop leads on, whatever passed before
 unfoldable pub Hops : Relay → Relay → Hop → Type 0
 Hops old new a =
-    (n1 : ℕ) (ds : List ℕ) (past : List Hop) → RelayFits n1 ds old past → RelayFits n1 ds new (a ∷ past)
+    (role : Role) (n1 : ℕ) (ds : List ℕ) (past : List Hop) → RelayFits role n1 ds old past → RelayFits role n1 ds new (a ∷ past)
 
 -- some frame hops so
 pub record HopsBy (old new : Relay) (hop : Frame → Hop) : Type 0 where
   pub frame : Frame
   pub leads : Hops old new (hop frame)
 
--- nothing has passed
-unfoldable pub BeginsRelay : ℕ → List ℕ → Relay → Type 0
-BeginsRelay n1 ds v = RelayFits n1 ds v []
+-- nothing has passed this end of the line; or the client's end, which is the initiator's
+unfoldable pub BeginsAs : Role → ℕ → List ℕ → Relay → Type 0
+BeginsAs role n1 ds v = RelayFits role n1 ds v []
+
+abbrev pub BeginsRelay : ℕ → List ℕ → Relay → Type 0
+BeginsRelay n1 ds v = BeginsAs Initiator n1 ds v
 
 -- ## What forces progress
 
 -- every frame that the line's octets hold has come; what of it is the driver's is given or waits
 unfoldable pub AllCame : Relay → Type 0
-AllCame v = (n1 : ℕ) (ds : List ℕ) (past : List Hop) → RelayFits n1 ds v past
+AllCame v = (role : Role) (n1 : ℕ) (ds : List ℕ) (past : List Hop) → RelayFits role n1 ds v past
     → Reads n1 (fed past) (came past) v.outer.undecided
 
 -- nothing may go to the line: no octets wait, every frame of the driver has gone, nothing is to be said of the flow, and no
 -- data may leave
-pub record IsStill (n1 : ℕ) (past : List Hop) : Type 0 where
+pub record IsStill (role : Role) (n1 : ℕ) (past : List Hop) : Type 0 where
   pub all_given : wrote past ≡ spell (for_line past)
   pub first : DriverFirst n1 past
-  pub none_due : (d : ℕ) (go : Bool) → ¬ IsDue d (passes past) go
-  pub no_data : (d : ℕ) → NoneLeaves (passes past) d
+  pub none_due : (d : ℕ) (go : Bool) → ¬ IsDue role d (passes past) go
+  pub no_data : (d : ℕ) → NoneLeaves role (passes past) d
 
 unfoldable pub HoldsNothing : Relay → Type 0
-HoldsNothing v = (n1 : ℕ) (ds : List ℕ) (past : List Hop) → RelayFits n1 ds v past → IsStill n1 past
+HoldsNothing v = (role : Role) (n1 : ℕ) (ds : List ℕ) (past : List Hop) → RelayFits role n1 ds v past → IsStill role n1 past
 
 -- ## Without data
 
 -- frames pass as they come and go: the driver is due each that came, as it came, and the line the driver's alone
-pub record PassesAll (past : List Hop) : Type 0 where
-  pub to_driver : for_driver past ≡ came past
+pub record PassesAll (role : Role) (past : List Hop) : Type 0 where
+  pub to_driver : for_driver role past ≡ came past
   pub to_line : for_line past ≡ went past
 
 -- a relay without connections of data changes no frame, holds none back and adds none
 unfoldable pub AddsNothing : Type 0
-AddsNothing = (n1 : ℕ) (v : Relay) (past : List Hop) → RelayFits n1 [] v past → PassesAll past
+AddsNothing = (role : Role) (n1 : ℕ) (v : Relay) (past : List Hop) → RelayFits role n1 [] v past → PassesAll role past
 
 -- ## Whole calls
 
@@ -201,8 +206,8 @@ pub record LineIn (old new : Relay) (octets : List ℕ) : Type 0 where
   pub hops : List Hop
   pub only : list_all is_line_in hops ≡ true
   pub fed_are : fed hops ≡ octets
-  pub leads : (n1 : ℕ) (ds : List ℕ) (past : List Hop) → RelayFits n1 ds old past
-      → RelayFits n1 ds new (hops ++ past)
+  pub leads : (role : Role) (n1 : ℕ) (ds : List ℕ) (past : List Hop) → RelayFits role n1 ds old past
+      → RelayFits role n1 ds new (hops ++ past)
 
 -- frames at hand passed: what came before them came
 unfoldable pub PassesOn : Relay → Relay → Type 0

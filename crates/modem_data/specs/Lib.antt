@@ -18,4 +18,5 @@ pub mod Hops
 pub mod Handing
 pub mod Relays
 pub mod RelayRows
+pub mod OwnRows
 pub mod CarrierRows

@@ -1,6 +1,7 @@
 -- Several connections that carry data, and how they fit what passed.
 use Rattle.std.specs.Prelude.{◌≡◌, ◌≢◌, ℕ, ◌+◌, ◌<◌, ◌≤◌, ◌==◌, ◌&&◌, ◌||◌, nat_le, nat_lt, Bool, true, false, List, [], ◌∷◌, ◌++◌, length, map, All, Option, Some, None, slice_index_or, if◌then◌else◌}
 use Rattle.mux_frame.specs.declared.dlci.Dlci.{Dlci}
+use Rattle.mux_station.specs.declared.role.Role.{Role}
 use Rattle.mux_frame.specs.Frames.{Frame}
 use Rattle.mux_frame.specs.Spelling.{spelled}
 use Rattle.modem_data.specs.declared.switch.LineCut.{LineCut}
@@ -9,8 +10,9 @@ use Rattle.modem_data.specs.Watching.{may_leave}
 use Rattle.modem_data.specs.Passing.{Pass, Left, wire, is_data, carries, given, left, holds, driver_holds, LawfulPasses}
 use Rattle.modem_data.specs.Pipes.{Pipe, PipeFits, HasNoneToSend, MayLeave, SaysFlow}
 
--- the pipes, and the place from which on the next is looked for that may send
+-- which end of the line it is, the pipes, and the place from which on the next is looked for that may send
 pub record PipeSet : Type 0 where
+  pub role : Role
   pub each : List Pipe
   pub turn : ℕ
 
@@ -57,8 +59,8 @@ turn_of ds (Left f ∷ past) = place_behind ds f.dlci
 turn_of ds (_ ∷ past) = turn_of ds past
 
 -- nothing may leave a connection: it lets none, is shut or stopped, or all that was given has left
-abbrev pub NoneLeaves : List Pass → ℕ → Type 0
-NoneLeaves past d = lets_leave (carries d past) ≡ true → may_leave d (wire past) ≡ true → left d past ≡ given d past
+abbrev pub NoneLeaves : Role → List Pass → ℕ → Type 0
+NoneLeaves role past d = lets_leave (carries role d past) ≡ true → may_leave role d (wire past) ≡ true → left d past ≡ given d past
 
 -- counted from a turn on, and round, one place comes before another
 abbrev pub comes_before : (turn one other : ℕ) → Bool
@@ -66,62 +68,63 @@ comes_before turn one other =
     if nat_le turn other then nat_le turn one && nat_lt one other else (nat_le turn one || nat_lt one other)
 
 -- it is the turn of a frame's connection: no data may leave any that comes before it
-pub record InTurn (ds : List ℕ) (past : List Pass) (f : Frame) : Type 0 where
+pub record InTurn (role : Role) (ds : List ℕ) (past : List Pass) (f : Frame) : Type 0 where
   pub place : ℕ
   pub there : place < length ds
   pub here : (x : ℕ) → slice_index_or ds place x ≡ f.dlci
   pub none_before : (j x : ℕ) → j < length ds → comes_before (turn_of ds past) j place ≡ true
-      → NoneLeaves past (slice_index_or ds j x)
+      → NoneLeaves role past (slice_index_or ds j x)
 
 -- ## Fitting
 
 -- a connection carries no lane, and no MSC but the driver's holds it
-pub record IsPlain (e : ℕ) (past : List Pass) : Type 0 where
-  pub idle : carries e past ≡ Idle
-  pub held_is : holds e past ≡ driver_holds e past
+pub record IsPlain (role : Role) (e : ℕ) (past : List Pass) : Type 0 where
+  pub idle : carries role e past ≡ Idle
+  pub held_is : holds role e past ≡ driver_holds role e past
 
 -- the pipes are those of these connections, each once; each fits the past, and every other connection is plain
-pub record PipesFit (n1 : ℕ) (ds : List ℕ) (v : PipeSet) (past : List Pass) : Type 0 where
-  pub lawful : LawfulPasses n1 past
+pub record PipesFit (role : Role) (n1 : ℕ) (ds : List ℕ) (v : PipeSet) (past : List Pass) : Type 0 where
+  pub role_is : v.role ≡ role
+  pub lawful : LawfulPasses role n1 past
   pub connections_are : connections v.each ≡ ds
   pub apart : AreApart ds
-  pub each : All (λ p. PipeFits n1 p.watch.dlci p past) v.each
-  pub others : (e : ℕ) → NoneOf ds e → IsPlain e past
+  pub each : All (λ p. PipeFits role n1 p.watch.dlci p past) v.each
+  pub others : (e : ℕ) → NoneOf ds e → IsPlain role e past
   pub turn_is : v.turn ≡ turn_of ds past
 
 -- an act leads on, whatever passed before
 unfoldable pub AllLead : PipeSet → PipeSet → Pass → Type 0
-AllLead old new a = (n1 : ℕ) (ds : List ℕ) (past : List Pass) → PipesFit n1 ds old past → PipesFit n1 ds new (a ∷ past)
+AllLead old new a = (role : Role) (n1 : ℕ) (ds : List ℕ) (past : List Pass) → PipesFit role n1 ds old past → PipesFit role n1 ds new (a ∷ past)
 
 -- what of a frame that came goes on to the driver: of information of a lane its lines, else all of it
 unfoldable pub AllHand : PipeSet → Frame → Option LineCut → Type 0
-AllHand v f None = (n1 : ℕ) (ds : List ℕ) (past : List Pass) → PipesFit n1 ds v past → is_data f.dlci past f ≡ false
+AllHand v f None = (role : Role) (n1 : ℕ) (ds : List ℕ) (past : List Pass) → PipesFit role n1 ds v past → is_data role f.dlci past f ≡ false
 AllHand v f (Some cut) =
-    (n1 : ℕ) (ds : List ℕ) (past : List Pass) → PipesFit n1 ds v past
-    → (is_data f.dlci past f ≡ true) × IsCut cut (carries f.dlci past) f.info
+    (role : Role) (n1 : ℕ) (ds : List ℕ) (past : List Pass) → PipesFit role n1 ds v past
+    → (is_data role f.dlci past f ≡ true) × IsCut cut (carries role f.dlci past) f.info
 
 -- nothing has passed yet
-unfoldable pub BeginsAll : List ℕ → PipeSet → Type 0
-BeginsAll ds v = (n1 : ℕ) → PipesFit n1 ds v []
+unfoldable pub BeginsAll : Role → List ℕ → PipeSet → Type 0
+BeginsAll role ds v = (n1 : ℕ) → PipesFit role n1 ds v []
 
 -- so it is of each past that the pipes fit
-unfoldable pub OfEachPast : PipeSet → (List Pass → Type 0) → Type 0
-OfEachPast v P = (n1 : ℕ) (ds : List ℕ) (past : List Pass) → PipesFit n1 ds v past → P past
+unfoldable pub OfEachPast : PipeSet → (Role → List Pass → Type 0) → Type 0
+OfEachPast v P = (role : Role) (n1 : ℕ) (ds : List ℕ) (past : List Pass) → PipesFit role n1 ds v past → P role past
 
 -- the connection is none of them
 unfoldable pub IsNotData : PipeSet → ℕ → Type 0
-IsNotData v e = (n1 : ℕ) (ds : List ℕ) (past : List Pass) → PipesFit n1 ds v past → NoneOf ds e
+IsNotData v e = (role : Role) (n1 : ℕ) (ds : List ℕ) (past : List Pass) → PipesFit role n1 ds v past → NoneOf ds e
 
 -- the connection is one of them
 unfoldable pub HasPipe : PipeSet → ℕ → Type 0
-HasPipe v e = (n1 : ℕ) (ds : List ℕ) (past : List Pass) → PipesFit n1 ds v past → IsAmong ds (length ds) e
+HasPipe v e = (role : Role) (n1 : ℕ) (ds : List ℕ) (past : List Pass) → PipesFit role n1 ds v past → IsAmong ds (length ds) e
 
 -- ## Data leaves
 
 -- a frame of data leaves in its turn
 unfoldable pub LeavesInTurn : ℕ → PipeSet → PipeSet → Frame → Type 0
 LeavesInTurn n1 old new f =
-    (ds : List ℕ) (past : List Pass) → PipesFit n1 ds old past → PipesFit n1 ds new (Left f ∷ past) × InTurn ds past f
+    (role : Role) (ds : List ℕ) (past : List Pass) → PipesFit role n1 ds old past → PipesFit role n1 ds new (Left f ∷ past) × InTurn role ds past f
 
 -- some frame of data leaves in its turn, and is written
 pub record SomeLeaves (n1 : ℕ) (old new : PipeSet) (before after : List ℕ) : Type 0 where

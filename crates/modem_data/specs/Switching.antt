@@ -1,5 +1,5 @@
 -- Where a connection turns from lines to data: behind the end of the first line CONNECT (V.250, 5.7.1, 6.3.1; 27.007,
--- 10.1.12). Where it turns to a text that is asked for: behind the first prompt (27.005, 3.3.1, 3.5.1).
+-- 10.1.12); at the modem's end it is the driver that writes this line. Where it turns to a text that is asked for: behind the first prompt (27.005, 3.3.1, 3.5.1).
 use Rattle.std.specs.Prelude.{◌≡◌, ◌⊎◌, ℕ, ◌-◌, ◌≤◌, take, drop, slice_index, ◌==◌, ◌&&◌, ◌||◌, not, nat_eq, Bool, true, false, List, [], ◌∷◌, ◌++◌, length, Option, Some, None, ◌<◌, if◌then◌else◌, codes}
 use Rattle.std.specs.List.{list_any, starts_with}
 use Rattle.std.specs.Str.{bytes_eq}
@@ -15,7 +15,8 @@ is_connect line = bytes_eq line (codes "CONNECT") || starts_with nat_eq line (co
 -- how a connection stands: it carries nothing but the driver's; or lines come, and of the one that hasn't ended this is kept;
 -- or a CONNECT line has just ended by this octet; or data comes. With a prompt: lines come, and the next octet begins one or
 -- doesn't; or a `>` that begins a line has come, and is held back; or the prompt has come, and lines come; or the lane was
--- ended while a `>` was held back, which goes before what comes next.
+-- ended while a `>` was held back, which goes before what comes next. With a CONNECT line of the driver's own: lines come and go, and
+-- of the driver's one that hasn't ended this is kept; or its CONNECT line has ended by a CR, and no octet has gone behind that.
 pub data Carries : Type 0 where
   Idle : Carries
   Lines : (kept : List ℕ) → Carries
@@ -25,6 +26,8 @@ pub data Carries : Type 0 where
   Marked : Carries
   Sends : Carries
   Owes : Carries
+  Owns : (kept : List ℕ) → Carries
+  Answered : Carries
 
 -- what was given may leave: as data, or as the text that is asked for
 abbrev pub lets_leave : Carries → Bool
@@ -38,6 +41,7 @@ takes_given Data = true
 takes_given (Prompts starts) = true
 takes_given Marked = true
 takes_given Sends = true
+takes_given Answered = true
 takes_given _ = false
 
 abbrev pub is_idle : Carries → Bool
@@ -49,6 +53,7 @@ abbrev pub is_behind_lines : Carries → Bool
 is_behind_lines (Ended by) = true
 is_behind_lines Data = true
 is_behind_lines Sends = true
+is_behind_lines Answered = true
 is_behind_lines _ = false
 
 -- the prompt has come
@@ -94,6 +99,8 @@ before_of (Prompts starts) text = before_prompt starts text
 before_of Marked text = if may_prompt text then [] else before_prompt false text
 before_of Sends text = text
 before_of Owes text = text
+before_of (Owns kept) text = text
+before_of Answered text = []
 
 -- those behind a prompt
 abbrev pub behind_of : Carries → List ℕ → List ℕ
@@ -138,6 +145,7 @@ data_of Idle text = []
 data_of (Lines kept) text = data_from kept text
 data_of (Ended by) text = behind_end by text
 data_of Data text = text
+data_of Answered text = text
 data_of _ text = []
 
 -- ## How it stands then
@@ -174,6 +182,26 @@ carries_after (Prompts starts) text = carries_prompt starts text
 carries_after Marked text = if may_prompt text then marked text else carries_prompt false text
 carries_after Sends text = Sends
 carries_after Owes text = owed text
+carries_after (Owns kept) text = Owns kept
+carries_after Answered text = Answered
+
+-- ## A CONNECT line of the driver's own
+
+-- the line's end is a CR, with the LF that may follow, or an LF: behind a CR data waits until one more octet has gone
+abbrev pub as_own : Carries → Carries
+as_own (Lines kept) = Owns kept
+as_own (Ended by) = if by == 13 then Answered else Data
+as_own c = c
+
+abbrev pub answered : List ℕ → Carries
+answered [] = Answered
+answered (c ∷ text) = Data
+
+-- how it stands behind octets that the driver writes, which all go on as they are
+abbrev pub carries_sent : Carries → List ℕ → Carries
+carries_sent (Owns kept) text = as_own (carries_from kept text)
+carries_sent Answered text = answered text
+carries_sent c text = c
 
 -- ## What it comes to
 

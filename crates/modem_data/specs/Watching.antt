@@ -1,6 +1,6 @@
 -- Whether a connection may send, and whether it has a carrier, as told by the frames that pass an end of the line (27.010, 5.4).
 use Rattle.std.specs.Prelude.{◌≡◌, ℕ, ◌/◌, ◌%◌, ◌==◌, ◌&&◌, ◌||◌, not, Bool, true, false, List, [], ◌∷◌, Option, Some, None, unwrap_or, if◌then◌else◌}
-use Rattle.mux_station.specs.declared.role.Role.TheVariants.{Initiator}
+use Rattle.mux_station.specs.declared.role.Role.{Role}
 use Rattle.mux_station.specs.Acts.{Act}
 use Rattle.mux_station.specs.Messages.{Message, msc, msc_dlci}
 use Rattle.mux_station.specs.Opening.{Standing, standing_after, opens, ends, standings, since, is_open, not_open, opens_now, belongs}
@@ -19,17 +19,18 @@ abbrev pub dv_says : ℕ → Message → Option Bool
 dv_says d m = if (m.octet == msc) && (msc_dlci m.value == d) then Some (msc_dv m.value) else None
 
 -- d is open, and the last one that came since it opened said that it has
-abbrev pub has_carrier : ℕ → List Act → Bool
-has_carrier d past = is_open Initiator d past && last_said (got_says (dv_says d)) (since Initiator d past)
+abbrev pub has_carrier : Role → ℕ → List Act → Bool
+has_carrier role d past = is_open role d past && last_said (got_says (dv_says d)) (since role d past)
 
 -- d has a carrier, and the act says that it has none
-abbrev pub loses_carrier : ℕ → List Act → Act → Bool
-loses_carrier d past a = has_carrier d past && not (unwrap_or (got_says (dv_says d) a) true)
+abbrev pub loses_carrier : Role → ℕ → List Act → Act → Bool
+loses_carrier role d past a = has_carrier role d past && not (unwrap_or (got_says (dv_says d) a) true)
 
 -- ## What is kept of it
 
--- how 0 and the connection stand, whether the last message stopped it, or all, and whether it said that there is a carrier
+-- which end of the line it is, how 0 and the connection stand, whether the last message stopped it, or all, and whether it said that there is a carrier
 pub record Watch : Type 0 where
+  pub role : Role
   pub dlci : ℕ
   pub zero : Standing
   pub own : Standing
@@ -38,8 +39,8 @@ pub record Watch : Type 0 where
   pub carrier : Bool
 
 -- nothing has passed yet
-abbrev pub new_watch : ℕ → Watch
-new_watch d = record { dlci = d; zero = not_open; own = not_open; own_stop = false; all_stop = false; carrier = false }
+abbrev pub new_watch : Role → ℕ → Watch
+new_watch role d = record { role = role; dlci = d; zero = not_open; own = not_open; own_stop = false; all_stop = false; carrier = false }
 
 -- what was said last, after an act: nothing where the act opens; what the act says, where it belongs to the time of being open
 abbrev pub said_last : (opening belonging : Bool) → Option Bool → Bool → Bool
@@ -50,43 +51,44 @@ said_last false false say was = was
 -- after an act
 abbrev pub watched : Watch → Act → Watch
 watched w a = record {
+  role = w.role;
   dlci = w.dlci;
-  zero = standing_after Initiator w.zero.is_open 0 w.zero a;
-  own = standing_after Initiator w.zero.is_open w.dlci w.own a;
-  own_stop = said_last (opens Initiator w.zero.is_open w.own.is_asked w.dlci a)
+  zero = standing_after w.role w.zero.is_open 0 w.zero a;
+  own = standing_after w.role w.zero.is_open w.dlci w.own a;
+  own_stop = said_last (opens w.role w.zero.is_open w.own.is_asked w.dlci a)
       (w.own.is_open && not (ends w.zero.is_open w.dlci a)) (got_says (msc_says w.dlci) a) w.own_stop;
-  all_stop = said_last (opens Initiator w.zero.is_open w.zero.is_asked 0 a)
+  all_stop = said_last (opens w.role w.zero.is_open w.zero.is_asked 0 a)
       (w.zero.is_open && not (ends w.zero.is_open 0 a)) (got_says flow_says a) w.all_stop;
-  carrier = said_last (opens Initiator w.zero.is_open w.own.is_asked w.dlci a)
+  carrier = said_last (opens w.role w.zero.is_open w.own.is_asked w.dlci a)
       (w.own.is_open && not (ends w.zero.is_open w.dlci a)) (got_says (dv_says w.dlci) a) w.carrier;
 }
 
 -- the watch has seen this past
 pub record HasWatched (w : Watch) (past : List Act) : Type 0 where
-  pub zero_is : w.zero ≡ (standings Initiator 0 past).own
-  pub own_is : w.own ≡ (standings Initiator w.dlci past).own
-  pub own_stop_is : w.own_stop ≡ last_said (got_says (msc_says w.dlci)) (since Initiator w.dlci past)
-  pub all_stop_is : w.all_stop ≡ last_said (got_says flow_says) (since Initiator 0 past)
-  pub carrier_is : w.carrier ≡ last_said (got_says (dv_says w.dlci)) (since Initiator w.dlci past)
+  pub zero_is : w.zero ≡ (standings w.role 0 past).own
+  pub own_is : w.own ≡ (standings w.role w.dlci past).own
+  pub own_stop_is : w.own_stop ≡ last_said (got_says (msc_says w.dlci)) (since w.role w.dlci past)
+  pub all_stop_is : w.all_stop ≡ last_said (got_says flow_says) (since w.role 0 past)
+  pub carrier_is : w.carrier ≡ last_said (got_says (dv_says w.dlci)) (since w.role w.dlci past)
 
 -- an act is seen, whatever passed before
 unfoldable pub Watches : Watch → Watch → Act → Type 0
 Watches old new a = (past : List Act) → HasWatched old past → HasWatched new (a ∷ past)
 
 -- data may leave the connection: it isn't 0, is open and isn't stopped
-abbrev pub may_leave : ℕ → List Act → Bool
-may_leave d past = not (d == 0) && (is_open Initiator d past && not (is_stopped Initiator d past))
+abbrev pub may_leave : Role → ℕ → List Act → Bool
+may_leave role d past = not (d == 0) && (is_open role d past && not (is_stopped role d past))
 
 unfoldable pub SaysMayLeave : Watch → Bool → Type 0
-SaysMayLeave w b = (past : List Act) → HasWatched w past → b ≡ may_leave w.dlci past
+SaysMayLeave w b = (past : List Act) → HasWatched w past → b ≡ may_leave w.role w.dlci past
 
 -- the act ends an opening of d: d was open, and is shut then, or opened anew
-abbrev pub ends_now : ℕ → List Act → Act → Bool
-ends_now d past a = is_open Initiator d past && (opens_now Initiator d past a || not (belongs Initiator d past a))
+abbrev pub ends_now : Role → ℕ → List Act → Act → Bool
+ends_now role d past a = is_open role d past && (opens_now role d past a || not (belongs role d past a))
 
 -- the same, by what the watch keeps
 abbrev pub watch_opens : Watch → Act → Bool
-watch_opens w a = opens Initiator w.zero.is_open w.own.is_asked w.dlci a
+watch_opens w a = opens w.role w.zero.is_open w.own.is_asked w.dlci a
 
 abbrev pub watch_ends : Watch → Act → Bool
 watch_ends w a = w.own.is_open && (watch_opens w a || not (w.own.is_open && not (ends w.zero.is_open w.dlci a)))

@@ -36,7 +36,7 @@ pub enum DataError {
     #[error("the connection is not open")]
     NotOpen,
     /// 10: the connection carries lines: no lane is under way, or no octet came behind its CONNECT
-    /// line.
+    /// line; or the driver's own CONNECT line hasn't ended.
     #[error("the connection carries lines")]
     Lines,
 }

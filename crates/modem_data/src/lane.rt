@@ -1,7 +1,7 @@
 //! What a connection carries, and its data on both ways.
 ghost use Rattle.std.specs.Prelude.{◌≡◌, ◌≤◌, ◌<◌, ◌+◌, ◌-◌, ◌++◌, [], length, take, drop, min, true, IfOk, OnErr};
 ghost use Rattle.modem_data.specs.Switching.{is_behind_lines, lets_leave, takes_given, is_idle};
-ghost use Rattle.modem_data.specs.DataLanes.{begun_lane, dropped_lane, ended_lane, lane_waiting, left_lane, new_lane, most_to_go, TakesInfo};
+ghost use Rattle.modem_data.specs.DataLanes.{begun_lane, dropped_lane, ended_lane, lane_waiting, left_lane, new_lane, most_to_go, sent_lane, TakesInfo};
 ghost use Rattle.modem_data.specs.Passing.{begin_of};
 
 use crate::begin::Begin;
@@ -45,7 +45,7 @@ impl DataLane {
         })
     }
 
-    /// A lane begins: by a CONNECT line, by a prompt, or at once. What was given before isn't sent.
+    /// A lane begins: by a CONNECT line, by a prompt, by a CONNECT line of the driver's own, or at once. What was given before isn't sent.
     pub fn begin(&mut self, how: Begin)
         ensures { self.new ≡ begun_lane self.old (begin_of how) }
     {
@@ -53,8 +53,16 @@ impl DataLane {
             Begin::AtOnce => self.switch.to_data(),
             Begin::ByConnect => self.switch.to_lines(),
             Begin::ByPrompt => self.switch.to_prompt(),
+            Begin::ByOwnConnect => self.switch.to_own(),
         }
         self.to_go.clear();
+    }
+
+    /// The driver writes octets on the connection: its CONNECT line begins the data of a lane that waits for one.
+    pub fn wrote(&mut self, info: &[u8])
+        ensures { self.new ≡ sent_lane self.old info.now }
+    {
+        self.switch.wrote(info);
     }
 
     /// The lane is over. What came and wasn't read stays.

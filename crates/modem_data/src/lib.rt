@@ -1,6 +1,6 @@
 //! Data on connections of the multiplexer, beside the AT commands on the others. A lane is a stretch of data on a
 //! connection: a call begins it, and it is over where the connection's opening ends, the line is lost, or a call ends it; and where
-//! the modem loses the carrier, if it was begun so.
+//! the modem loses the carrier, if it was begun so. The driver is a client's, the initiator's, or the modem itself, the responder.
 //!
 //! # Layout
 //!

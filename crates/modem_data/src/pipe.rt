@@ -16,8 +16,9 @@ use crate::error::DataError;
 use crate::lane::DataLane;
 use crate::octets::Octets;
 use crate::switch::LineCut;
-use crate::watch::Watch;
+use crate::watch::{Watch, info_cr};
 use mux_frame::{Dlci, FrameView, Kind};
+use mux_station::Role;
 use std::alloc::{AllocError, Global};
 use std::marker::Model;
 
@@ -49,15 +50,15 @@ pub struct Reading {
 }
 
 impl Pipe {
-    /// Nothing has passed, and no lane is under way. Requires another connection than 0. Refusal: no memory.
+    /// Nothing has passed this end of the line, and no lane is under way. Requires another connection than 0. Refusal: no memory.
     #[tactic(auto, using(crate::proofs::Pipes::new_fits))]
-    pub fn new(alloc: Global, dlci: Dlci) -> Result<Pipe, AllocError>
+    pub fn new(alloc: Global, role: Role, dlci: Dlci) -> Result<Pipe, AllocError>
         requires { (dlci.number == 0) ≡ false }
-        ensures past { IfOk result (λ v. BeginsPipe dlci.number v) }
+        ensures past { IfOk result (λ v. BeginsPipe role dlci.number v) }
         ensures dlci { IfOk result (λ v. v.watch.dlci ≡ dlci.number) }
     {
         Ok(Pipe {
-            watch: Watch::new(dlci),
+            watch: Watch::new(role, dlci),
             lane: DataLane::new(alloc)?,
             until: Until::Close,
             held: false,
@@ -72,8 +73,8 @@ impl Pipe {
         self.watch.dlci()
     }
 
-    /// Begins a lane, in the present opening or, while the connection is shut, in the next: at once, by its next CONNECT line or by
-    /// its next prompt. Refused with 7 UnderWay where a lane is under way, and else with 8 Unread where data of the last one
+    /// Begins a lane, in the present opening or, while the connection is shut, in the next: at once, by its next CONNECT line, by its
+    /// next prompt or by the driver's next CONNECT line. Refused with 7 UnderWay where a lane is under way, and else with 8 Unread where data of the last one
     /// wasn't read.
     #[tactic(auto, using(crate::proofs::PipeCalls::leads_began, crate::proofs::PipeCalls::a_lane_is, crate::proofs::PipeCalls::has_unread))]
     pub fn begin(&mut self, how: Begin, until: Until) -> Result<(), DataError>
@@ -105,7 +106,7 @@ impl Pipe {
         self.lane.leave();
     }
 
-    /// Whether data is under way: the lane's CONNECT line has ended, its data came at once, or its prompt has come.
+    /// Whether data is under way: the lane's CONNECT line, the other end's or the driver's own, has ended, its data came at once, or its prompt has come.
     #[tactic(auto, using(crate::proofs::PipeCalls::says_behind))]
     pub fn is_behind_lines(&self) -> bool
         ensures { SaysBehind self.now result }
@@ -186,6 +187,8 @@ impl Pipe {
     {
         if self.watch.ends_by_sent(frame) {
             self.lane.end();
+        } else if self.watch.is_info(frame) {
+            self.lane.wrote(frame.info);
         }
         self.by_driver = self.watch.said(frame).unwrap_or(self.by_driver);
         self.held = self.watch.said(frame).unwrap_or(self.held);
@@ -302,7 +305,7 @@ impl Pipe {
         let frame = FrameView {
             dlci: self.watch.dlci(),
             kind: Kind::Uih,
-            cr: true,
+            cr: info_cr(self.watch.role()),
             pf: false,
             info: &octets[..count],
         };

@@ -3,7 +3,6 @@ ghost use Rattle.std.specs.Prelude.{◌≡◌, ◌≢◌, ◌⊎◌, ◌↔◌, 
 ghost use Rattle.mux_frame.specs.Frames.{frame_of};
 ghost use Rattle.mux_station.specs.Opening.{is_open};
 ghost use Rattle.mux_station.specs.Written.{is_data_frame};
-ghost use Rattle.mux_station.specs.declared.role.Role.TheVariants.{Initiator};
 ghost use Rattle.modem_data.specs.declared.error.DataError.TheVariants as error;
 ghost use Rattle.modem_data.specs.DataLanes.{most_to_go};
 ghost use Rattle.modem_data.specs.Switching.{Idle as idle, IsWithin, is_behind_lines, is_idle, takes_given};
@@ -17,12 +16,14 @@ use crate::octets::Octets;
 use crate::pipe::{Pipe, Reading};
 use crate::switch::LineCut;
 use mux_frame::{Dlci, FrameView, Kind};
+use mux_station::Role;
 use std::alloc::{AllocError, Global};
 use std::marker::Model;
 
-/// The connections that carry data, each once, and the place from which on the next is looked for that may send.
+/// Which end of the line it is, the connections that carry data, each once, and the place from which on the next is looked for that may send.
 #[derive(Drop)]
 pub(crate) struct Pipes {
+    role: Role,
     each: Vec<Pipe>,
     turn: usize,
 }
@@ -33,7 +34,7 @@ impl Model for Pipes {
 
     ghost Value = { PipeSet };
 
-    ghost view = { λ p. record { each = p.each.items; turn = p.turn } };
+    ghost view = { λ p. record { role = p.role; each = p.each.items; turn = p.turn } };
 
     ghost invariant = { λ p. p.turn ≤ length p.each.items };
 }
@@ -49,11 +50,11 @@ pub(crate) struct Flow {
 const MOST_DATA: usize = 8;
 
 impl Pipes {
-    /// Nothing has passed, and no lane is under way. These connections may carry data. Refused with 5 TooMany where they are more
+    /// Nothing has passed this end of the line, and no lane is under way. These connections may carry data. Refused with 5 TooMany where they are more
     /// than 8, else with 3 ControlChannel where 0 is among them, else with 4 Twice, and with 1 NoMemory.
     #[tactic(auto, using(crate::proofs::PipeSets::all_begin))]
-    pub fn new(alloc: Global, named: &[Dlci]) -> Result<Pipes, DataError>
-        ensures past { IfOk result (λ v. BeginsAll (numbers named.now) v) }
+    pub fn new(alloc: Global, role: Role, named: &[Dlci]) -> Result<Pipes, DataError>
+        ensures past { IfOk result (λ v. BeginsAll role (numbers named.now) v) }
         ensures many { result ≡ Err error.TooMany → 8 < length named.now }
         ensures control { result ≡ Err error.ControlChannel → IsAmong (numbers named.now) (length named.now) 0 }
         ensures twice { result ≡ Err error.Twice → IsTwice (numbers named.now) }
@@ -70,9 +71,17 @@ impl Pipes {
             return Err(DataError::Twice);
         }
         Ok(Pipes {
-            each: new_pipes(alloc, named)?,
+            role,
+            each: new_pipes(alloc, role, named)?,
             turn: 0,
         })
+    }
+
+    /// Which end of the line it is.
+    pub fn role(&self) -> Role
+        ensures { result ≡ self.now.role }
+    {
+        self.role
     }
 
     /// A frame came from the line. Of information on a lane, says which octets are lines, for the driver, and keeps the data. `None`:
@@ -116,9 +125,9 @@ impl Pipes {
         ensures began { OnOk result (AllLead self.old self.new (Began dlci.number how until)) }
         ensures has { OnOk result (HasPipe self.old dlci.number) }
         ensures not_data { result ≡ Err error.NotData → IsNotData self.old dlci.number }
-        ensures under_way { result ≡ Err error.UnderWay → OfEachPast self.old (λ past. is_idle (carries dlci.number past) ≡ false) }
-        ensures unread { result ≡ Err error.Unread → OfEachPast self.old (λ past.
-            (carries dlci.number past ≡ idle) × (data_read dlci.number past ≢ data_came dlci.number past)) }
+        ensures under_way { result ≡ Err error.UnderWay → OfEachPast self.old (λ role past. is_idle (carries role dlci.number past) ≡ false) }
+        ensures unread { result ≡ Err error.Unread → OfEachPast self.old (λ role past.
+            (carries role dlci.number past ≡ idle) × (data_read dlci.number past ≢ data_came role dlci.number past)) }
         ensures others { OnErr result ((result ≡ Err error.NotData) ⊎ ((result ≡ Err error.UnderWay) ⊎ (result ≡ Err error.Unread))) }
         ensures err { OnErr result (self.new ≡ self.old) }
     {
@@ -145,7 +154,7 @@ impl Pipes {
     /// Whether a connection is one of these, and data is under way on it.
     #[tactic(auto, using(crate::proofs::PipeSetCalls::behind_at, crate::proofs::PipeSetCalls::not_behind))]
     pub fn is_behind_lines(&self, dlci: Dlci) -> bool
-        ensures { OfEachPast self.now (λ past. result ≡ is_behind_lines (carries dlci.number past)) }
+        ensures { OfEachPast self.now (λ role past. result ≡ is_behind_lines (carries role dlci.number past)) }
     {
         let Some(place) = place_of(&self.each, dlci) else {
             return false;
@@ -156,9 +165,9 @@ impl Pipes {
     /// Gives the first octets of data that wait, as `Pipe::read` does. Refused with 6 NotData where there is no pipe of it.
     #[tactic(auto, using(crate::proofs::PipeSetCalls::one_read, crate::proofs::PipeSetCalls::not_data, crate::proofs::PipeSetCalls::reads_at, crate::proofs::PipeSetCalls::over_at))]
     pub fn read(&mut self, dlci: Dlci, room: &mut [u8]) -> Result<Reading, DataError>
-        ensures count { IfOk result (λ r. OfEachPast self.old (λ past. r.count ≡ min (unread dlci.number past) (length room.old))) }
+        ensures count { IfOk result (λ r. OfEachPast self.old (λ role past. r.count ≡ min (unread role dlci.number past) (length room.old))) }
         ensures leads { IfOk result (λ r. AllLead self.old self.new (Read dlci.number (take r.count room.new))) }
-        ensures over { IfOk result (λ r. OfEachPast self.new (λ past. r.is_over ≡ true ↔ IsOver dlci.number past)) }
+        ensures over { IfOk result (λ r. OfEachPast self.new (λ role past. r.is_over ≡ true ↔ IsOver role dlci.number past)) }
         ensures behind { IfOk result (λ r. drop r.count room.new ≡ drop r.count room.old) }
         ensures not_data { OnErr result ((result ≡ Err error.NotData) × IsNotData self.old dlci.number) }
         ensures err { OnErr result ((self.new ≡ self.old) × (room.new ≡ room.old)) }
@@ -172,12 +181,12 @@ impl Pipes {
     /// Takes the first octets to be sent, as `Pipe::give` does. Refused with 6 NotData where there is no pipe of it.
     #[tactic(auto, using(crate::proofs::PipeSetCalls::one_gave, crate::proofs::PipeSetCalls::not_data, crate::proofs::PipeSetCalls::gives_at, crate::proofs::PipeSetCalls::shut_at, crate::proofs::PipeSetCalls::takes_none_at))]
     pub fn give(&mut self, dlci: Dlci, octets: &[u8]) -> Result<usize, DataError>
-        ensures count { IfOk result (λ count. OfEachPast self.old (λ past.
+        ensures count { IfOk result (λ count. OfEachPast self.old (λ role past.
             count ≡ min (length octets.now) (most_to_go - (length (given dlci.number past) - length (left dlci.number past))))) }
         ensures leads { IfOk result (λ count. AllLead self.old self.new (Gave dlci.number (take count octets.now))) }
         ensures not_data { result ≡ Err error.NotData → IsNotData self.old dlci.number }
-        ensures not_open { result ≡ Err error.NotOpen → OfEachPast self.old (λ past. is_open Initiator dlci.number (wire past) ≡ false) }
-        ensures takes_none { result ≡ Err error.Lines → OfEachPast self.old (λ past. takes_given (carries dlci.number past) ≡ false) }
+        ensures not_open { result ≡ Err error.NotOpen → OfEachPast self.old (λ role past. is_open role dlci.number (wire past) ≡ false) }
+        ensures takes_none { result ≡ Err error.Lines → OfEachPast self.old (λ role past. takes_given (carries role dlci.number past) ≡ false) }
         ensures others { OnErr result ((result ≡ Err error.NotData) ⊎ ((result ≡ Err error.NotOpen) ⊎ (result ≡ Err error.Lines))) }
         ensures err { OnErr result (self.new ≡ self.old) }
     {
@@ -190,7 +199,7 @@ impl Pipes {
     /// How many octets were given on a connection and haven't left. Refused with 6 NotData where there is no pipe of it.
     #[tactic(auto, using(crate::proofs::PipeSetCalls::to_go_at, crate::proofs::PipeSetCalls::not_data))]
     pub fn to_go(&self, dlci: Dlci) -> Result<usize, DataError>
-        ensures count { IfOk result (λ count. OfEachPast self.now (λ past. count ≡ to_go dlci.number past)) }
+        ensures count { IfOk result (λ count. OfEachPast self.now (λ role past. count ≡ to_go dlci.number past)) }
         ensures not_data { OnErr result ((result ≡ Err error.NotData) × IsNotData self.now dlci.number) }
     {
         let Some(place) = place_of(&self.each, dlci) else {
@@ -202,8 +211,8 @@ impl Pipes {
     /// The first connection of which the other end is due to be told something, and what.
     #[tactic(auto, using(crate::proofs::PipeSetCalls::due_of, crate::proofs::PipeSetCalls::none_due))]
     pub fn due(&self) -> Option<Flow>
-        ensures some { IfSome result (λ f. OfEachPast self.now (λ past. IsDue f.dlci.number past f.go)) }
-        ensures none { result ≡ None → OfEachPast self.now (λ past. (d : ℕ) (go : Bool) → ¬ IsDue d past go) }
+        ensures some { IfSome result (λ f. OfEachPast self.now (λ role past. IsDue role f.dlci.number past f.go)) }
+        ensures none { result ≡ None → OfEachPast self.now (λ role past. (d : ℕ) (go : Bool) → ¬ IsDue role d past go) }
     {
         due_of(&self.each)
     }
@@ -211,8 +220,8 @@ impl Pipes {
     /// The frame that tells it goes to the line. Requires that it is due.
     #[tactic(auto, using(crate::proofs::PipeSetCalls::all_flowed))]
     pub fn flowed(&mut self, flow: Flow, frame: FrameView<'_>)
-        requires due { OfEachPast self.old (λ past. IsDue flow.dlci.number past flow.go) }
-        requires written { frame_of frame ≡ flow_frame flow.dlci.number flow.go }
+        requires due { OfEachPast self.old (λ role past. IsDue role flow.dlci.number past flow.go) }
+        requires written { frame_of frame ≡ flow_frame self.old.role flow.dlci.number flow.go }
         ensures { AllLead self.old self.new (Flowed (frame_of frame.entry)) }
     {
         flow_all(&mut self.each, frame);
@@ -239,7 +248,7 @@ impl Pipes {
         requires bound { n1 ≤ 32767 }
         requires room { output.old.len + (n1 + 7) ≤ output.old.capacity }
         ensures left { result ≡ true → SomeLeaves n1 self.old self.new output.old.items output.new.items }
-        ensures none { result ≡ false → OfEachPast self.old (λ past. (d : ℕ) → NoneLeaves past d) }
+        ensures none { result ≡ false → OfEachPast self.old (λ role past. (d : ℕ) → NoneLeaves role past d) }
         ensures some { result ≡ true → 0 < length output.new.items }
         ensures still { result ≡ false → (self.new ≡ self.old) × (output.new ≡ output.old) }
         ensures capacity { output.old.capacity ≤ output.new.capacity }
@@ -288,15 +297,15 @@ fn are_apart(named: &[Dlci]) -> bool
 
 /// A pipe for each connection. Requires that none is 0. Refusal: no memory.
 #[tactic(auto, using(crate::proofs::Named::one_more, crate::proofs::Named::each_more, crate::proofs::Named::those_all, crate::proofs::Named::no_control))]
-fn new_pipes(alloc: Global, named: &[Dlci]) -> Result<Vec<Pipe>, AllocError>
+fn new_pipes(alloc: Global, role: Role, named: &[Dlci]) -> Result<Vec<Pipe>, AllocError>
     requires { (j x : ℕ) → j < length named.now → (slice_index_or (numbers named.now) j x == 0) ≡ false }
     ensures connections { IfOk result (λ ps. connections ps.items ≡ numbers named.now) }
-    ensures each { IfOk result (λ ps. All (λ (p : Kept). (n1 : ℕ) → PipeFits n1 p.watch.dlci p []) ps.items) }
+    ensures each { IfOk result (λ ps. All (λ (p : Kept). (n1 : ℕ) → PipeFits role n1 p.watch.dlci p []) ps.items) }
 {
     let mut each = Vec::with_capacity(alloc, named.len())?;
     let mut place = 0;
     while place < named.len() {
-        each.push(Pipe::new(alloc, named[place])?)?;
+        each.push(Pipe::new(alloc, role, named[place])?)?;
         place += 1;
     }
     Ok(each)

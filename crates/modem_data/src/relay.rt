@@ -1,13 +1,12 @@
 //! A relay between the line and a driver, with connections that carry data.
 ghost use Rattle.std.specs.Prelude.{◌≡◌, ◌≢◌, ◌⊎◌, ◌↔◌, ◌==◌, ◌≤◌, ◌<◌, ◌-◌, ◌++◌, [], ℕ, Bool, List, length, take, drop, min, None, true, false, Err, IfOk, OnOk, OnErr};
 ghost use Rattle.mux_station.specs.Opening.{is_open};
-ghost use Rattle.mux_station.specs.declared.role.Role.TheVariants.{Initiator};
 ghost use Rattle.modem_data.specs.declared.error.DataError.TheVariants as error;
 ghost use Rattle.modem_data.specs.DataLanes.{most_to_go};
 ghost use Rattle.modem_data.specs.Switching.{Idle as idle, is_behind_lines, is_idle, takes_given};
 ghost use Rattle.modem_data.specs.Passing.{Came, Went, Flowed, Left, Lost, Began, EndedLane, Gave, Read, IsDue, IsOver, carries, data_came, data_read, given, left, to_go, unread, wire, flow_frame};
 ghost use Rattle.modem_data.specs.PipeSets.{IsAmong, IsNotData, IsTwice, NoneLeaves, OfEachPast, numbers};
-ghost use Rattle.modem_data.specs.Hops.{Fed, Handed, Took, Wrote, Passed, Hops, HopsBy, BeginsRelay, AllCame, HoldsNothing, LineIn, PassesOn, DriverOut, OneOut};
+ghost use Rattle.modem_data.specs.Hops.{Fed, Handed, Took, Wrote, Passed, Hops, HopsBy, BeginsAs, BeginsRelay, AllCame, HoldsNothing, LineIn, PassesOn, DriverOut, OneOut};
 
 use crate::begin::{Begin, Until};
 use crate::error::DataError;
@@ -15,15 +14,17 @@ use crate::octets::Octets;
 use crate::passing::{pass_in, pass_out};
 use crate::pipe::Reading;
 use crate::pipe_set::Pipes;
+use crate::watch::info_cr;
 use mux_frame::laws::deframed;
 use mux_frame::{Deframer, Dlci, FrameView, Kind};
+use mux_station::Role;
 use std::alloc::{AllocError, Global};
 use std::marker::Model;
 
 /// A relay between a line and a driver: it passes the frames of each on to the other, but for data.
 ///
-/// - `new` names the connections that may carry data. `begin` begins a lane on one, at once, behind the next CONNECT or behind the next
-///   prompt, and says whether the loss of the carrier ends it; `lines` ends it.
+/// - `new` and `with_role` name the connections that may carry data. `begin` begins a lane on one, at once, behind the next CONNECT, behind
+///   the next prompt or behind the driver's next CONNECT, and says whether the loss of the carrier ends it; `lines` ends it.
 /// - Hand what the line gave to `from_line`. Give the driver what `for_driver` lends, and say by `handed` how much.
 /// - Where `wants_driver` says so, hand the driver's octets to `feed_driver`. While `ready` says so, write what `for_line` lends,
 ///   and say by `wrote` how much.
@@ -66,12 +67,26 @@ pub struct Input {
 }
 
 impl Relay {
-    /// Nothing has passed. These connections may carry data; no lane is under way. N1 is the most octets of information that a frame may
-    /// have. Refused, in this order: 2 BadN1 where N1 isn't 31 to 32767; 5 TooMany where there are more than 8 connections; 3
-    /// ControlChannel where 0 is among them; 4 Twice where one is named twice; 1 NoMemory.
-    #[tactic(auto, using(crate::proofs::Relays::begins))]
+    /// Nothing has passed the client's end of the line, the initiator's (27.010, 5.2.1.2). As `with_role` has it, and refused so.
     pub fn new(alloc: Global, n1: u16, named: &[Dlci]) -> Result<Relay, DataError>
         ensures past { IfOk result (λ v. BeginsRelay n1 (numbers named.now) v) }
+        ensures bad_n1 { result ≡ Err error.BadN1 → (n1 < 31) ⊎ (32767 < n1) }
+        ensures many { result ≡ Err error.TooMany → 8 < length named.now }
+        ensures control { result ≡ Err error.ControlChannel → IsAmong (numbers named.now) (length named.now) 0 }
+        ensures twice { result ≡ Err error.Twice → IsTwice (numbers named.now) }
+        ensures others { OnErr result ((result ≡ Err error.BadN1) ⊎ ((result ≡ Err error.TooMany) ⊎ ((result ≡ Err error.ControlChannel)
+            ⊎ ((result ≡ Err error.Twice) ⊎ (result ≡ Err error.NoMemory))))) }
+    {
+        Relay::with_role(alloc, Role::Initiator, n1, named)
+    }
+
+    /// Nothing has passed this end of the line: the client's is `Initiator`, the modem's `Responder`. These connections may carry data; no
+    /// lane is under way. N1 is the most octets of information that a frame may have. Refused, in this order: 2 BadN1 where N1 isn't 31
+    /// to 32767; 5 TooMany where there are more than 8 connections; 3 ControlChannel where 0 is among them; 4 Twice where one is named
+    /// twice; 1 NoMemory.
+    #[tactic(auto, using(crate::proofs::Relays::begins))]
+    pub fn with_role(alloc: Global, role: Role, n1: u16, named: &[Dlci]) -> Result<Relay, DataError>
+        ensures past { IfOk result (λ v. BeginsAs role n1 (numbers named.now) v) }
         ensures bad_n1 { result ≡ Err error.BadN1 → (n1 < 31) ⊎ (32767 < n1) }
         ensures many { result ≡ Err error.TooMany → 8 < length named.now }
         ensures control { result ≡ Err error.ControlChannel → IsAmong (numbers named.now) (length named.now) 0 }
@@ -82,7 +97,7 @@ impl Relay {
         if n1 < 31 || n1 > 32767 {
             return Err(DataError::BadN1);
         }
-        let pipes = Pipes::new(alloc, named)?;
+        let pipes = Pipes::new(alloc, role, named)?;
         let Ok(outer) = Deframer::new(alloc, n1) else {
             return Err(DataError::NoMemory);
         };
@@ -101,15 +116,15 @@ impl Relay {
     }
 
     /// Begins a lane of a connection, in the present opening or, while the connection is shut, in the next: at once, by its next
-    /// CONNECT line or by its next prompt. `until` says whether the loss of the carrier ends it, as `lines` does. Refused, in this
-    /// order: 6 NotData where `new` didn't name the connection; 7 UnderWay where a lane is under way; 8 Unread where data of the last
-    /// one wasn't read.
+    /// CONNECT line, by its next prompt or by the driver's next CONNECT line. `until` says whether the loss of the carrier ends it, as
+    /// `lines` does. Refused, in this order: 6 NotData where the connection wasn't named; 7 UnderWay where a lane is under way; 8
+    /// Unread where data of the last one wasn't read.
     pub fn begin(&mut self, dlci: Dlci, how: Begin, until: Until) -> Result<(), DataError>
         ensures began { OnOk result (Hops self.old self.new (Passed (Began dlci.number how until))) }
         ensures not_data { result ≡ Err error.NotData → IsNotData self.old.pipes dlci.number }
-        ensures under_way { result ≡ Err error.UnderWay → OfEachPast self.old.pipes (λ past. is_idle (carries dlci.number past) ≡ false) }
-        ensures unread { result ≡ Err error.Unread → OfEachPast self.old.pipes (λ past.
-            (carries dlci.number past ≡ idle) × (data_read dlci.number past ≢ data_came dlci.number past)) }
+        ensures under_way { result ≡ Err error.UnderWay → OfEachPast self.old.pipes (λ role past. is_idle (carries role dlci.number past) ≡ false) }
+        ensures unread { result ≡ Err error.Unread → OfEachPast self.old.pipes (λ role past.
+            (carries role dlci.number past ≡ idle) × (data_read dlci.number past ≢ data_came role dlci.number past)) }
         ensures others { OnErr result ((result ≡ Err error.NotData) ⊎ ((result ≡ Err error.UnderWay) ⊎ (result ≡ Err error.Unread))) }
         ensures err { OnErr result (self.new ≡ self.old) }
     {
@@ -128,9 +143,10 @@ impl Relay {
         self.pipes.lines(dlci)
     }
 
-    /// Whether data is under way on a connection: the lane's CONNECT line has ended, its data came at once, or its prompt has come.
+    /// Whether data is under way on a connection: the lane's CONNECT line, the other end's or the driver's own, has ended, its data came at
+    /// once, or its prompt has come.
     pub fn is_behind_lines(&self, dlci: Dlci) -> bool
-        ensures { OfEachPast self.now.pipes (λ past. result ≡ is_behind_lines (carries dlci.number past)) }
+        ensures { OfEachPast self.now.pipes (λ role past. result ≡ is_behind_lines (carries role dlci.number past)) }
     {
         self.pipes.is_behind_lines(dlci)
     }
@@ -145,11 +161,11 @@ impl Relay {
     }
 
     /// Gives the first octets of data that wait, as many as there is room for. Says how many, and whether the lane is over and read to
-    /// its end. Refused with 6 NotData where `new` didn't name the connection.
+    /// its end. Refused with 6 NotData where the connection wasn't named.
     pub fn read(&mut self, dlci: Dlci, room: &mut [u8]) -> Result<Reading, DataError>
-        ensures count { IfOk result (λ r. OfEachPast self.old.pipes (λ past. r.count ≡ min (unread dlci.number past) (length room.old))) }
+        ensures count { IfOk result (λ r. OfEachPast self.old.pipes (λ role past. r.count ≡ min (unread role dlci.number past) (length room.old))) }
         ensures read { IfOk result (λ r. Hops self.old self.new (Passed (Read dlci.number (take r.count room.new)))) }
-        ensures over { IfOk result (λ r. OfEachPast self.new.pipes (λ past. r.is_over ≡ true ↔ IsOver dlci.number past)) }
+        ensures over { IfOk result (λ r. OfEachPast self.new.pipes (λ role past. r.is_over ≡ true ↔ IsOver role dlci.number past)) }
         ensures behind { IfOk result (λ r. drop r.count room.new ≡ drop r.count room.old) }
         ensures not_data { OnErr result ((result ≡ Err error.NotData) × IsNotData self.old.pipes dlci.number) }
         ensures err { OnErr result ((self.new ≡ self.old) × (room.new ≡ room.old)) }
@@ -159,15 +175,15 @@ impl Relay {
 
     /// Takes octets to be sent as data from the front of these, until 4096 wait, and says how many. Of a lane by prompt they are the
     /// text, with the octet that ends it (1A, or 1B to give up): they leave behind the prompt. Refused, in this order: 6 NotData where
-    /// `new` didn't name the connection; 9 NotOpen where it isn't open; 10 Lines where no lane is under way, or its CONNECT line hasn't
-    /// ended.
+    /// the connection wasn't named; 9 NotOpen where it isn't open; 10 Lines where no lane is under way, or its CONNECT line, the other
+    /// end's or the driver's own, hasn't ended.
     pub fn give(&mut self, dlci: Dlci, octets: &[u8]) -> Result<usize, DataError>
-        ensures count { IfOk result (λ count. OfEachPast self.old.pipes (λ past.
+        ensures count { IfOk result (λ count. OfEachPast self.old.pipes (λ role past.
             count ≡ min (length octets.now) (most_to_go - (length (given dlci.number past) - length (left dlci.number past))))) }
         ensures gave { IfOk result (λ count. Hops self.old self.new (Passed (Gave dlci.number (take count octets.now)))) }
         ensures not_data { result ≡ Err error.NotData → IsNotData self.old.pipes dlci.number }
-        ensures not_open { result ≡ Err error.NotOpen → OfEachPast self.old.pipes (λ past. is_open Initiator dlci.number (wire past) ≡ false) }
-        ensures takes_none { result ≡ Err error.Lines → OfEachPast self.old.pipes (λ past. takes_given (carries dlci.number past) ≡ false) }
+        ensures not_open { result ≡ Err error.NotOpen → OfEachPast self.old.pipes (λ role past. is_open role dlci.number (wire past) ≡ false) }
+        ensures takes_none { result ≡ Err error.Lines → OfEachPast self.old.pipes (λ role past. takes_given (carries role dlci.number past) ≡ false) }
         ensures others { OnErr result ((result ≡ Err error.NotData) ⊎ ((result ≡ Err error.NotOpen) ⊎ (result ≡ Err error.Lines))) }
         ensures err { OnErr result (self.new ≡ self.old) }
     {
@@ -175,9 +191,9 @@ impl Relay {
     }
 
     /// How many octets given on a connection haven't left. Once its lane is over they are never sent. Refused with 6 NotData
-    /// where `new` didn't name the connection.
+    /// where the connection wasn't named.
     pub fn to_go(&self, dlci: Dlci) -> Result<usize, DataError>
-        ensures count { IfOk result (λ count. OfEachPast self.now.pipes (λ past. count ≡ to_go dlci.number past)) }
+        ensures count { IfOk result (λ count. OfEachPast self.now.pipes (λ role past. count ≡ to_go dlci.number past)) }
         ensures not_data { OnErr result ((result ≡ Err error.NotData) × IsNotData self.now.pipes dlci.number) }
     {
         self.pipes.to_go(dlci)
@@ -320,7 +336,7 @@ impl Relay {
         requires first { self.old.inner.next ≡ None }
         requires none_wait { (length self.old.to_line == 0) ≡ true }
         ensures left { result ≡ true → HopsBy self.old self.new (λ f. Passed (Left f)) }
-        ensures none { result ≡ false → OfEachPast self.old.pipes (λ past. (d : ℕ) → NoneLeaves past d) }
+        ensures none { result ≡ false → OfEachPast self.old.pipes (λ role past. (d : ℕ) → NoneLeaves role past d) }
         ensures some { result ≡ true → 0 < length self.new.to_line }
         ensures still { result ≡ false → self.new ≡ self.old }
     {
@@ -337,7 +353,7 @@ impl Relay {
         requires first { self.old.inner.next ≡ None }
         requires none_wait { (length self.old.to_line == 0) ≡ true }
         ensures flowed { result ≡ true → HopsBy self.old self.new (λ f. Passed (Flowed f)) }
-        ensures none { result ≡ false → OfEachPast self.old.pipes (λ past. (d : ℕ) (go : Bool) → ¬ IsDue d past go) }
+        ensures none { result ≡ false → OfEachPast self.old.pipes (λ role past. (d : ℕ) (go : Bool) → ¬ IsDue role d past go) }
         ensures some { result ≡ true → 0 < length self.new.to_line }
         ensures still { result ≡ false → self.new ≡ self.old }
     {
@@ -346,11 +362,12 @@ impl Relay {
             return false;
         };
         self.to_line.fit(11);
-        let info = flow_info(flow.dlci, flow.go);
+        let role = self.pipes.role();
+        let info = flow_info(role, flow.dlci, flow.go);
         let frame = FrameView {
             dlci: Dlci::CONTROL,
             kind: Kind::Uih,
-            cr: true,
+            cr: info_cr(role),
             pf: false,
             info: &info,
         };
@@ -398,9 +415,10 @@ impl Relay {
 }
 
 /// The information of an MSC that says whether the other end may go on (27.010, 5.4.6.3.7).
-fn flow_info(dlci: Dlci, go: bool) -> [u8; 4]
-    ensures { result ≡ (flow_frame dlci.number go).info }
+fn flow_info(role: Role, dlci: Dlci, go: bool) -> [u8; 4]
+    ensures { result ≡ (flow_frame role dlci.number go).info }
 {
+    let _ = role;
     let signals = if go { 0x8D } else { 0x8F };
     [0xE3, 5, 4 * dlci.number() + 3, signals]
 }

@@ -1,7 +1,7 @@
 //! Where a connection turns from lines to data, or to a text.
 ghost use Rattle.std.specs.Prelude.{◌≡◌, ◌↔◌, ◌<◌, ◌≤◌, ◌+◌, ◌==◌, ◌&&◌, ◌||◌, ◌++◌, [], ◌∷◌, ℕ, List, length, take, drop, true, false};
 ghost use Rattle.modem_data.specs.Prompts.{before_prompt, behind_prompt, may_prompt};
-ghost use Rattle.modem_data.specs.Switching.{Carries as Stands, is_behind_lines, lets_leave, takes_given, ended_by_call, is_idle, Idle, Data, Ended, Lines, Prompts, Marked, Owes, carries_from, carries_prompt, carries_after, data_of, data_from, is_connect, connects, IsCut, lines_from, behind_end, marked, StaysLines, TurnsToData};
+ghost use Rattle.modem_data.specs.Switching.{Carries as Stands, is_behind_lines, lets_leave, takes_given, ended_by_call, is_idle, Idle, Data, Ended, Lines, Prompts, Marked, Owes, Owns, as_own, carries_from, carries_prompt, carries_after, carries_sent, data_of, data_from, is_connect, connects, IsCut, lines_from, behind_end, marked, StaysLines, TurnsToData};
 ghost use Rattle.modem_data.specs.Stages.{stands};
 ghost use Rattle.at_text.specs.Lines.{is_line_end, kept_run};
 
@@ -25,6 +25,10 @@ pub enum Stage {
     Sends,
     /// The lane was ended while a `>` was held back, which goes before what comes next.
     Owes,
+    /// Lines, before a CONNECT line of the driver's own.
+    Owns,
+    /// Data; the driver's CONNECT line has ended by a CR, and no octet has gone behind it.
+    Answered,
 }
 
 /// Finds the end of the first CONNECT line, or the first prompt, among octets that come in any pieces.
@@ -155,6 +159,25 @@ impl Switch {
         self.stage = Stage::Prompts(true);
     }
 
+    /// Lines come and go from now on, as far as the end of a CONNECT line that the driver writes.
+    pub fn to_own(&mut self)
+        ensures { self.new ≡ Owns [] }
+    {
+        self.stage = Stage::Owns;
+        self.reader.reset();
+    }
+
+    /// The driver writes octets: behind a CONNECT line of its own what comes is data.
+    pub fn wrote(&mut self, octets: &[u8])
+        ensures { self.new ≡ carries_sent self.old octets.now }
+    {
+        self.stage = match self.stage {
+            Stage::Owns => own_stage(cut_lines(&mut self.reader, octets).stage),
+            Stage::Answered if !octets.is_empty() => Stage::Data,
+            stage => stage,
+        };
+    }
+
     /// Nothing is data from now on. A `>` that is held back goes before what comes next.
     pub fn end(&mut self)
         ensures { self.new ≡ ended_by_call self.old }
@@ -178,7 +201,7 @@ impl Switch {
     {
         matches!(
             self.stage,
-            Stage::Data | Stage::Prompts(_) | Stage::Marked | Stage::Sends
+            Stage::Data | Stage::Prompts(_) | Stage::Marked | Stage::Sends | Stage::Answered
         )
     }
 
@@ -186,7 +209,10 @@ impl Switch {
     pub fn is_behind_lines(&self) -> bool
         ensures { result ≡ is_behind_lines self.now }
     {
-        matches!(self.stage, Stage::Ended(_) | Stage::Data | Stage::Sends)
+        matches!(
+            self.stage,
+            Stage::Ended(_) | Stage::Data | Stage::Sends | Stage::Answered
+        )
     }
 
     /// Whether nothing is data.
@@ -207,13 +233,13 @@ impl Switch {
         ensures after { self.new ≡ carries_after self.old octets.now }
     {
         let turn = match self.stage {
-            Stage::Idle | Stage::Sends => Turn {
+            Stage::Idle | Stage::Sends | Stage::Owns => Turn {
                 cut: cut_at(octets, octets.len(), octets.len()),
                 stage: self.stage,
             },
-            Stage::Data => Turn {
+            Stage::Data | Stage::Answered => Turn {
                 cut: cut_at(octets, 0, 0),
-                stage: Stage::Data,
+                stage: self.stage,
             },
             Stage::Ended(by) => cut_ended(octets, by),
             Stage::Lines => cut_lines(&mut self.reader, octets),
@@ -223,6 +249,18 @@ impl Switch {
         };
         self.stage = turn.stage;
         turn.cut
+    }
+}
+
+/// How a lane stands behind the driver's own lines, where one by the other end's stands so.
+fn own_stage(stage: Stage) -> Stage
+    ensures { (kept : List ℕ) → stands result kept ≡ as_own (stands stage kept) }
+{
+    match stage {
+        Stage::Lines => Stage::Owns,
+        Stage::Ended(by) if by == b'\r' => Stage::Answered,
+        Stage::Ended(_) => Stage::Data,
+        other => other,
     }
 }
 

@@ -5,15 +5,15 @@ ghost use Rattle.mux_station.specs.Acts.{Got, Sent, Lost};
 ghost use Rattle.mux_station.specs.Messages.{message_of, message_in, brings_command, msc_dlci, msc_stops};
 ghost use Rattle.mux_station.specs.Opening.{ends, ends_itself, is_mode_frame_on, opens, standing_after};
 ghost use Rattle.mux_station.specs.Stopping.{got_says, msc_says, flow_says};
-ghost use Rattle.mux_station.specs.Written.{is_on};
+ghost use Rattle.mux_station.specs.Written.{is_on, written_cr};
 ghost use Rattle.mux_frame.specs.declared.frame.Kind.TheVariants.{Sabm, Uih};
-ghost use Rattle.mux_station.specs.declared.role.Role.TheVariants.{Initiator};
 ghost use Rattle.modem_data.specs.Watching.{dv_says, new_watch, watched, watch_opens, watch_ends, watch_loses, said_last, Watches, SaysMayLeave, HasWatched};
 ghost use Rattle.modem_data.specs.Messages.{message_read};
 ghost use Rattle.modem_data.specs.Standings.{standing_of};
 
 use crate::message::{Message, msc_dlci, msc_dv, msc_stops};
 use mux_frame::{Dlci, FrameView, Kind};
+use mux_station::Role;
 use std::marker::Model;
 
 /// Whether a connection is open, and whether this end has asked for it.
@@ -23,9 +23,10 @@ pub struct Standing {
     pub is_asked: bool,
 }
 
-/// What the frames that passed say of one connection.
+/// What the frames that passed an end of the line say of one connection.
 #[derive(Drop)]
 pub struct Watch {
+    role: Role,
     dlci: Dlci,
     zero: Standing,
     own: Standing,
@@ -41,6 +42,7 @@ impl Model for Watch {
     ghost Value = { Watch };
 
     ghost view = { λ w. record {
+      role = w.role;
       dlci = w.dlci.number;
       zero = standing_of w.zero;
       own = standing_of w.own;
@@ -48,6 +50,13 @@ impl Model for Watch {
       all_stop = w.all_stop;
       carrier = w.carrier;
     } };
+}
+
+/// The C/R bit of information that this end writes (27.010, 5.2.1.2).
+pub(crate) fn info_cr(role: Role) -> bool
+    ensures { result ≡ written_cr role Uih }
+{
+    matches!(role, Role::Initiator)
 }
 
 fn is_on(kind: Kind, dlci: u8, frame: FrameView<'_>) -> bool
@@ -99,19 +108,28 @@ fn got_ends(zero: bool, dlci: u8, frame: FrameView<'_>) -> bool
     got_ends_itself(zero, dlci, frame) | ((dlci != 0) & got_ends_itself(zero, 0, frame))
 }
 
-fn got_opens(zero: bool, asked: bool, dlci: u8, frame: FrameView<'_>) -> bool
-    ensures { result ≡ opens Initiator zero asked dlci (Got (frame_of frame.entry)) }
+/// Whether a frame that comes opens a connection: the UA to an initiator's SABM, or the SABM to a responder.
+fn got_opens(role: Role, zero: bool, asked: bool, dlci: u8, frame: FrameView<'_>) -> bool
+    ensures { result ≡ opens role zero asked dlci (Got (frame_of frame.entry)) }
 {
-    let _ = zero;
-    is_on(Kind::Ua, dlci, frame) & asked
+    match role {
+        Role::Initiator => is_on(Kind::Ua, dlci, frame) & asked,
+        Role::Responder => is_on(Kind::Sabm, dlci, frame) & ((dlci == 0) | zero),
+    }
 }
 
 /// How a connection stands after a frame that came.
-fn stands_got(zero: bool, dlci: u8, standing: Standing, frame: FrameView<'_>) -> Standing
+fn stands_got(
+    role: Role,
+    zero: bool,
+    dlci: u8,
+    standing: Standing,
+    frame: FrameView<'_>,
+) -> Standing
     ensures { standing_of result
-        ≡ standing_after Initiator zero dlci (standing_of standing) (Got (frame_of frame.entry)) }
+        ≡ standing_after role zero dlci (standing_of standing) (Got (frame_of frame.entry)) }
 {
-    let opens = got_opens(zero, standing.is_asked, dlci, frame);
+    let opens = got_opens(role, zero, standing.is_asked, dlci, frame);
     let ends = got_ends(zero, dlci, frame);
     let mode = is_mode_frame(dlci, frame);
     Standing {
@@ -135,10 +153,18 @@ fn sent_ends(zero: bool, dlci: u8, frame: FrameView<'_>) -> bool
 }
 
 /// How a connection stands after a frame that went.
-fn stands_sent(zero: bool, dlci: u8, standing: Standing, frame: FrameView<'_>) -> Standing
+#[tactic(auto, using(crate::proofs::Watching::stands_as_sent))]
+fn stands_sent(
+    role: Role,
+    zero: bool,
+    dlci: u8,
+    standing: Standing,
+    frame: FrameView<'_>,
+) -> Standing
     ensures { standing_of result
-        ≡ standing_after Initiator zero dlci (standing_of standing) (Sent (frame_of frame.entry)) }
+        ≡ standing_after role zero dlci (standing_of standing) (Sent (frame_of frame.entry)) }
 {
+    let _ = role;
     let ends = sent_ends(zero, dlci, frame);
     let mode = is_mode_frame(dlci, frame);
     let asks = is_on(Kind::Sabm, dlci, frame);
@@ -195,9 +221,9 @@ fn all_said(frame: FrameView<'_>) -> Option<bool>
 }
 
 impl Watch {
-    /// Nothing has passed yet.
-    pub fn new(dlci: Dlci) -> Watch
-        ensures value { result ≡ new_watch dlci.number }
+    /// Nothing has passed this end of the line yet.
+    pub fn new(role: Role, dlci: Dlci) -> Watch
+        ensures value { result ≡ new_watch role dlci.number }
         ensures past { HasWatched result [] }
     {
         let shut = Standing {
@@ -205,6 +231,7 @@ impl Watch {
             is_asked: false,
         };
         Watch {
+            role,
             dlci,
             zero: shut,
             own: shut,
@@ -212,6 +239,13 @@ impl Watch {
             all_stop: false,
             carrier: false,
         }
+    }
+
+    /// Which end of the line it watches.
+    pub fn role(&self) -> Role
+        ensures { result ≡ self.now.role }
+    {
+        self.role
     }
 
     /// Its connection.
@@ -240,6 +274,7 @@ impl Watch {
         ensures { result ≡ watch_opens self.now (Got (frame_of frame.entry)) }
     {
         got_opens(
+            self.role,
             self.zero.is_open,
             self.own.is_asked,
             self.dlci.number(),
@@ -293,19 +328,20 @@ impl Watch {
     {
         let dlci = self.dlci.number();
         let zero = self.zero.is_open;
-        let own_opens = got_opens(zero, self.own.is_asked, dlci, frame);
+        let role = self.role;
+        let own_opens = got_opens(role, zero, self.own.is_asked, dlci, frame);
         let own_stays = self.own.is_open & !got_ends(zero, dlci, frame);
-        let all_open = got_opens(zero, self.zero.is_asked, 0, frame);
+        let all_open = got_opens(role, zero, self.zero.is_asked, 0, frame);
         let all_stay = zero & !got_ends(zero, 0, frame);
         self.own_stop = said_last(own_opens, own_stays, own_said(dlci, frame), self.own_stop);
         self.all_stop = said_last(all_open, all_stay, all_said(frame), self.all_stop);
         self.carrier = said_last(own_opens, own_stays, dv_said(dlci, frame), self.carrier);
-        self.own = stands_got(zero, dlci, self.own, frame);
-        self.zero = stands_got(zero, 0, self.zero, frame);
+        self.own = stands_got(role, zero, dlci, self.own, frame);
+        self.zero = stands_got(role, zero, 0, self.zero, frame);
     }
 
     /// A frame went.
-    #[tactic(auto, using(crate::proofs::Watching::watches))]
+    #[tactic(auto, using(crate::proofs::Watching::after_sent, crate::proofs::Watching::watches_sent))]
     pub fn went(&mut self, frame: FrameView<'_>)
         ensures after { self.new ≡ watched self.old (Sent (frame_of frame.entry)) }
         ensures past { Watches self.old self.new (Sent (frame_of frame.entry)) }
@@ -317,12 +353,12 @@ impl Watch {
         self.own_stop = said_last(false, own_stays, None, self.own_stop);
         self.all_stop = said_last(false, all_stay, None, self.all_stop);
         self.carrier = said_last(false, own_stays, None, self.carrier);
-        self.own = stands_sent(zero, dlci, self.own, frame);
-        self.zero = stands_sent(zero, 0, self.zero, frame);
+        self.own = stands_sent(self.role, zero, dlci, self.own, frame);
+        self.zero = stands_sent(self.role, zero, 0, self.zero, frame);
     }
 
     /// The line was lost.
-    #[tactic(auto, using(crate::proofs::Watching::watches))]
+    #[tactic(auto, using(crate::proofs::Watching::after_lost, crate::proofs::Watching::watches_lost))]
     pub fn lost(&mut self)
         ensures after { self.new ≡ watched self.old Lost }
         ensures past { Watches self.old self.new Lost }

@@ -1,7 +1,7 @@
 -- What calls from C do, said of the relay that is held.
 use Rattle.std.specs.Prelude.{◌≡◌, ◌⊎◌, ℕ, ◌<◌, List, [], length, Option, None, Some, slice_index_or}
 use Rattle.modem_data.specs.declared.begin.Begin.{Begin}
-use Rattle.modem_data.specs.declared.begin.Begin.TheVariants.{AtOnce, ByConnect, ByPrompt}
+use Rattle.modem_data.specs.declared.begin.Begin.TheVariants.{AtOnce, ByConnect, ByPrompt, ByOwnConnect}
 use Rattle.modem_data.specs.declared.begin.Until.{Until}
 use Rattle.modem_data.specs.declared.begin.Until.TheVariants.{Close, CarrierLoss}
 use Rattle.modem_data.specs.PipeSets.{IsAmong, IsTwice}
@@ -24,11 +24,12 @@ Keeps c p = HoldsRelay (relay_of c) p
 abbrev pub Becomes : (old new : CimbalotyData) → (Relay → Relay → Type 0) → Type 0
 Becomes old new p = Keeps old (λ r. Keeps new (p r))
 
--- how a lane begins, as a number
+-- how a lane begins, as a number; no call of C begins one by a CONNECT line of the driver's own, which is the modem's
 abbrev pub begin_number : Begin → ℕ
 begin_number AtOnce = 0
 begin_number ByConnect = 1
 begin_number ByPrompt = 2
+begin_number ByOwnConnect = 3
 
 -- until when it lasts, as a number
 abbrev pub until_number : Until → ℕ

@@ -1,7 +1,6 @@
 //! Lanes, and their data.
 ghost use Rattle.std.specs.Prelude.{◌≡◌, ◌≢◌, ◌⊎◌, ◌↔◌, ◌<◌, ◌≤◌, ◌-◌, Bool, length, take, drop, min, true, false, IfSome, None};
 ghost use Rattle.mux_station.specs.Opening.{is_open};
-ghost use Rattle.mux_station.specs.declared.role.Role.TheVariants.{Initiator};
 ghost use Rattle.modem_data.specs.Switching.{Idle as idle, is_idle, takes_given};
 ghost use Rattle.modem_data.specs.DataLanes.{most_to_go};
 ghost use Rattle.modem_data.specs.Passing.{Began, EndedLane, Gave, Read, Lost, IsOver, carries, data_came, data_read, given, left, to_go, unread, wire};
@@ -20,6 +19,7 @@ use std::alloc::Global;
 /// How a lane begins, by its number.
 fn begin_of(how: u8) -> Option<Begin>
     ensures known { IfSome result (λ b. how ≡ begin_number b) }
+    ensures few { IfSome result (λ b. how ≤ 2) }
     ensures unknown { result ≡ None → 2 < how }
 {
     match how {
@@ -47,9 +47,9 @@ fn begin(relay: &mut Relay, dlci: u8, how: Begin, until: Until) -> u8
     ensures ok { result ≡ OK → Hops relay.old relay.new (Passed (Began dlci how until)) }
     ensures bad { (result ≡ BAD_DLCI) ↔ (61 < dlci) }
     ensures not_data { result ≡ NOT_DATA → IsNotData relay.old.pipes dlci }
-    ensures under_way { result ≡ UNDER_WAY → OfEachPast relay.old.pipes (λ past. is_idle (carries dlci past) ≡ false) }
-    ensures unread { result ≡ UNREAD → OfEachPast relay.old.pipes (λ past.
-        (carries dlci past ≡ idle) × (data_read dlci past ≢ data_came dlci past)) }
+    ensures under_way { result ≡ UNDER_WAY → OfEachPast relay.old.pipes (λ role past. is_idle (carries role dlci past) ≡ false) }
+    ensures unread { result ≡ UNREAD → OfEachPast relay.old.pipes (λ role past.
+        (carries role dlci past ≡ idle) × (data_read dlci past ≢ data_came role dlci past)) }
     ensures refused { result ≢ OK → relay.new ≡ relay.old }
     ensures others { result ≢ OK → result ≢ BAD_DLCI → result ≢ NOT_DATA → result ≢ UNDER_WAY → result ≡ UNREAD }
 {
@@ -75,9 +75,9 @@ pub extern "C" fn cimbaloty_data_begin(
     ensures bad_begin { (result ≡ BAD_BEGIN) ↔ ((2 < how) ⊎ (1 < until)) }
     ensures bad { how ≤ 2 → until ≤ 1 → relay_of d.old ≢ None → ((result ≡ BAD_DLCI) ↔ (61 < dlci)) }
     ensures not_data { result ≡ NOT_DATA → Keeps d.old (λ r. IsNotData r.pipes dlci) }
-    ensures under_way { result ≡ UNDER_WAY → Keeps d.old (λ r. OfEachPast r.pipes (λ past. is_idle (carries dlci past) ≡ false)) }
-    ensures unread { result ≡ UNREAD → Keeps d.old (λ r. OfEachPast r.pipes (λ past.
-        (carries dlci past ≡ idle) × (data_read dlci past ≢ data_came dlci past))) }
+    ensures under_way { result ≡ UNDER_WAY → Keeps d.old (λ r. OfEachPast r.pipes (λ role past. is_idle (carries role dlci past) ≡ false)) }
+    ensures unread { result ≡ UNREAD → Keeps d.old (λ r. OfEachPast r.pipes (λ role past.
+        (carries role dlci past ≡ idle) × (data_read dlci past ≢ data_came role dlci past))) }
     ensures no_relay { how ≤ 2 → until ≤ 1 → ((result ≡ NO_RELAY) ↔ (relay_of d.old ≡ None)) }
     ensures refused { result ≢ OK → relay_of d.new ≡ relay_of d.old }
     ensures others { result ≢ OK → result ≢ BAD_BEGIN → result ≢ BAD_DLCI → result ≢ NOT_DATA → result ≢ UNDER_WAY → result ≢ NO_RELAY
@@ -156,8 +156,8 @@ pub struct DataRead {
 /// Gives the first octets of data that wait.
 fn read(relay: &mut Relay, dlci: u8, room: &mut [u8], got: &mut DataRead) -> u8
     ensures ok { result ≡ OK → Hops relay.old relay.new (Passed (Read dlci (take got.new.count room.new))) }
-    ensures count { result ≡ OK → OfEachPast relay.old.pipes (λ past. got.new.count ≡ min (unread dlci past) (length room.old)) }
-    ensures over { result ≡ OK → OfEachPast relay.new.pipes (λ past. got.new.is_over ≡ true ↔ IsOver dlci past) }
+    ensures count { result ≡ OK → OfEachPast relay.old.pipes (λ role past. got.new.count ≡ min (unread role dlci past) (length room.old)) }
+    ensures over { result ≡ OK → OfEachPast relay.new.pipes (λ role past. got.new.is_over ≡ true ↔ IsOver role dlci past) }
     ensures behind { result ≡ OK → drop got.new.count room.new ≡ drop got.new.count room.old }
     ensures bad { (result ≡ BAD_DLCI) ↔ (61 < dlci) }
     ensures not_data { result ≡ NOT_DATA → IsNotData relay.old.pipes dlci }
@@ -189,8 +189,8 @@ pub extern "C" fn cimbaloty_data_read_at(
     got: &mut DataRead,
 ) -> u8
     ensures ok { result ≡ OK → Becomes d.old d.new (λ r s. Hops r s (Passed (Read dlci (take got.new.count room.new)))) }
-    ensures count { result ≡ OK → Keeps d.old (λ r. OfEachPast r.pipes (λ past. got.new.count ≡ min (unread dlci past) (length room.old))) }
-    ensures over { result ≡ OK → Keeps d.new (λ s. OfEachPast s.pipes (λ past. got.new.is_over ≡ true ↔ IsOver dlci past)) }
+    ensures count { result ≡ OK → Keeps d.old (λ r. OfEachPast r.pipes (λ role past. got.new.count ≡ min (unread role dlci past) (length room.old))) }
+    ensures over { result ≡ OK → Keeps d.new (λ s. OfEachPast s.pipes (λ role past. got.new.is_over ≡ true ↔ IsOver role dlci past)) }
     ensures behind { result ≡ OK → drop got.new.count room.new ≡ drop got.new.count room.old }
     ensures bad { relay_of d.old ≢ None → ((result ≡ BAD_DLCI) ↔ (61 < dlci)) }
     ensures not_data { result ≡ NOT_DATA → Keeps d.old (λ r. IsNotData r.pipes dlci) }
@@ -211,12 +211,12 @@ pub extern "C" fn cimbaloty_data_read_at(
 /// Takes the first octets to be sent as data.
 fn give(relay: &mut Relay, dlci: u8, octets: &[u8], taken: &mut usize) -> u8
     ensures ok { result ≡ OK → Hops relay.old relay.new (Passed (Gave dlci (take taken.new octets.now))) }
-    ensures count { result ≡ OK → OfEachPast relay.old.pipes (λ past.
+    ensures count { result ≡ OK → OfEachPast relay.old.pipes (λ role past.
         taken.new ≡ min (length octets.now) (most_to_go - (length (given dlci past) - length (left dlci past)))) }
     ensures bad { (result ≡ BAD_DLCI) ↔ (61 < dlci) }
     ensures not_data { result ≡ NOT_DATA → IsNotData relay.old.pipes dlci }
-    ensures not_open { result ≡ NOT_OPEN → OfEachPast relay.old.pipes (λ past. is_open Initiator dlci (wire past) ≡ false) }
-    ensures takes_none { result ≡ LINES → OfEachPast relay.old.pipes (λ past. takes_given (carries dlci past) ≡ false) }
+    ensures not_open { result ≡ NOT_OPEN → OfEachPast relay.old.pipes (λ role past. is_open role dlci (wire past) ≡ false) }
+    ensures takes_none { result ≡ LINES → OfEachPast relay.old.pipes (λ role past. takes_given (carries role dlci past) ≡ false) }
     ensures refused { result ≢ OK → relay.new ≡ relay.old }
     ensures same { result ≢ OK → taken.new ≡ taken.old }
     ensures others { result ≢ OK → result ≢ BAD_DLCI → result ≢ NOT_DATA → result ≢ NOT_OPEN → result ≡ LINES }
@@ -243,12 +243,12 @@ pub extern "C" fn cimbaloty_data_give_at(
     taken: &mut usize,
 ) -> u8
     ensures ok { result ≡ OK → Becomes d.old d.new (λ r s. Hops r s (Passed (Gave dlci (take taken.new octets.now)))) }
-    ensures count { result ≡ OK → Keeps d.old (λ r. OfEachPast r.pipes (λ past.
+    ensures count { result ≡ OK → Keeps d.old (λ r. OfEachPast r.pipes (λ role past.
         taken.new ≡ min (length octets.now) (most_to_go - (length (given dlci past) - length (left dlci past))))) }
     ensures bad { relay_of d.old ≢ None → ((result ≡ BAD_DLCI) ↔ (61 < dlci)) }
     ensures not_data { result ≡ NOT_DATA → Keeps d.old (λ r. IsNotData r.pipes dlci) }
-    ensures not_open { result ≡ NOT_OPEN → Keeps d.old (λ r. OfEachPast r.pipes (λ past. is_open Initiator dlci (wire past) ≡ false)) }
-    ensures takes_none { result ≡ LINES → Keeps d.old (λ r. OfEachPast r.pipes (λ past. takes_given (carries dlci past) ≡ false)) }
+    ensures not_open { result ≡ NOT_OPEN → Keeps d.old (λ r. OfEachPast r.pipes (λ role past. is_open role dlci (wire past) ≡ false)) }
+    ensures takes_none { result ≡ LINES → Keeps d.old (λ r. OfEachPast r.pipes (λ role past. takes_given (carries role dlci past) ≡ false)) }
     ensures no_relay { (result ≡ NO_RELAY) ↔ (relay_of d.old ≡ None) }
     ensures refused { result ≢ OK → relay_of d.new ≡ relay_of d.old }
     ensures same { result ≢ OK → taken.new ≡ taken.old }
@@ -264,7 +264,7 @@ pub extern "C" fn cimbaloty_data_give_at(
 
 /// How many octets of data were given and haven't left.
 fn to_go(relay: &Relay, dlci: u8, count: &mut usize) -> u8
-    ensures count { result ≡ OK → OfEachPast relay.now.pipes (λ past. count.new ≡ to_go dlci past) }
+    ensures count { result ≡ OK → OfEachPast relay.now.pipes (λ role past. count.new ≡ to_go dlci past) }
     ensures bad { (result ≡ BAD_DLCI) ↔ (61 < dlci) }
     ensures not_data { result ≡ NOT_DATA → IsNotData relay.now.pipes dlci }
     ensures same { result ≢ OK → count.new ≡ count.old }
@@ -288,7 +288,7 @@ pub extern "C" fn cimbaloty_data_to_go_at(
     dlci: u8,
     count: &mut usize,
 ) -> u8
-    ensures count { result ≡ OK → Keeps d.old (λ r. OfEachPast r.pipes (λ past. count.new ≡ to_go dlci past)) }
+    ensures count { result ≡ OK → Keeps d.old (λ r. OfEachPast r.pipes (λ role past. count.new ≡ to_go dlci past)) }
     ensures bad { relay_of d.old ≢ None → ((result ≡ BAD_DLCI) ↔ (61 < dlci)) }
     ensures not_data { result ≡ NOT_DATA → Keeps d.old (λ r. IsNotData r.pipes dlci) }
     ensures no_relay { (result ≡ NO_RELAY) ↔ (relay_of d.old ≡ None) }

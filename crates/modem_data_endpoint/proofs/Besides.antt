@@ -12,12 +12,14 @@ use Rattle.mux_frame.specs.Deframing.{Deframes, Deframing, IsDeframed}
 use Rattle.mux_frame.proofs.readings.ComputedReadings.{octets_both, total_reading}
 use Rattle.mux_frame.proofs.readings.LaterTexts.{reads_spelled}
 use Rattle.mux_frame.proofs.readings.TextReadings.{one_reading}
-use Rattle.modem_data.specs.Hops.{Relay, Hop, Fed, Handed, Took, Wrote, Passed, RelayFits, for_driver, fed, came, handed_over, taken, went, Hops, BeginsRelay, is_line_in}
+use Rattle.mux_station.specs.declared.role.Role.{Role}
+use Rattle.mux_station.specs.declared.role.Role.TheVariants.{Initiator}
+use Rattle.modem_data.specs.Hops.{Relay, Hop, Fed, Handed, Took, Wrote, Passed, RelayFits, for_driver, fed, came, handed_over, taken, went, Hops, BeginsAs, is_line_in}
 use Rattle.modem_driver.specs.EndpointLaws.{World, Calls, TellsAll, none_called, called_more}
 use Rattle.modem_driver.specs.SessionStates.{beginning_by, end_of, seen_by}
 use Rattle.modem_history.specs.Acts.{Act}
 use Rattle.modem_history.specs.Sessions.{Beginning, SessionFits, SessionView, gots, given_on}
-use Rattle.modem_data_endpoint.specs.Beside.{Both, Step, Steps, called, relayed, came_in, gave_in, took_out, no_step, more_steps, is_joint, IsJoined, DataLaw, AreSpelled, TellsFrames}
+use Rattle.modem_data_endpoint.specs.Beside.{Both, Step, Steps, called, relayed, came_in, gave_in, took_out, no_step, more_steps, is_joint, IsJoined, DataLaw, AreSpelled, TellsBehind, TellsFrames}
 use Rattle.modem_data_endpoint.proofs.Spelled.{all_due_spelled, handed_spelled}
 
 -- ## Sequences of calls
@@ -33,17 +35,17 @@ all_calls : (x y : Both) → Steps x y → Calls x.world y.world
 all_calls x _ (no_step _) = none_called x.world
 all_calls x z (more_steps _ y _ before one) = calls_on x.world y z (all_calls x y before) one
 
-fits_on : (n1 : ℕ) (ds : List ℕ) (x y : Both) → RelayFits n1 ds x.relay x.hops → Step x y → RelayFits n1 ds y.relay y.hops
+fits_on : (role : Role) (n1 : ℕ) (ds : List ℕ) (x y : Both) → RelayFits role n1 ds x.relay x.hops → Step x y → RelayFits role n1 ds y.relay y.hops
 unfolding Hops
-fits_on n1 ds _ _ h (called a v r hops c i o) = h
-fits_on n1 ds _ _ h (relayed a r s hops hop j l) = l n1 ds hops h
-fits_on n1 ds _ _ h (came_in a r s hops octets k) = k.leads n1 ds hops h
-fits_on n1 ds _ _ h (gave_in a v r s hops octets c i o l) = l n1 ds hops h
-fits_on n1 ds _ _ h (took_out a v r s hops octets c i o l) = l n1 ds hops h
+fits_on role n1 ds _ _ h (called a v r hops c i o) = h
+fits_on role n1 ds _ _ h (relayed a r s hops hop j l) = l role n1 ds hops h
+fits_on role n1 ds _ _ h (came_in a r s hops octets k) = k.leads role n1 ds hops h
+fits_on role n1 ds _ _ h (gave_in a v r s hops octets c i o l) = l role n1 ds hops h
+fits_on role n1 ds _ _ h (took_out a v r s hops octets c i o l) = l role n1 ds hops h
 
-all_fit : (n1 : ℕ) (ds : List ℕ) (x y : Both) → RelayFits n1 ds x.relay x.hops → Steps x y → RelayFits n1 ds y.relay y.hops
-all_fit n1 ds x _ h (no_step _) = h
-all_fit n1 ds x z h (more_steps _ y _ before one) = fits_on n1 ds y z (all_fit n1 ds x y h before) one
+all_fit : (role : Role) (n1 : ℕ) (ds : List ℕ) (x y : Both) → RelayFits role n1 ds x.relay x.hops → Steps x y → RelayFits role n1 ds y.relay y.hops
+all_fit role n1 ds x _ h (no_step _) = h
+all_fit role n1 ds x z h (more_steps _ y _ before one) = fits_on role n1 ds y z (all_fit role n1 ds x y h before) one
 
 apart_in : (a : Hop) (hops : List Hop) → is_joint a ≡ false → handed_over (a ∷ hops) ≡ handed_over hops
 apart_in (Fed o) hops e = refl
@@ -111,31 +113,35 @@ no_more xs ys e = ap (λ (zs : List ℕ). xs ++ zs) e ∙ append-nil xs
 
 -- ## The law
 
-pub frames_told : IsDeframed → (n1 : ℕ) (ds : List ℕ) (b : Beginning) (v : SessionView) (r : Relay) (hops : List Hop) (past : List Act) → n1 ≤ 32767 → SessionFits b v past → RelayFits n1 ds r hops
+pub behind_told : IsDeframed → (role : Role) (n1 : ℕ) (ds : List ℕ) (unfed fed_in : List ℕ) (d : Deframing) (unwritten since : List ℕ) (r : Relay) (hops : List Hop) (got given : List Frame) → n1 ≤ 32767 → RelayFits role n1 ds r hops → d.n1 ≡ n1
+    → Deframes fed_in got d → handed_over hops ≡ fed_in ++ unfed → taken hops ≡ since → since ++ unwritten ≡ flat_map spelled given → TellsBehind role n1 unfed d unwritten r hops got given
+behind_told law role n1 ds unfed fed_in d unwritten since r hops got given high relay bound deframes parts gone written =
+    let came_all = subst (λ (n : ℕ). AreSpelled n (came hops)) relay.outer_n1 (handed_spelled (fed hops) (came hops) r.outer relay.line_in) in
+    let due_all = all_due_spelled role n1 hops high came_all in
+    let all_in : fed_in ++ (unfed ++ r.to_driver) ≡ flat_map spelled (for_driver role hops) = sym (append_assoc fed_in unfed r.to_driver) ∙ (ap (λ (xs : List ℕ). xs ++ r.to_driver) (sym parts) ∙ relay.to_driver_is) in
+    record {
+      got_are = λ aside on_way. first_of n1 fed_in (unfed ++ r.to_driver) got (for_driver role hops) d bound deframes due_all (octets_both unfed r.to_driver aside on_way) all_in;
+      all_got = λ aside on_way none. all_of n1 fed_in got (for_driver role hops) d law bound deframes due_all none (sym (no_more fed_in unfed aside) ∙ (sym parts ∙ (sym (no_more (handed_over hops) r.to_driver on_way) ∙ relay.to_driver_is)));
+      went_are = λ sp o. first_of n1 (taken hops) unwritten (went hops) given r.inner relay.inner_n1 relay.driver_out sp o (ap (λ (xs : List ℕ). xs ++ unwritten) gone ∙ written);
+      all_went = λ sp o none. all_of n1 (taken hops) (went hops) given r.inner law relay.inner_n1 relay.driver_out sp none (gone ∙ (sym (no_more since unwritten o) ∙ written));
+    }
+
+pub frames_told : IsDeframed → (n1 : ℕ) (ds : List ℕ) (b : Beginning) (v : SessionView) (r : Relay) (hops : List Hop) (past : List Act) → n1 ≤ 32767 → SessionFits b v past → RelayFits Initiator n1 ds r hops
     → b.n1 ≡ n1 → v.line.received ≡ b.line.received ++ handed_over hops → v.line.sent ≡ b.line.sent ++ taken hops → TellsFrames n1 v r hops past
 frames_told law n1 ds b v r hops past high fits relay same read written_all =
     let octets = fits.received in
-    let bound = octets.bound ∙ same in
-    let parts : handed_over hops ≡ octets.fed ++ v.unfed = append_cancel_left b.line.received (handed_over hops) (octets.fed ++ v.unfed) (sym read ∙ (octets.received_are ∙ append_assoc b.line.received octets.fed v.unfed)) in
     let written = fits.sent in
-    let gone : taken hops ≡ written.since = append_cancel_left b.line.sent (taken hops) written.since (sym written_all ∙ written.sent_are) in
-    let came_all = subst (λ (n : ℕ). AreSpelled n (came hops)) relay.outer_n1 (handed_spelled (fed hops) (came hops) r.outer relay.line_in) in
-    let due_all = all_due_spelled n1 hops high came_all in
-    let all_in : octets.fed ++ (v.unfed ++ r.to_driver) ≡ flat_map spelled (for_driver hops) = sym (append_assoc octets.fed v.unfed r.to_driver) ∙ (ap (λ (xs : List ℕ). xs ++ r.to_driver) (sym parts) ∙ relay.to_driver_is) in
-    record {
-      got_are = λ aside on_way. first_of n1 octets.fed (v.unfed ++ r.to_driver) (gots past) (for_driver hops) v.deframer bound octets.deframes due_all (octets_both v.unfed r.to_driver aside on_way) all_in;
-      all_got = λ aside on_way none. all_of n1 octets.fed (gots past) (for_driver hops) v.deframer law bound octets.deframes due_all none (sym (no_more octets.fed v.unfed aside) ∙ (sym parts ∙ (sym (no_more (handed_over hops) r.to_driver on_way) ∙ relay.to_driver_is)));
-      went_are = λ sp o. first_of n1 (taken hops) v.unwritten (went hops) (given_on past) r.inner relay.inner_n1 relay.driver_out sp o (ap (λ (xs : List ℕ). xs ++ v.unwritten) gone ∙ written.frames_are);
-      all_went = λ sp o none. all_of n1 (taken hops) (went hops) (given_on past) r.inner law relay.inner_n1 relay.driver_out sp none (gone ∙ (sym (no_more written.since v.unwritten o) ∙ written.frames_are));
-    }
+    behind_told law Initiator n1 ds v.unfed octets.fed v.deframer v.unwritten written.since r hops (gots past) (given_on past) high relay (octets.bound ∙ same) octets.deframes
+    (append_cancel_left b.line.received (handed_over hops) (octets.fed ++ v.unfed) (sym read ∙ (octets.received_are ∙ append_assoc b.line.received octets.fed v.unfed)))
+    (append_cancel_left b.line.sent (taken hops) written.since (sym written_all ∙ written.sent_are)) written.frames_are
 
 pub data_law : IsDeframed → TellsAll → DataLaw
-unfolding DataLaw BeginsRelay TellsAll
+unfolding DataLaw BeginsAs TellsAll
 data_law law tells_all dialect n1 ds kinds x y same some high begins starts none steps =
     let b = beginning_by dialect n1 x.world.line x.world.driver in
     let told = tells_all dialect n1 kinds x.world y.world same some begins (all_calls x y steps) in
-    let first : RelayFits n1 ds x.relay x.hops = subst (λ (hops : List Hop). RelayFits n1 ds x.relay hops) (sym none) starts in
-    let fit = all_fit n1 ds x y first steps in
+    let first : RelayFits Initiator n1 ds x.relay x.hops = subst (λ (hops : List Hop). RelayFits Initiator n1 ds x.relay hops) (sym none) starts in
+    let fit = all_fit Initiator n1 ds x y first steps in
     let at_first : IsJoined b x = subst (λ (hops : List Hop). IsJoined b (record x { hops = hops })) (sym none) (record { received_are = sym (append-nil x.world.line.received); sent_are = sym (append-nil x.world.line.sent) }) in
     let joined = all_joined b x y at_first steps in
     let frames = frames_told law n1 ds b (seen_by y.world.line (end_of y.world.driver) y.world.endpoint.machine) y.relay y.hops told.past high told.fits fit refl joined.received_are joined.sent_are in

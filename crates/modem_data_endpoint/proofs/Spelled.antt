@@ -12,12 +12,12 @@ use Rattle.mux_frame.specs.declared.frame.Kind.{Kind}
 use Rattle.mux_frame.specs.declared.frame.Kind.TheVariants.{Sabm, Ua, Dm, Disc, Uih}
 use Rattle.mux_frame.proofs.Spellings.{spells_body}
 use Rattle.mux_frame.proofs.readings.ComputedReadings.{octets_both, total_reading}
-use Rattle.mux_station.specs.declared.role.Role.TheVariants.{Initiator}
+use Rattle.mux_station.specs.declared.role.Role.{Role}
 use Rattle.mux_station.specs.Opening.{is_open}
 use Rattle.mux_station.specs.Written.{is_kind}
 use Rattle.at_text.specs.Lines.{is_line_end, kept_run}
 use Rattle.modem_data.specs.Prompts.{before_prompt, behind_prompt, is_mark, mark_if, may_prompt}
-use Rattle.modem_data.specs.Switching.{Carries, Idle, Lines, Ended, Data, Prompts, Marked, Sends, Owes, is_idle, released, before_of, behind_of, lines_from, connects}
+use Rattle.modem_data.specs.Switching.{Carries, Idle, Lines, Ended, Data, Prompts, Marked, Sends, Owes, Owns, Answered, is_idle, released, before_of, behind_of, lines_from, connects}
 use Rattle.modem_data.specs.Passing.{Pass, Came, Went, Flowed, Left, Lost, Began, EndedLane, Gave, Read, is_data, is_info, carries, wire}
 use Rattle.modem_data.specs.Hops.{Hop, Fed, Handed, Took, Wrote, Passed, due, line_frames, with_lines, for_driver, came, passes}
 use Rattle.modem_data_endpoint.specs.Beside.{AreSpelled}
@@ -94,6 +94,8 @@ few_released Marked (c ∷ text) = at (c == 32)
     at true = omega arith
     at false = omega arith
 few_released Sends text = none text
+few_released (Owns kept) text = none text
+few_released Answered text = none text
 few_released Owes [] = none []
 few_released Owes (c ∷ text) = omega arith
 
@@ -106,6 +108,8 @@ few_first (Prompts starts) text = few_before starts text
 few_first Marked text = few_if (may_prompt text) [] (before_prompt false text) text (none text) (few_before false text)
 few_first Sends text = omega arith
 few_first Owes text = omega arith
+few_first (Owns kept) text = omega arith
+few_first Answered text = none text
 
 few_last : (m : Carries) (text : List ℕ) → length (behind_of m text) ≤ length text
 few_last Idle text = none text
@@ -116,6 +120,8 @@ few_last (Prompts starts) text = few_behind starts text
 few_last Marked text = few_if (may_prompt text) (drop 1 text) (behind_prompt false text) text (few_dropped text) (few_behind false text)
 few_last Sends text = none text
 few_last Owes text = none text
+few_last (Owns kept) text = none text
+few_last Answered text = none text
 
 most_uih : (n1 n m : ℕ) (k : Kind) → is_kind k Uih ≡ true → n ≤ m → m ≤ most_info n1 k → (n ≤ most_info n1 k) × (n ≤ n1)
 most_uih n1 n m Sabm e few fits = cc
@@ -140,28 +146,28 @@ frames_spelled n1 f m high h k =
     All-append (HasSpelling n1) (with_lines f x) (with_lines f y ++ with_lines f z) (lines_spelled n1 f x high h k (few_released m f.info))
     (All-append (HasSpelling n1) (with_lines f y) (with_lines f z) (lines_spelled n1 f y high h k (few_first m f.info)) (lines_spelled n1 f z high h k (few_last m f.info)))
 
-due_spelled : (n1 : ℕ) (p : List Pass) (f : Frame) → n1 ≤ 32767 → HasSpelling n1 f → AreSpelled n1 (due p f)
-due_spelled n1 p f high h = at (is_data f.dlci p f) refl
+due_spelled : (role : Role) (n1 : ℕ) (p : List Pass) (f : Frame) → n1 ≤ 32767 → HasSpelling n1 f → AreSpelled n1 (due role p f)
+due_spelled role n1 p f high h = at (is_data role f.dlci p f) refl
   where
-    at : (b : Bool) → is_data f.dlci p f ≡ b → AreSpelled n1 (if b then line_frames (carries f.dlci p) f else f ∷ [])
+    at : (b : Bool) → is_data role f.dlci p f ≡ b → AreSpelled n1 (if b then line_frames (carries role f.dlci p) f else f ∷ [])
     at true e =
-        let info = (and_parts (is_info f.dlci p f) (not (is_idle (carries f.dlci p))) e).0 in
-        let on = (and_parts (is_kind f.kind Uih && (f.dlci == f.dlci)) (is_open Initiator f.dlci (wire p)) info).0 in
-        frames_spelled n1 f (carries f.dlci p) high h (and_parts (is_kind f.kind Uih) (f.dlci == f.dlci) on).0
+        let info = (and_parts (is_info role f.dlci p f) (not (is_idle (carries role f.dlci p))) e).0 in
+        let on = (and_parts (is_kind f.kind Uih && (f.dlci == f.dlci)) (is_open role f.dlci (wire p)) info).0 in
+        frames_spelled n1 f (carries role f.dlci p) high h (and_parts (is_kind f.kind Uih) (f.dlci == f.dlci) on).0
     at false e = All-cons (HasSpelling n1) f [] h (All-nil (HasSpelling n1))
 
-pub all_due_spelled : (n1 : ℕ) (hops : List Hop) → n1 ≤ 32767 → AreSpelled n1 (came hops) → AreSpelled n1 (for_driver hops)
-all_due_spelled n1 [] high h = All-nil (HasSpelling n1)
-all_due_spelled n1 (Passed (Came f) ∷ past) high h = All-append (HasSpelling n1) (for_driver past) (due (passes past) f) (all_due_spelled n1 past high (first_spelled n1 (came past) (f ∷ []) h)) (due_spelled n1 (passes past) f high (last_spelled n1 (came past) f h))
-all_due_spelled n1 (Passed (Went f) ∷ past) high h = all_due_spelled n1 past high (first_spelled n1 (came past) [] h)
-all_due_spelled n1 (Passed (Flowed f) ∷ past) high h = all_due_spelled n1 past high (first_spelled n1 (came past) [] h)
-all_due_spelled n1 (Passed (Left f) ∷ past) high h = all_due_spelled n1 past high (first_spelled n1 (came past) [] h)
-all_due_spelled n1 (Passed Lost ∷ past) high h = all_due_spelled n1 past high (first_spelled n1 (came past) [] h)
-all_due_spelled n1 (Passed (Began d c u) ∷ past) high h = all_due_spelled n1 past high (first_spelled n1 (came past) [] h)
-all_due_spelled n1 (Passed (EndedLane d) ∷ past) high h = all_due_spelled n1 past high (first_spelled n1 (came past) [] h)
-all_due_spelled n1 (Passed (Gave d o) ∷ past) high h = all_due_spelled n1 past high (first_spelled n1 (came past) [] h)
-all_due_spelled n1 (Passed (Read d o) ∷ past) high h = all_due_spelled n1 past high (first_spelled n1 (came past) [] h)
-all_due_spelled n1 (Fed o ∷ past) high h = all_due_spelled n1 past high (first_spelled n1 (came past) [] h)
-all_due_spelled n1 (Handed o ∷ past) high h = all_due_spelled n1 past high (first_spelled n1 (came past) [] h)
-all_due_spelled n1 (Took o ∷ past) high h = all_due_spelled n1 past high (first_spelled n1 (came past) [] h)
-all_due_spelled n1 (Wrote o ∷ past) high h = all_due_spelled n1 past high (first_spelled n1 (came past) [] h)
+pub all_due_spelled : (role : Role) (n1 : ℕ) (hops : List Hop) → n1 ≤ 32767 → AreSpelled n1 (came hops) → AreSpelled n1 (for_driver role hops)
+all_due_spelled role n1 [] high h = All-nil (HasSpelling n1)
+all_due_spelled role n1 (Passed (Came f) ∷ past) high h = All-append (HasSpelling n1) (for_driver role past) (due role (passes past) f) (all_due_spelled role n1 past high (first_spelled n1 (came past) (f ∷ []) h)) (due_spelled role n1 (passes past) f high (last_spelled n1 (came past) f h))
+all_due_spelled role n1 (Passed (Went f) ∷ past) high h = all_due_spelled role n1 past high (first_spelled n1 (came past) [] h)
+all_due_spelled role n1 (Passed (Flowed f) ∷ past) high h = all_due_spelled role n1 past high (first_spelled n1 (came past) [] h)
+all_due_spelled role n1 (Passed (Left f) ∷ past) high h = all_due_spelled role n1 past high (first_spelled n1 (came past) [] h)
+all_due_spelled role n1 (Passed Lost ∷ past) high h = all_due_spelled role n1 past high (first_spelled n1 (came past) [] h)
+all_due_spelled role n1 (Passed (Began d c u) ∷ past) high h = all_due_spelled role n1 past high (first_spelled n1 (came past) [] h)
+all_due_spelled role n1 (Passed (EndedLane d) ∷ past) high h = all_due_spelled role n1 past high (first_spelled n1 (came past) [] h)
+all_due_spelled role n1 (Passed (Gave d o) ∷ past) high h = all_due_spelled role n1 past high (first_spelled n1 (came past) [] h)
+all_due_spelled role n1 (Passed (Read d o) ∷ past) high h = all_due_spelled role n1 past high (first_spelled n1 (came past) [] h)
+all_due_spelled role n1 (Fed o ∷ past) high h = all_due_spelled role n1 past high (first_spelled n1 (came past) [] h)
+all_due_spelled role n1 (Handed o ∷ past) high h = all_due_spelled role n1 past high (first_spelled n1 (came past) [] h)
+all_due_spelled role n1 (Took o ∷ past) high h = all_due_spelled role n1 past high (first_spelled n1 (came past) [] h)
+all_due_spelled role n1 (Wrote o ∷ past) high h = all_due_spelled role n1 past high (first_spelled n1 (came past) [] h)

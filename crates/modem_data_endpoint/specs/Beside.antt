@@ -1,6 +1,7 @@
 -- A relay and an endpoint behind it: what a sequence of their calls comes to.
 use Rattle.std.specs.Prelude.{◌≡◌, ℕ, ◌≤◌, Bool, true, false, List, [], ◌∷◌, ◌++◌, length, All, None}
 use Rattle.mux_frame.specs.Laws.{AreOctets, GoesOn, HasSpelling}
+use Rattle.mux_frame.specs.Deframing.{Deframing}
 use Rattle.mux_frame.specs.Frames.{Frame}
 use Rattle.at_text.specs.Dialects.{Dialect}
 use Rattle.at_text.specs.declared.unsolicited.UrcKind.{UrcKind}
@@ -9,6 +10,8 @@ use Rattle.modem_history.specs.Sessions.{Beginning, SessionFits, SessionView, go
 use Rattle.modem_driver.specs.EndpointLaws.{World, Call}
 use Rattle.modem_driver.specs.Endpoints.{BeginsBy}
 use Rattle.modem_driver.specs.SessionStates.{beginning_by, end_of, seen_by}
+use Rattle.mux_station.specs.declared.role.Role.{Role}
+use Rattle.mux_station.specs.declared.role.Role.TheVariants.{Initiator}
 use Rattle.modem_data.specs.Hops.{Relay, RelayFits, Hop, Handed, Took, Hops, LineIn, BeginsRelay, handed_over, taken, for_driver, went}
 
 -- an endpoint with its line and its desk's end, and a relay with what passed it
@@ -69,14 +72,18 @@ pub record IsOut (x : Both) : Type 0 where
 abbrev pub AreSpelled : ℕ → List Frame → Type 0
 AreSpelled n1 fs = All (HasSpelling n1) fs
 
--- A driver with this history stands behind a relay: it read what the relay handed over, and wrote what the relay took. The frames that
--- the history got are the first of those due to the driver, and all of them where nothing waits on the way. The frames of the driver's
--- that went to the line are the first of those that the history gave on, and all of them where none waits.
-pub record TellsFrames (n1 : ℕ) (v : SessionView) (r : Relay) (hops : List Hop) (past : List Act) : Type 0 where
-  pub got_are : AreOctets v.unfed → AreOctets r.to_driver → GoesOn (gots past) (for_driver hops)
-  pub all_got : v.unfed ≡ [] → r.to_driver ≡ [] → v.deframer.next ≡ None → gots past ≡ for_driver hops
-  pub went_are : AreSpelled n1 (given_on past) → AreOctets v.unwritten → GoesOn (went hops) (given_on past)
-  pub all_went : AreSpelled n1 (given_on past) → v.unwritten ≡ [] → r.inner.next ≡ None → went hops ≡ given_on past
+-- What stands behind a relay at its end of the line read what the relay handed over, of which the last octets wait for its deframer, and
+-- wrote what the relay took, behind which others wait. The frames that it got are the first of those due to it, and all of them where
+-- nothing waits on the way. Its frames that went to the line are the first of those that it gave on, and all of them where none waits.
+pub record TellsBehind (role : Role) (n1 : ℕ) (unfed : List ℕ) (d : Deframing) (unwritten : List ℕ) (r : Relay) (hops : List Hop) (got given : List Frame) : Type 0 where
+  pub got_are : AreOctets unfed → AreOctets r.to_driver → GoesOn got (for_driver role hops)
+  pub all_got : unfed ≡ [] → r.to_driver ≡ [] → d.next ≡ None → got ≡ for_driver role hops
+  pub went_are : AreSpelled n1 given → AreOctets unwritten → GoesOn (went hops) given
+  pub all_went : AreSpelled n1 given → unwritten ≡ [] → r.inner.next ≡ None → went hops ≡ given
+
+-- A driver with this history stands behind a relay at the client's end of the line.
+abbrev pub TellsFrames : ℕ → SessionView → Relay → List Hop → List Act → Type 0
+TellsFrames n1 v r hops past = TellsBehind Initiator n1 v.unfed v.deframer v.unwritten r hops (gots past) (given_on past)
 
 -- One history tells all of the endpoint, and the relay fits what passed it. The frames that the history got are the first of those due
 -- to the driver: the frames of the line but data. Those of the driver's that went to the line are the first of those that the history
@@ -84,10 +91,10 @@ pub record TellsFrames (n1 : ℕ) (v : SessionView) (r : Relay) (hops : List Hop
 pub record TellsBoth (n1 : ℕ) (ds : List ℕ) (b : Beginning) (x : Both) : Type 0 where
   pub past : List Act
   pub fits : SessionFits b (seen_by x.world.line (end_of x.world.driver) x.world.endpoint.machine) past
-  pub relay_fits : RelayFits n1 ds x.relay x.hops
+  pub relay_fits : RelayFits Initiator n1 ds x.relay x.hops
   pub joined : IsJoined b x
-  pub got_are : AreOctetsWaiting x → GoesOn (gots past) (for_driver x.hops)
-  pub all_got : IsThrough x → gots past ≡ for_driver x.hops
+  pub got_are : AreOctetsWaiting x → GoesOn (gots past) (for_driver Initiator x.hops)
+  pub all_got : IsThrough x → gots past ≡ for_driver Initiator x.hops
   pub went_are : AreSpelled n1 (given_on past) → AreOctets x.world.endpoint.machine.unwritten
       → GoesOn (went x.hops) (given_on past)
   pub all_went : AreSpelled n1 (given_on past) → IsOut x → went x.hops ≡ given_on past

@@ -38,7 +38,7 @@ pub record TakesOver (r s : Relay) (e f : EndpointState) : Type 0 where
 -- a command is refused, and handed back: data is under way on its connection; or the endpoint refuses it
 abbrev pub RefusesCommand : Relay → (e f : EndpointState) → Dlci → CommandLine → CommandRefused → Type 0
 RefusesCommand r e f dlci line (refused.CarriesData back) =
-    (back ≡ line) × ((f ≡ e) × OfEachPast r.pipes (λ past. true ≡ is_behind_lines (carries dlci.number past)))
+    (back ≡ line) × ((f ≡ e) × OfEachPast r.pipes (λ role past. true ≡ is_behind_lines (carries role dlci.number past)))
 RefusesCommand r e f dlci line (refused.Request q) =
     (q.ask ≡ Ask.Command dlci line) × (Refuses e f × ((q.why ≡ why.Full) ↔ IsFull f))
 

@@ -93,7 +93,7 @@ pub fn command(
     line: CommandLine,
 ) -> Result<u64, CommandRefused>
     ensures takes { IfOk result (λ n. Numbers endpoint.old endpoint.new (Ask.Command dlci line) n) }
-    ensures lines { OnOk result (OfEachPast relay.now.pipes (λ past. false ≡ is_behind_lines (carries dlci.number past))) }
+    ensures lines { OnOk result (OfEachPast relay.now.pipes (λ role past. false ≡ is_behind_lines (carries role dlci.number past))) }
     ensures refused { IfErr result (λ e. RefusesCommand relay.now endpoint.old endpoint.new dlci line e) }
 {
     if relay.is_behind_lines(dlci) {

@@ -54,7 +54,7 @@ impl DataEndpoint {
     /// way on it, which changes nothing.
     pub fn command(&mut self, dlci: Dlci, line: CommandLine) -> Result<u64, CommandRefused>
         ensures takes { IfOk result (λ n. Numbers self.old.endpoint self.new.endpoint (Ask.Command dlci line) n) }
-        ensures lines { OnOk result (OfEachPast self.old.relay.pipes (λ past. false ≡ is_behind_lines (carries dlci.number past))) }
+        ensures lines { OnOk result (OfEachPast self.old.relay.pipes (λ role past. false ≡ is_behind_lines (carries role dlci.number past))) }
         ensures refused { IfErr result (λ e. RefusesCommand self.old.relay self.old.endpoint self.new.endpoint dlci line e) }
         ensures beside { self.new.relay ≡ self.old.relay }
     {

@@ -5,6 +5,7 @@ use Rattle.std.proofs.Common.{ap, sym, ◌∙◌, subst, arith, zero, suc}
 use Rattle.std.proofs.lemmas.Bool.{and_from, and_parts}
 use Rattle.std.proofs.lemmas.List.{append_assoc, append-nil}
 use Rattle.std.proofs.lemmas.List.Folds.{list_all-append}
+use Rattle.mux_station.specs.declared.role.Role.{Role}
 use Rattle.modem_data.specs.Passing.{Pass, Came, Went, Flowed, Left, Lost}
 use Rattle.modem_data.specs.Hops.{Relay, RelayFits, Hop, Fed, Handed, Took, Wrote, Passed, Hops, DriverOut, still_there, driver_out, OneOut, still_out, went_out, flow_out, left_out, fed, handed_over, taken, wrote, is_line_in}
 use Rattle.modem_data_line.specs.DataLines.{DataLineState, Before, LineFits, LeadsBy, TakesBy, is_of_driver, is_outward, may_go, may_pass, with_taken}
@@ -57,10 +58,10 @@ all_kind p q (a ∷ xs) on e =
 
 -- by these hops, whatever passed before
 abbrev pub Leads : {X : Type 0} (r s : X → List ℕ) → List Hop → DataLineState X → DataLineState X → Type 0
-Leads r s hops v w = (n1 : ℕ) (ds : List ℕ) (b : Before) (past : List Hop) → LineFits r s n1 ds b v past → LineFits r s n1 ds b w (hops ++ past)
+Leads r s hops v w = (role : Role) (n1 : ℕ) (ds : List ℕ) (b : Before) (past : List Hop) → LineFits r s role n1 ds b v past → LineFits r s role n1 ds b w (hops ++ past)
 
 abbrev pub RelayLeads : List Hop → Relay → Relay → Type 0
-RelayLeads hops v w = (n1 : ℕ) (ds : List ℕ) (past : List Hop) → RelayFits n1 ds v past → RelayFits n1 ds w (hops ++ past)
+RelayLeads hops v w = (role : Role) (n1 : ℕ) (ds : List ℕ) (past : List Hop) → RelayFits role n1 ds v past → RelayFits role n1 ds w (hops ++ past)
 
 -- octets that came, of which the relay took the first
 came_on : (b f u more g w : List ℕ) → u ++ more ≡ g ++ w → (b ++ (f ++ u)) ++ more ≡ b ++ ((f ++ g) ++ w)
@@ -70,8 +71,8 @@ came_on b f u more g w e =
 lift : {X : Type 0} (r s : X → List ℕ) (hops : List Hop) (v w : DataLineState X) (more : List ℕ) → RelayLeads hops v.relay w.relay
     → r w.line ≡ r v.line ++ more → v.unfed ++ more ≡ fed hops ++ w.unfed → s w.line ≡ s v.line ++ wrote hops
     → w.received ≡ v.received ++ handed_over hops → w.sent ≡ v.sent ++ taken hops → Leads r s hops v w
-lift r s hops v w more leads cm un wt rd st n1 ds b past h = record {
-  relay_fits = leads n1 ds past h.relay_fits;
+lift r s hops v w more leads cm un wt rd st role n1 ds b past h = record {
+  relay_fits = leads role n1 ds past h.relay_fits;
   came = cm ∙ (ap (λ (xs : List ℕ). xs ++ more) h.came ∙ (came_on b.received (fed past) v.unfed more (fed hops) w.unfed un ∙ ap (λ (xs : List ℕ). b.received ++ (xs ++ w.unfed)) (sym (fed_both hops past))));
   went = wt ∙ (ap (λ (xs : List ℕ). xs ++ wrote hops) h.went ∙ (append_assoc b.sent (wrote past) (wrote hops) ∙ ap (λ (xs : List ℕ). b.sent ++ xs) (sym (wrote_both hops past))));
   read_are = rd ∙ (ap (λ (xs : List ℕ). xs ++ handed_over hops) h.read_are ∙ sym (handed_both hops past));
@@ -89,11 +90,11 @@ lift_out r s hops v w leads f h t cm wt un rd st =
 -- ## One behind the other
 
 leads_on : {X : Type 0} (r s : X → List ℕ) (a b : List Hop) (u v w : DataLineState X) → Leads r s a u v → Leads r s b v w → Leads r s (b ++ a) u w
-leads_on r s a b u v w one two n1 ds e past h =
-    subst (λ (hs : List Hop). LineFits r s n1 ds e w hs) (sym (append_assoc b a past)) (two n1 ds e (a ++ past) (one n1 ds e past h))
+leads_on r s a b u v w one two role n1 ds e past h =
+    subst (λ (hs : List Hop). LineFits r s role n1 ds e w hs) (sym (append_assoc b a past)) (two role n1 ds e (a ++ past) (one role n1 ds e past h))
 
 pub leads_none : {X : Type 0} (r s : X → List ℕ) (k : Hop → Bool) (v : DataLineState X) → LeadsBy r s k v v
-leads_none r s k v = record { hops = []; only = refl; leads = λ n1 ds b past h. h }
+leads_none r s k v = record { hops = []; only = refl; leads = λ role n1 ds b past h. h }
 
 pub leads_then : {X : Type 0} (r s : X → List ℕ) (k : Hop → Bool) (u v w : DataLineState X) → LeadsBy r s k u v → LeadsBy r s k v w → LeadsBy r s k u w
 leads_then r s k u v w one two = record {
@@ -245,7 +246,7 @@ pub reads_line : {X : Type 0} (r s : X → List ℕ) (v w : DataLineState X) →
 reads_line r s v w none cm wt e = record {
   hops = [];
   only = refl;
-  leads = lift r s [] v w w.unfed (λ n1 ds past h. subst (λ (x : Relay). RelayFits n1 ds x past) (sym (ap (λ (x : DataLineState _). x.relay) e)) h)
+  leads = lift r s [] v w w.unfed (λ role n1 ds past h. subst (λ (x : Relay). RelayFits role n1 ds x past) (sym (ap (λ (x : DataLineState _). x.relay) e)) h)
       cm (ap (λ (xs : List ℕ). xs ++ w.unfed) none) (wt ∙ sym (append-nil (s v.line)))
       (ap (λ (x : DataLineState _). x.received) e ∙ sym (append-nil v.received)) (ap (λ (x : DataLineState _). x.sent) e ∙ sym (append-nil v.sent));
 }
@@ -289,7 +290,7 @@ passes_in r s u v w x one two three e f =
 
 -- whether the driver is behind is no matter of the past
 flag_leads : {X : Type 0} (r s : X → List ℕ) (hops : List Hop) (v w : DataLineState X) (k : Bool) → Leads r s hops (record v { is_behind = k }) w → Leads r s hops v w
-flag_leads r s hops v w k on n1 ds b past h = on n1 ds b past (record { relay_fits = h.relay_fits; came = h.came; went = h.went; read_are = h.read_are; sent_are = h.sent_are })
+flag_leads r s hops v w k on role n1 ds b past h = on role n1 ds b past (record { relay_fits = h.relay_fits; came = h.came; went = h.went; read_are = h.read_are; sent_are = h.sent_are })
 
 pub writes_first : {X : Type 0} (r s : X → List ℕ) (v w : DataLineState X) → LeadsBy r s is_of_driver (record v { is_behind = true }) w → LeadsBy r s is_of_driver v w
 writes_first r s v w h = record { hops = h.hops; only = h.only; leads = flag_leads r s h.hops v w true h.leads }
@@ -304,7 +305,7 @@ takes_hop r s v w octets h st e = lift r s (Took octets ∷ []) v w [] h (ap (λ
 
 takes_nothing : {X : Type 0} (r s : X → List ℕ) (v w : DataLineState X) → w.relay ≡ v.relay
     → w.sent ≡ v.sent ++ [] → w ≡ record v { relay = w.relay; sent = w.sent; is_behind = w.is_behind } → Leads r s [] v w
-takes_nothing r s v w q st e = lift r s [] v w [] (λ n1 ds past h. subst (λ (x : Relay). RelayFits n1 ds x past) (sym q) h) (ap (λ (x : DataLineState _). r x.line) e ∙ sym (append-nil (r v.line)))
+takes_nothing r s v w q st e = lift r s [] v w [] (λ role n1 ds past h. subst (λ (x : Relay). RelayFits role n1 ds x past) (sym q) h) (ap (λ (x : DataLineState _). r x.line) e ∙ sym (append-nil (r v.line)))
     (append-nil v.unfed ∙ sym (ap (λ (x : DataLineState _). x.unfed) e))
     (ap (λ (x : DataLineState _). s x.line) e ∙ sym (append-nil (s v.line)))
     (ap (λ (x : DataLineState _). x.received) e ∙ sym (append-nil v.received)) st
@@ -336,20 +337,20 @@ takes_by r s u v w x octets one two three e = record {
   after = three.hops;
   only_before = one.only;
   only_after = subst (λ (k : Bool). list_all (may_go k) three.hops ≡ true) (sym e) three.only;
-  leads = λ n1 ds b past h. three.leads n1 ds b (with_taken octets (one.hops ++ past)) (two n1 ds b (one.hops ++ past) (one.leads n1 ds b past h));
+  leads = λ role n1 ds b past h. three.leads role n1 ds b (with_taken octets (one.hops ++ past)) (two role n1 ds b (one.hops ++ past) (one.leads role n1 ds b past h));
 }
 
 -- ## Counts
 
-counted_fits : {X : Type 0} (r s : X → List ℕ) (n1 : ℕ) (ds : List ℕ) (b : Before) (past : List Hop) (u v : DataLineState X)
+counted_fits : {X : Type 0} (r s : X → List ℕ) (role : Role) (n1 : ℕ) (ds : List ℕ) (b : Before) (past : List Hop) (u v : DataLineState X)
     → v ≡ record u { calls = v.calls; failures = v.failures; empty_reads = v.empty_reads; stalled_writes = v.stalled_writes }
-    → LineFits r s n1 ds b u past → LineFits r s n1 ds b v past
-counted_fits r s n1 ds b past u v e h =
-    subst (λ (x : DataLineState _). LineFits r s n1 ds b x past) (sym e) (record { relay_fits = h.relay_fits; came = h.came; went = h.went; read_are = h.read_are; sent_are = h.sent_are })
+    → LineFits r s role n1 ds b u past → LineFits r s role n1 ds b v past
+counted_fits r s role n1 ds b past u v e h =
+    subst (λ (x : DataLineState _). LineFits r s role n1 ds b x past) (sym e) (record { relay_fits = h.relay_fits; came = h.came; went = h.went; read_are = h.read_are; sent_are = h.sent_are })
 
 pub counted_leads : {X : Type 0} (r s : X → List ℕ) (k : Hop → Bool) (u v : DataLineState X)
     → v ≡ record u { calls = v.calls; failures = v.failures; empty_reads = v.empty_reads; stalled_writes = v.stalled_writes } → LeadsBy r s k u v
-counted_leads r s k u v e = record { hops = []; only = refl; leads = λ n1 ds b past h. counted_fits r s n1 ds b past u v e h }
+counted_leads r s k u v e = record { hops = []; only = refl; leads = λ role n1 ds b past h. counted_fits r s role n1 ds b past u v e h }
 
 -- counted before and behind what leads on
 pub counted_round : {X : Type 0} (r s : X → List ℕ) (u v w x : DataLineState X)
@@ -369,7 +370,7 @@ counted_takes r s u v w x octets a h c = record {
   after = h.after;
   only_before = h.only_before;
   only_after = subst (λ (k : Bool). list_all (may_go k) h.after ≡ true) (sym (ap (λ (y : DataLineState _). y.is_behind) c)) h.only_after;
-  leads = λ n1 ds b past f. counted_fits r s n1 ds b (h.after ++ with_taken octets (h.before ++ past)) w x c (h.leads n1 ds b past (counted_fits r s n1 ds b past u v a f));
+  leads = λ role n1 ds b past f. counted_fits r s role n1 ds b (h.after ++ with_taken octets (h.before ++ past)) w x c (h.leads role n1 ds b past (counted_fits r s role n1 ds b past u v a f));
 }
 
 -- ## Calls of the lanes

@@ -1,6 +1,7 @@
 -- A line with a relay before the end that a driver reads and writes. A past is written newest first.
 use Rattle.std.specs.Prelude.{◌≡◌, ℕ, Bool, true, false, List, [], ◌∷◌, ◌++◌}
 use Rattle.std.specs.List.{list_all}
+use Rattle.mux_station.specs.declared.role.Role.{Role}
 use Rattle.modem_data.specs.Passing.{Came, Went, Flowed, Left, Lost}
 use Rattle.modem_data.specs.Hops.{Relay, RelayFits, Hop, Fed, Handed, Took, Wrote, Passed, fed, handed_over, taken, wrote}
 
@@ -41,8 +42,8 @@ pub record Before : Type 0 where
 
 -- It fits a past of its relay: the relay took the first of the octets that the line gave since then, and the others wait for it; the
 -- line took what the relay wrote; the driver read what the relay handed over, and sent what it took.
-pub record LineFits {X : Type 0} (received sent : X → List ℕ) (n1 : ℕ) (ds : List ℕ) (b : Before) (v : DataLineState X) (past : List Hop) : Type 0 where
-  pub relay_fits : RelayFits n1 ds v.relay past
+pub record LineFits {X : Type 0} (received sent : X → List ℕ) (role : Role) (n1 : ℕ) (ds : List ℕ) (b : Before) (v : DataLineState X) (past : List Hop) : Type 0 where
+  pub relay_fits : RelayFits role n1 ds v.relay past
   pub came : received v.line ≡ b.received ++ (fed past ++ v.unfed)
   pub went : sent v.line ≡ b.sent ++ wrote past
   pub read_are : v.received ≡ handed_over past
@@ -52,8 +53,8 @@ pub record LineFits {X : Type 0} (received sent : X → List ℕ) (n1 : ℕ) (ds
 pub record LeadsBy {X : Type 0} (received sent : X → List ℕ) (kind : Hop → Bool) (old new : DataLineState X) : Type 0 where
   pub hops : List Hop
   pub only : list_all kind hops ≡ true
-  pub leads : (n1 : ℕ) (ds : List ℕ) (b : Before) (past : List Hop) → LineFits received sent n1 ds b old past
-      → LineFits received sent n1 ds b new (hops ++ past)
+  pub leads : (role : Role) (n1 : ℕ) (ds : List ℕ) (b : Before) (past : List Hop) → LineFits received sent role n1 ds b old past
+      → LineFits received sent role n1 ds b new (hops ++ past)
 
 -- octets go to the line, and a frame of the driver's to there
 abbrev pub is_of_driver : Hop → Bool
@@ -91,5 +92,5 @@ pub record TakesBy {X : Type 0} (received sent : X → List ℕ) (octets : List 
   pub after : List Hop
   pub only_before : list_all is_of_driver before ≡ true
   pub only_after : list_all (may_go new.is_behind) after ≡ true
-  pub leads : (n1 : ℕ) (ds : List ℕ) (b : Before) (past : List Hop) → LineFits received sent n1 ds b old past
-      → LineFits received sent n1 ds b new (after ++ with_taken octets (before ++ past))
+  pub leads : (role : Role) (n1 : ℕ) (ds : List ℕ) (b : Before) (past : List Hop) → LineFits received sent role n1 ds b old past
+      → LineFits received sent role n1 ds b new (after ++ with_taken octets (before ++ past))

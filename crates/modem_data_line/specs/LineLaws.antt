@@ -1,9 +1,11 @@
 -- What any calls of a line with its relay come to, and a session over it.
 use Rattle.std.specs.Prelude.{◌≡◌, ℕ, ◌≤◌, Bool, List, []}
+use Rattle.mux_station.specs.declared.role.Role.{Role}
+use Rattle.mux_station.specs.declared.role.Role.TheVariants.{Initiator}
 use Rattle.modem_history.specs.Acts.{Act}
 use Rattle.modem_history.specs.Sessions.{Beginning, SessionFits, SessionView}
 use Rattle.modem_data.specs.Passing.{Pass}
-use Rattle.modem_data.specs.Hops.{Relay, Hop, Passed, Hops, BeginsRelay}
+use Rattle.modem_data.specs.Hops.{Relay, Hop, Passed, Hops, BeginsAs}
 use Rattle.modem_data_endpoint.specs.Beside.{TellsFrames}
 use Rattle.modem_data_line.specs.DataLines.{DataLineState, new_data_line, Before, LineFits, LeadsBy, TakesBy}
 
@@ -23,15 +25,15 @@ abbrev pub before_of : {X : Type 0} (received sent : X → List ℕ) → X → B
 before_of received sent line = record { received = received line; sent = sent line }
 
 -- there is a past of the relay that it fits
-pub record HasPast {X : Type 0} (received sent : X → List ℕ) (n1 : ℕ) (ds : List ℕ) (b : Before) (v : DataLineState X) : Type 0 where
+pub record HasPast {X : Type 0} (received sent : X → List ℕ) (role : Role) (n1 : ℕ) (ds : List ℕ) (b : Before) (v : DataLineState X) : Type 0 where
   pub past : List Hop
-  pub fits : LineFits received sent n1 ds b v past
+  pub fits : LineFits received sent role n1 ds b v past
 
 -- Any calls of a new line with a new relay have one past.
 unfoldable pub HaveOnePast : {X : Type 0} (received sent : X → List ℕ) → Type 0
 HaveOnePast {X} received sent =
-    (n1 : ℕ) (ds : List ℕ) (line : X) (relay : Relay) (v : DataLineState X) → BeginsRelay n1 ds relay
-    → LineCalls received sent (new_data_line line relay) v → HasPast received sent n1 ds (before_of received sent line) v
+    (role : Role) (n1 : ℕ) (ds : List ℕ) (line : X) (relay : Relay) (v : DataLineState X) → BeginsAs role n1 ds relay
+    → LineCalls received sent (new_data_line line relay) v → HasPast received sent role n1 ds (before_of received sent line) v
 
 -- A session that began with this line has one history (`laws::sessions` of modem_driver), of what it read and wrote here. The frames of
 -- this history are those of the line itself but data, as `TellsFrames` says.
@@ -39,4 +41,4 @@ unfoldable pub TellsSession : {X : Type 0} (received sent : X → List ℕ) → 
 TellsSession {X} received sent =
     (n1 : ℕ) (ds : List ℕ) (before : Before) (b : Beginning) (s : SessionView) (v : DataLineState X) (past : List Act) (hops : List Hop)
     → n1 ≤ 32767 → b.n1 ≡ n1 → b.line.received ≡ [] → b.line.sent ≡ [] → s.line.received ≡ v.received → s.line.sent ≡ v.sent
-    → SessionFits b s past → LineFits received sent n1 ds before v hops → TellsFrames n1 s v.relay hops past
+    → SessionFits b s past → LineFits received sent Initiator n1 ds before v hops → TellsFrames n1 s v.relay hops past

@@ -1,5 +1,6 @@
 -- Octets between a line and its relay, the one or the other way.
 use Rattle.std.specs.Prelude.{◌≡◌, ◌≢◌, ◌⊎◌, ℕ, ◌≤◌, ◌<◌, Bool, true, false, List, ◌++◌, length, None}
+use Rattle.mux_station.specs.declared.role.Role.{Role}
 use Rattle.serial_line.specs.Counts.{one_more}
 use Rattle.modem_data.specs.Hops.{Relay, Hop, Hops, HoldsNothing, LineIn, Handed, Wrote}
 use Rattle.modem_data_line.specs.DataLines.{DataLineState, Before, LineFits, with_taken}
@@ -32,8 +33,8 @@ IsAsked received empty_reads old new = (received new ≢ received old) ⊎ (empt
 
 -- these octets of the driver's were taken, if there are any, whatever passed before
 unfoldable pub TakesOn : {X : Type 0} (received sent : X → List ℕ) (octets : List ℕ) (old new : DataLineState X) → Type 0
-TakesOn received sent octets old new = (n1 : ℕ) (ds : List ℕ) (b : Before) (past : List Hop) → LineFits received sent n1 ds b old past
-    → LineFits received sent n1 ds b new (with_taken octets past)
+TakesOn received sent octets old new = (role : Role) (n1 : ℕ) (ds : List ℕ) (b : Before) (past : List Hop) → LineFits received sent role n1 ds b old past
+    → LineFits received sent role n1 ds b new (with_taken octets past)
 
 -- a line is lost only by a call of the line itself that failed
 pub record IsLostBy {X : Type 0} (failures : X → ℕ) (old new : DataLineState X) : Type 0 where

@@ -12,6 +12,6 @@ returns-in_err-count-clause-gives g c = gives_err c.args.line.now.relay.pipes c.
 
 pub returns-clause-gives : goal.returns-clause-gives
 returns-clause-gives g c = gives_ok c.args.line.now.relay.pipes c.args.dlci.number c.in_ok-count.count c.min-count.result c.args.octets.now c.pass.new.self
-    (subst (λ (xs : List ℕ). OfEachPast c.args.line.now.relay.pipes (λ past. c.in_ok-count.count ≡ min (length xs) (most_to_go - (length (given c.args.dlci.number past) - length (left c.args.dlci.number past)))))
+    (subst (λ (xs : List ℕ). OfEachPast c.args.line.now.relay.pipes (λ role past. c.in_ok-count.count ≡ min (length xs) (most_to_go - (length (given c.args.dlci.number past) - length (left c.args.dlci.number past)))))
     c.as_slice-waiting.ensures c.in_ok-count.ensures.count)
     (c.min-count.ensures ∙ ap (λ (xs : List ℕ). min c.in_ok-count.count (length xs)) c.as_slice-waiting.ensures) c.pass.ensures

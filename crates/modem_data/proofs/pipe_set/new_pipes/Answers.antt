@@ -13,5 +13,5 @@ loop-place-preserved c =
     record {
       few = omega (arith, test);
       those = ap connections c.in_ok-push.ensures.items ∙ one_more c.loop-place.each.items c.in_ok-new.field-0 c.args.named.now c.loop-place.place c.index-named-place.result test c.loop-place.invariant.those is;
-      each = subst (λ (ps : List Pipe). All (λ (q : Pipe). (n1 : ℕ) → PipeFits n1 q.watch.dlci q []) ps) (sym c.in_ok-push.ensures.items) (each_more c.loop-place.each.items c.in_ok-new.field-0 c.index-named-place.result.number c.loop-place.invariant.each c.in_ok-new.ensures.past c.in_ok-new.ensures.dlci);
+      each = subst (λ (ps : List Pipe). All (λ (q : Pipe). (n1 : ℕ) → PipeFits c.args.role n1 q.watch.dlci q []) ps) (sym c.in_ok-push.ensures.items) (each_more c.args.role c.loop-place.each.items c.in_ok-new.field-0 c.index-named-place.result.number c.loop-place.invariant.each c.in_ok-new.ensures.past c.in_ok-new.ensures.dlci);
     }

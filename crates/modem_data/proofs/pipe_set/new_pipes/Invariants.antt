@@ -9,7 +9,7 @@ abbrev pub invariant-loop-place : goal.invariant-loop-place
 invariant-loop-place l = record {
   few : l.place ≤ length l.named;
   those : connections l.each.items ≡ numbers (take l.place l.named);
-  each : All (λ (p : Pipe). (n1 : ℕ) → PipeFits n1 p.watch.dlci p []) l.each.items;
+  each : All (λ (p : Pipe). (n1 : ℕ) → PipeFits l.role n1 p.watch.dlci p []) l.each.items;
 }
 
 abbrev pub decreases-loop-place : goal.decreases-loop-place

@@ -20,8 +20,8 @@ returns-in-Err c =
       ok = λ q. absurd (not_ok 6 7 8 c.number.result (omega arith) (omega arith) (omega arith) one q);
       bad = (λ q. absurd (not_bad 6 7 8 c.number.result (omega arith) (omega arith) (omega arith) one q), λ far. absurd (omega (arith, near, far)));
       not_data = λ q. subst (λ (d : ℕ). IsNotData pipes d) number (c.in-Err.ensures.not_data (ap (λ (e : DataError). Err e) (is_not_data why (sym c.number.ensures ∙ q))));
-      under_way = λ q. subst (λ (d : ℕ). OfEachPast pipes (λ past. is_idle (carries d past) ≡ false)) number (c.in-Err.ensures.under_way (ap (λ (e : DataError). Err e) (is_under_way why (sym c.number.ensures ∙ q))));
-      unread = λ q. subst (λ (d : ℕ). OfEachPast pipes (λ past. (carries d past ≡ Idle) × (data_read d past ≢ data_came d past))) number (c.in-Err.ensures.unread (ap (λ (e : DataError). Err e) (is_unread why (sym c.number.ensures ∙ q))));
+      under_way = λ q. subst (λ (d : ℕ). OfEachPast pipes (λ role past. is_idle (carries role d past) ≡ false)) number (c.in-Err.ensures.under_way (ap (λ (e : DataError). Err e) (is_under_way why (sym c.number.ensures ∙ q))));
+      unread = λ q. subst (λ (d : ℕ). OfEachPast pipes (λ role past. (carries role d past ≡ Idle) × (data_read d past ≢ data_came role d past))) number (c.in-Err.ensures.unread (ap (λ (e : DataError). Err e) (is_unread why (sym c.number.ensures ∙ q))));
       refused = λ q. c.in-Err.ensures.err;
       others = λ a b. the_last 6 7 8 c.number.result one;
     }

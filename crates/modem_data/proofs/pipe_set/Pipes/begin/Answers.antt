@@ -11,7 +11,7 @@ use Rattle.modem_data.proofs.pipe_set.Pipes.begin.Goals as goal
 
 pub returns-clause-began : goal.returns-clause-began
 returns-clause-began c =
-    let old : PipeSet = record { each = c.self.inside.each.items; turn = c.self.inside.turn } in
+    let old : PipeSet = record { role = c.self.inside.role; each = c.self.inside.each.items; turn = c.self.inside.turn } in
     let p = c.begin.new.self in
     let place = c.in-Some.place in
     let there : place < length old.each = search rules in
@@ -25,7 +25,7 @@ returns-clause-began c =
 
 pub returns-clause-has : goal.returns-clause-has
 returns-clause-has c =
-    let old : PipeSet = record { each = c.self.inside.each.items; turn = c.self.inside.turn } in
+    let old : PipeSet = record { role = c.self.inside.role; each = c.self.inside.each.items; turn = c.self.inside.turn } in
     let p = c.begin.new.self in
     let place = c.in-Some.place in
     let there : place < length old.each = search rules in
@@ -34,20 +34,20 @@ returns-clause-has c =
 
 pub returns-clause-under_way : goal.returns-clause-under_way
 returns-clause-under_way c =
-    let old : PipeSet = record { each = c.self.inside.each.items; turn = c.self.inside.turn } in
+    let old : PipeSet = record { role = c.self.inside.role; each = c.self.inside.each.items; turn = c.self.inside.turn } in
     let p = c.begin.new.self in
     let place = c.in-Some.place in
     let there : place < length old.each = search rules in
     let here : (get_or old.each place p).watch.dlci ≡ c.args.dlci.number = search rules in
     let it : c.index_mut.result.now ≡ get_or old.each place p = c.index_mut.ensures.value ∙ get_or_default old.each place c.index_mut.result.now p there in
-    λ e. subst (λ (v : PipeSet). OfEachPast v (λ past. is_idle (carries c.args.dlci.number past) ≡ false)) c.self.view_is (under_way_at old place p c.args.dlci.number there here (subst (λ (q : Pipe). SaysLane q true) it (c.begin.ensures.under_way e)))
+    λ e. subst (λ (v : PipeSet). OfEachPast v (λ role past. is_idle (carries role c.args.dlci.number past) ≡ false)) c.self.view_is (under_way_at old place p c.args.dlci.number there here (subst (λ (q : Pipe). SaysLane q true) it (c.begin.ensures.under_way e)))
 
 pub returns-clause-unread : goal.returns-clause-unread
 returns-clause-unread c =
-    let old : PipeSet = record { each = c.self.inside.each.items; turn = c.self.inside.turn } in
+    let old : PipeSet = record { role = c.self.inside.role; each = c.self.inside.each.items; turn = c.self.inside.turn } in
     let p = c.begin.new.self in
     let place = c.in-Some.place in
     let there : place < length old.each = search rules in
     let here : (get_or old.each place p).watch.dlci ≡ c.args.dlci.number = search rules in
     let it : c.index_mut.result.now ≡ get_or old.each place p = c.index_mut.ensures.value ∙ get_or_default old.each place c.index_mut.result.now p there in
-    λ e. subst (λ (v : PipeSet). OfEachPast v (λ past. (carries c.args.dlci.number past ≡ Idle) × (data_read c.args.dlci.number past ≢ data_came c.args.dlci.number past))) c.self.view_is (unread_at old place p c.args.dlci.number there here (subst HasUnread it (c.begin.ensures.unread e)))
+    λ e. subst (λ (v : PipeSet). OfEachPast v (λ role past. (carries role c.args.dlci.number past ≡ Idle) × (data_read c.args.dlci.number past ≢ data_came role c.args.dlci.number past))) c.self.view_is (unread_at old place p c.args.dlci.number there here (subst HasUnread it (c.begin.ensures.unread e)))

@@ -12,7 +12,7 @@ use Rattle.modem_data.proofs.pipe_set.Pipes.came.Goals as goal
 
 pub returns-clause-leads : goal.returns-clause-leads
 returns-clause-leads c =
-    let old : PipeSet = record { each = c.self.inside.each.items; turn = c.self.inside.turn } in
+    let old : PipeSet = record { role = c.self.inside.role; each = c.self.inside.each.items; turn = c.self.inside.turn } in
     let p = c.info.new.self in
     let place = c.in-Some.place in
     let there : place < length old.each = search rules in

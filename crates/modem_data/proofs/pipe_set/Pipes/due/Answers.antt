@@ -8,6 +8,6 @@ use Rattle.modem_data.proofs.pipe_set.Pipes.due.Goals as goal
 
 pub returns-clause-some : goal.returns-clause-some
 returns-clause-some c =
-    let old : PipeSet = record { each = c.self.inside.each.items; turn = c.self.inside.turn } in
+    let old : PipeSet = record { role = c.self.inside.role; each = c.self.inside.each.items; turn = c.self.inside.turn } in
     let is : IfSome c.due_of.result (λ f. IsFlowOf old.each f.dlci.number f.go) = search rules in
-    subst (λ (v : PipeSet). IfSome c.due_of.result (λ f. OfEachPast v (λ past. IsDue f.dlci.number past f.go))) c.self.view_is (due_by old c.due_of.result is)
+    subst (λ (v : PipeSet). IfSome c.due_of.result (λ f. OfEachPast v (λ role past. IsDue role f.dlci.number past f.go))) c.self.view_is (due_by old c.due_of.result is)

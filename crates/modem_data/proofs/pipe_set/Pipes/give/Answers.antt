@@ -1,7 +1,6 @@
 -- Octets are given for one.
 use Rattle.std.proofs.Common.{rules, ◌≡◌, ◌<◌, length, get_or, slice_set, ap, subst, ◌∙◌, refl}
 use Rattle.std.specs.Prelude.{ℕ, ◌-◌, min, take, false, IfOk}
-use Rattle.mux_station.specs.declared.role.Role.TheVariants.{Initiator}
 use Rattle.mux_station.specs.Opening.{is_open}
 use Rattle.std.proofs.lemmas.List.{get_or_default}
 use Rattle.modem_data.specs.Switching.{takes_given}
@@ -14,7 +13,7 @@ use Rattle.modem_data.proofs.pipe_set.Pipes.give.Goals as goal
 
 pub returns-clause-count : goal.returns-clause-count
 returns-clause-count c =
-    let old : PipeSet = record { each = c.self.inside.each.items; turn = c.self.inside.turn } in
+    let old : PipeSet = record { role = c.self.inside.role; each = c.self.inside.each.items; turn = c.self.inside.turn } in
     let p = c.give.new.self in
     let place = c.in-Some.place in
     let there : place < length old.each = search rules in
@@ -22,11 +21,11 @@ returns-clause-count c =
     let it : c.index_mut.result.now ≡ get_or old.each place p = c.index_mut.ensures.value ∙ get_or_default old.each place c.index_mut.result.now p there in
     let many = length c.args.octets.now in
     let d = c.args.dlci.number in
-    subst (λ (v : PipeSet). IfOk c.give.result (λ count. OfEachPast v (λ past. count ≡ min many (most_to_go - (length (given d past) - length (left d past)))))) c.self.view_is (gives_by old place p d many c.give.result there here (subst (λ (q : Pipe). IfOk c.give.result (λ count. count ≡ min many (most_to_go - length q.lane.to_go))) it c.give.ensures.count))
+    subst (λ (v : PipeSet). IfOk c.give.result (λ count. OfEachPast v (λ role past. count ≡ min many (most_to_go - (length (given d past) - length (left d past)))))) c.self.view_is (gives_by old place p d many c.give.result there here (subst (λ (q : Pipe). IfOk c.give.result (λ count. count ≡ min many (most_to_go - length q.lane.to_go))) it c.give.ensures.count))
 
 pub returns-clause-leads : goal.returns-clause-leads
 returns-clause-leads c =
-    let old : PipeSet = record { each = c.self.inside.each.items; turn = c.self.inside.turn } in
+    let old : PipeSet = record { role = c.self.inside.role; each = c.self.inside.each.items; turn = c.self.inside.turn } in
     let p = c.give.new.self in
     let place = c.in-Some.place in
     let there : place < length old.each = search rules in
@@ -40,20 +39,20 @@ returns-clause-leads c =
 
 pub returns-clause-not_open : goal.returns-clause-not_open
 returns-clause-not_open c =
-    let old : PipeSet = record { each = c.self.inside.each.items; turn = c.self.inside.turn } in
+    let old : PipeSet = record { role = c.self.inside.role; each = c.self.inside.each.items; turn = c.self.inside.turn } in
     let p = c.give.new.self in
     let place = c.in-Some.place in
     let there : place < length old.each = search rules in
     let here : (get_or old.each place p).watch.dlci ≡ c.args.dlci.number = search rules in
     let it : c.index_mut.result.now ≡ get_or old.each place p = c.index_mut.ensures.value ∙ get_or_default old.each place c.index_mut.result.now p there in
-    λ e. subst (λ (v : PipeSet). OfEachPast v (λ past. is_open Initiator c.args.dlci.number (wire past) ≡ false)) c.self.view_is (shut_at old place p c.args.dlci.number there here (subst IsShut it (c.give.ensures.not_open e)))
+    λ e. subst (λ (v : PipeSet). OfEachPast v (λ role past. is_open role c.args.dlci.number (wire past) ≡ false)) c.self.view_is (shut_at old place p c.args.dlci.number there here (subst IsShut it (c.give.ensures.not_open e)))
 
 pub returns-clause-takes_none : goal.returns-clause-takes_none
 returns-clause-takes_none c =
-    let old : PipeSet = record { each = c.self.inside.each.items; turn = c.self.inside.turn } in
+    let old : PipeSet = record { role = c.self.inside.role; each = c.self.inside.each.items; turn = c.self.inside.turn } in
     let p = c.give.new.self in
     let place = c.in-Some.place in
     let there : place < length old.each = search rules in
     let here : (get_or old.each place p).watch.dlci ≡ c.args.dlci.number = search rules in
     let it : c.index_mut.result.now ≡ get_or old.each place p = c.index_mut.ensures.value ∙ get_or_default old.each place c.index_mut.result.now p there in
-    λ e. subst (λ (v : PipeSet). OfEachPast v (λ past. takes_given (carries c.args.dlci.number past) ≡ false)) c.self.view_is (takes_none_at old place p c.args.dlci.number there here (subst TakesNone it (c.give.ensures.takes_none e)))
+    λ e. subst (λ (v : PipeSet). OfEachPast v (λ role past. takes_given (carries role c.args.dlci.number past) ≡ false)) c.self.view_is (takes_none_at old place p c.args.dlci.number there here (subst TakesNone it (c.give.ensures.takes_none e)))

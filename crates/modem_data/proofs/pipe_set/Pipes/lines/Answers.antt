@@ -9,7 +9,7 @@ use Rattle.modem_data.proofs.pipe_set.Pipes.lines.Goals as goal
 
 pub returns-clause-ended : goal.returns-clause-ended
 returns-clause-ended c =
-    let old : PipeSet = record { each = c.self.inside.each.items; turn = c.self.inside.turn } in
+    let old : PipeSet = record { role = c.self.inside.role; each = c.self.inside.each.items; turn = c.self.inside.turn } in
     let p = c.lines.new.self in
     let place = c.in-Some.place in
     let there : place < length old.each = search rules in

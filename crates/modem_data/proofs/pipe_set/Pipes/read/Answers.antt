@@ -12,7 +12,7 @@ use Rattle.modem_data.proofs.pipe_set.Pipes.read.Goals as goal
 
 pub returns-clause-count : goal.returns-clause-count
 returns-clause-count c =
-    let old : PipeSet = record { each = c.self.inside.each.items; turn = c.self.inside.turn } in
+    let old : PipeSet = record { role = c.self.inside.role; each = c.self.inside.each.items; turn = c.self.inside.turn } in
     let p = c.read.new.self in
     let place = c.in-Some.place in
     let there : place < length old.each = search rules in
@@ -20,11 +20,11 @@ returns-clause-count c =
     let it : c.index_mut.result.now ≡ get_or old.each place p = c.index_mut.ensures.value ∙ get_or_default old.each place c.index_mut.result.now p there in
     let room = length c.args.room.now in
     let d = c.args.dlci.number in
-    subst (λ (v : PipeSet). OfEachPast v (λ past. c.read.result.count ≡ min (unread d past) room)) c.self.view_is (reads_at old place p d c.read.result.count room there here (subst (λ (q : Pipe). c.read.result.count ≡ min (length q.lane.came) room) it c.read.ensures.count))
+    subst (λ (v : PipeSet). OfEachPast v (λ role past. c.read.result.count ≡ min (unread role d past) room)) c.self.view_is (reads_at old place p d c.read.result.count room there here (subst (λ (q : Pipe). c.read.result.count ≡ min (length q.lane.came) room) it c.read.ensures.count))
 
 pub returns-clause-leads : goal.returns-clause-leads
 returns-clause-leads c =
-    let old : PipeSet = record { each = c.self.inside.each.items; turn = c.self.inside.turn } in
+    let old : PipeSet = record { role = c.self.inside.role; each = c.self.inside.each.items; turn = c.self.inside.turn } in
     let p = c.read.new.self in
     let place = c.in-Some.place in
     let there : place < length old.each = search rules in
@@ -39,7 +39,7 @@ returns-clause-leads c =
 
 pub returns-clause-over : goal.returns-clause-over
 returns-clause-over c =
-    let old : PipeSet = record { each = c.self.inside.each.items; turn = c.self.inside.turn } in
+    let old : PipeSet = record { role = c.self.inside.role; each = c.self.inside.each.items; turn = c.self.inside.turn } in
     let p = c.read.new.self in
     let place = c.in-Some.place in
     let there : place < length old.each = search rules in

@@ -16,4 +16,4 @@ returns-clause-began c =
 
 pub returns-clause-unread : goal.returns-clause-unread
 returns-clause-unread c =
-    λ e. subst (λ (v : Relay). OfEachPast v.pipes (λ past. (carries c.args.dlci.number past ≡ Idle) × (data_read c.args.dlci.number past ≢ data_came c.args.dlci.number past))) c.self.view_is (c.begin.ensures.unread e)
+    λ e. subst (λ (v : Relay). OfEachPast v.pipes (λ role past. (carries role c.args.dlci.number past ≡ Idle) × (data_read c.args.dlci.number past ≢ data_came role c.args.dlci.number past))) c.self.view_is (c.begin.ensures.unread e)

@@ -10,4 +10,4 @@ use Rattle.modem_data_endpoint.proofs.data_endpoint.DataEndpoint.begin.Goals as 
 
 pub returns-clause-unread : goal.returns-clause-unread
 returns-clause-unread c =
-    subst (λ (p : Pair). c.begin.result ≡ Err error.Unread → OfEachPast p.relay.pipes (λ past. (carries c.args.dlci.number past ≡ Idle) × (data_read c.args.dlci.number past ≢ data_came c.args.dlci.number past))) c.self.view_is c.begin.ensures.unread
+    subst (λ (p : Pair). c.begin.result ≡ Err error.Unread → OfEachPast p.relay.pipes (λ role past. (carries role c.args.dlci.number past ≡ Idle) × (data_read c.args.dlci.number past ≢ data_came role c.args.dlci.number past))) c.self.view_is c.begin.ensures.unread
