@@ -6,3 +6,5 @@ pub mod KeptSettings
 pub mod PinRuns
 pub mod NetworkRuns
 pub mod WordedModems
+pub mod CalledModems
+pub mod ActiveModems

@@ -1,8 +1,8 @@
--- The commands of one line, as V.250 has them (5.2.1, 5.3.1, 5.4.1, 5.4.2).
+-- The commands of one line, as V.250 has them (5.2.1, 5.3.1, 5.4.1, 5.4.2, 6.3.1).
 use Rattle.std.specs.Prelude.{ℕ, ◌==◌, ◌&&◌, ◌||◌, not, nat_lt, Bool, true, false, List, [], ◌∷◌, ◌++◌, length, fold, Option, Some, None, if◌then◌else◌, codes}
 use Rattle.at_text.specs.Octets.{is_blank, is_digit, is_quote}
 use Rattle.modem_sim.specs.declared.command_lines.Place.{Place}
-use Rattle.modem_sim.specs.declared.command_lines.Place.TheVariants.{Before, Letter, Between, Basic, Ampersand, Extended, Quoted}
+use Rattle.modem_sim.specs.declared.command_lines.Place.TheVariants.{Before, Letter, Between, Basic, Ampersand, Extended, Quoted, Dialling}
 
 -- 3B hex, between commands
 abbrev pub is_semicolon : ℕ → Bool
@@ -16,14 +16,19 @@ is_letter_a c = c == 65 || c == 97
 abbrev pub is_letter_t : ℕ → Bool
 is_letter_t c = c == 84 || c == 116
 
+-- the letter D, in either case
+abbrev pub is_letter_d : ℕ → Bool
+is_letter_d c = c == 68 || c == 100
+
 -- behind AT, where no command that goes on to a semicolon has begun: a plus sign begins one (5.4.1), an ampersand one of
--- two signs, and another sign one of one sign (5.3.1)
+-- two signs, D one with all behind it, since no call of this modem ends by a semicolon (6.3.1), and another sign one of one sign (5.3.1)
 abbrev pub place_behind : Place → ℕ → Place
 place_behind p c =
     if is_blank c then p
     else if is_semicolon c then Between
     else if c == 43 then Extended
     else if c == 38 then Ampersand
+    else if is_letter_d c then Dialling
     else Basic
 
 -- where a line is after one more octet; before AT anything may stand
@@ -35,6 +40,7 @@ place_after Basic c = place_behind Basic c
 place_after Ampersand c = if is_blank c then Ampersand else Basic
 place_after Extended c = if is_quote c then Quoted else if is_semicolon c then Between else Extended
 place_after Quoted c = if is_quote c then Extended else Quoted
+place_after Dialling c = Dialling
 
 -- an octet that is no blank and no semicolon
 abbrev pub is_sign : ℕ → Bool
@@ -52,6 +58,7 @@ goes_on_at Basic c = is_digit c
 goes_on_at Ampersand c = not (is_blank c)
 goes_on_at Extended c = is_sign c
 goes_on_at Quoted c = true
+goes_on_at Dialling c = not (is_blank c)
 goes_on_at _ c = false
 
 -- a line so far: where it is, the commands that are whole, and the one that has begun, each with AT before it

@@ -21,13 +21,13 @@ abbrev pub is_defined : Option ℕ → List PdpContext → Bool
 is_defined None contexts = true
 is_defined (Some n) contexts = list_any (λ c. c.cid == n) contexts
 
--- a context is active: its number is one of these
-abbrev pub is_active : List ℕ → PdpContext → Bool
-is_active active c = list_any (λ n. n == c.cid) active
+-- the context of this number is active: it is one of these numbers
+abbrev pub is_active : List ℕ → ℕ → Bool
+is_active active cid = list_any (λ n. n == cid) active
 
 -- a context is active after those that are named became so, or inactive
 abbrev pub becomes_active : Bool → Option ℕ → List ℕ → PdpContext → Bool
-becomes_active on which active c = if names which c then on else is_active active c
+becomes_active on which active c = if names which c then on else is_active active c.cid
 
 -- the numbers of the contexts that are active then
 abbrev pub active_after : Bool → Option ℕ → List ℕ → List PdpContext → List ℕ

@@ -1,4 +1,4 @@
--- What a modem with words tells of operators, packet contexts, characters and locks (27.007, 5.5, 7.3, 7.4, 10.1.1, 10.1.10, 10.1.14).
+-- What a modem with words tells of operators, packet contexts, characters and locks (27.007, 5.5, 7.3, 7.4, 10.1.1, 10.1.10, 10.1.12, 10.1.14).
 use Rattle.std.specs.Prelude.{ℕ, ◌==◌, Bool, true, false, List, [], ◌∷◌, ◌++◌, if◌then◌else◌, codes}
 use Rattle.std.specs.Fmt.{decimal}
 use Rattle.std.specs.List.{flat_map}
@@ -11,7 +11,7 @@ use Rattle.modem_sim.specs.declared.contexts.PdpContext.{PdpContext}
 use Rattle.modem_sim.specs.declared.words.Charset.{Charset}
 use Rattle.modem_sim.specs.declared.words.Charset.TheVariants.{Gsm, Ira}
 use Rattle.modem_sim.specs.declared.words.Form.{Form}
-use Rattle.modem_sim.specs.declared.words.Form.TheVariants.{Unnamed, Operators, Strength, Errors, Attachment, Multiplexer}
+use Rattle.modem_sim.specs.declared.words.Form.TheVariants.{Unnamed, Operators, Strength, Errors, Attachment, Multiplexer, DataState}
 use Rattle.modem_sim.specs.Contexts.{is_active}
 
 -- the operator by its name (0), its short name (1) or its number (2) (27.007, 7.3)
@@ -32,7 +32,7 @@ named_oper_text format Deregister = codes "+COPS: 2"
 -- whether a context is active (27.007, 10.1.10)
 abbrev pub activity_text : List ℕ → PdpContext → List ℕ
 activity_text active c =
-    codes "+CGACT: " ++ decimal c.cid ++ (if is_active active c then codes ",1" else codes ",0")
+    codes "+CGACT: " ++ decimal c.cid ++ (if is_active active c.cid then codes ",1" else codes ",0")
 
 -- the addresses of an active context, of the ranges that are kept for examples: 192.0.2.n (RFC 5737), and 2001:db8::n (RFC 3849) as
 -- sixteen numbers (27.007, 10.1.14)
@@ -50,7 +50,7 @@ addresses Ipv4v6 n = codes "," ++ ipv4_text n ++ codes "," ++ ipv6_text n
 -- a context with its addresses, which it has while it is active
 abbrev pub address_text : List ℕ → PdpContext → List ℕ
 address_text active c =
-    codes "+CGPADDR: " ++ decimal c.cid ++ (if is_active active c then addresses c.pdp c.cid else [])
+    codes "+CGPADDR: " ++ decimal c.cid ++ (if is_active active c.cid then addresses c.pdp c.cid else [])
 
 -- the numbers of the contexts that are defined (27.007, 10.1.14)
 abbrev pub next_number : PdpContext → List ℕ
@@ -87,7 +87,7 @@ network_text false = codes "+COPS: (1,\"Network 00101\",\"N00101\",\"00101\",7),
 abbrev pub mux_ranges : List ℕ
 mux_ranges = codes "+CMUX: (0),(0),(1-8),(31-32767),(1-255),(0-100),(2-255),(1-255)"
 
--- the values that a command takes, where they are named (27.007, 4.1)
+-- the values that a command takes, where they are named (27.007, 4.1); the one protocol between a client and the modem is PPP (10.1.12)
 abbrev pub form_texts : Bool → Form → List (List ℕ)
 form_texts registered Unnamed = []
 form_texts registered Operators = network_text registered ∷ []
@@ -95,3 +95,4 @@ form_texts registered Strength = codes "+CSQ: (0-31,99),(0-7,99)" ∷ []
 form_texts registered Errors = codes "+CMEE: (0-2)" ∷ []
 form_texts registered Attachment = codes "+CGATT: (0,1)" ∷ []
 form_texts registered Multiplexer = mux_ranges ∷ []
+form_texts registered DataState = codes "+CGDATA: (\"PPP\")" ∷ []

@@ -23,9 +23,9 @@ use Rattle.modem_sim.specs.declared.words.Domain.{Domain}
 use Rattle.modem_sim.specs.declared.words.Domain.TheVariants.{Packet, Evolved}
 use Rattle.modem_sim.specs.declared.words.Form.TheVariants.{Operators}
 use Rattle.modem_sim.specs.declared.words.Word.{Word}
-use Rattle.modem_sim.specs.declared.words.Word.TheVariants.{Reset, Echo, Identity, Manufacturer, Product, Revision, Serial, Subscriber, Capabilities, Functionality, FunctionalityQuery, FunctionalityForms, RegForms, Report, ReportQuery, ReportForms, OperFormat, ContextForms, Activate, ActivityQuery, ActivityForms, Addresses, AddressForms, SetCharset, CharsetQuery, CharsetForms, LockForms, LockQuery, Unlock, Forms, ErrorsQuery, MultiplexerQuery}
+use Rattle.modem_sim.specs.declared.words.Word.TheVariants.{Reset, Echo, Identity, Manufacturer, Product, Revision, Serial, Subscriber, Capabilities, Functionality, FunctionalityQuery, FunctionalityForms, RegForms, Report, ReportQuery, ReportForms, OperFormat, ContextForms, Activate, ActivityQuery, ActivityForms, Addresses, AddressForms, Dial, SetCharset, CharsetQuery, CharsetForms, LockForms, LockQuery, Unlock, Forms, ErrorsQuery, MultiplexerQuery}
 use Rattle.modem_sim.specs.CommandLines.{commands_in}
-use Rattle.modem_sim.specs.Contexts.{active_after, is_defined, names, with_context}
+use Rattle.modem_sim.specs.Contexts.{active_after, is_active, is_defined, names, with_context}
 use Rattle.modem_sim.specs.SettingTexts.{activity_text, address_text, charset_text, context_forms, form_texts, lock_text, named_oper_text, numbers_text}
 use Rattle.modem_sim.specs.OwnAnswers.{own_lines, said_later, said_now}
 use Rattle.modem_sim.specs.Reading.{is_attention, command_of}
@@ -195,7 +195,8 @@ standard_step s line =
     if is_attention line then record { state = s; answer = good_answer [] }
     else step_by s (command_of line)
 
--- ## The second table (V.250, 6.1, 6.2; 27.007, 5, 7.2, 7.3, 7.4, 8.2, 8.3, 10.1.1, 10.1.10, 10.1.14, 10.1.20, 10.1.22)
+-- ## The second table (V.250, 6.1, 6.2, 6.3.1; 27.007, 5, 7.2, 7.3, 7.4, 8.2, 8.3, 10.1.1, 10.1.10, 10.1.12, 10.1.14, 10.1.20, 10.1.22,
+-- 10.2.1.1)
 
 -- what a command of the first table is told before OK: with words the operator in the form that was asked for, and contexts with the
 -- parameters that stand behind the access point
@@ -255,6 +256,7 @@ word_refusal w s (Activate true which) =
 word_refusal w s (Activate false which) = context_error (lock_error s.lock) (is_defined which s.contexts)
 word_refusal w s ActivityQuery = lock_error s.lock
 word_refusal w s (Addresses which) = context_error (lock_error s.lock) (is_defined which s.contexts)
+word_refusal w s (Dial cid) = lock_error s.lock
 word_refusal w s (Unlock right) = unlock_error s.lock w.puk_tries right
 word_refusal w s _ = None
 
@@ -331,15 +333,25 @@ word_after w s (SetCharset charset) = record s { words = Some (record w { charse
 word_after w s (Unlock right) = record s { lock = Ready; words = Some (record w { puk_tries = 10 }) }
 word_after w s _ = s
 
--- what commands of one line came to: the state, the lines that were told, and the error that ended them, if one did
+-- a packet call over the context of this number is answered CONNECT where that is active, else NO CARRIER (27.007, 10.1.12, 10.2.1.1)
+abbrev pub dialled : ℕ → ModemState → List ℕ
+dialled cid s = if is_active s.active cid then codes "CONNECT" else codes "NO CARRIER"
+
+-- the result code with which a command of the second table that isn't refused ends its line: a call does, whatever it is answered
+abbrev pub word_code : ModemState → Word → Option (List ℕ)
+word_code s (Dial cid) = Some (dialled cid s)
+word_code s _ = None
+
+-- what commands of one line came to: the state, the lines that were told, and the result code that ended them, if one did: that of an
+-- error or of a call
 pub record Ran : Type 0 where
   pub state : ModemState
   pub told : List AnswerLine
-  pub error : Option (List ℕ)
+  pub ended : Option (List ℕ)
 
 -- no command of the line was done yet
 abbrev pub nothing_ran : ModemState → Ran
-nothing_ran s = record { state = s; told = []; error = None }
+nothing_ran s = record { state = s; told = []; ended = None }
 
 -- what choosing an operator is refused with: the SIM's error before the SIM is ready, else 30 no network service where the radio is off
 abbrev pub radio_error : ℕ → Option ℕ → Option ℕ
@@ -358,12 +370,12 @@ abbrev pub ran_command : Option ℕ → Ran → Command → Ran
 ran_command None r c = record {
   state = settled (after_command r.state c);
   told = r.told ++ map line_of (told_as r.state.words r.state c);
-  error = None;
+  ended = None;
 }
 ran_command (Some number) r c = record {
   state = after_refusal r.state c;
   told = r.told;
-  error = Some (error_text r.state.errors number);
+  ended = Some (error_text r.state.errors number);
 }
 
 -- what a command of the second table comes to, refused or carried out
@@ -371,17 +383,17 @@ abbrev pub ran_word : Option ℕ → Words → Ran → Word → Ran
 ran_word None w r x = record {
   state = word_after w r.state x;
   told = r.told ++ map line_of (word_told w r.state x);
-  error = None;
+  ended = word_code r.state x;
 }
 ran_word (Some number) w r x = record {
   state = after_word_refusal w r.state x;
   told = r.told;
-  error = Some (error_text r.state.errors number);
+  ended = Some (error_text r.state.errors number);
 }
 
 -- a command of neither table
 abbrev pub ran_unknown : Ran → Ran
-ran_unknown r = record r { error = Some (codes "ERROR") }
+ran_unknown r = record r { ended = Some (codes "ERROR") }
 
 -- what a command that isn't of the first table comes to
 abbrev pub ran_other : Option Words → Ran → Option Word → Ran
@@ -393,14 +405,14 @@ abbrev pub ran_text : Option Command → Ran → List ℕ → Ran
 ran_text (Some c) r text = ran_command (refusal_as r.state.words r.state c) r c
 ran_text None r text = ran_other r.state.words r (word_of text)
 
--- after an error the rest of a line isn't done (V.250, 5.7.2)
+-- after an error the rest of a line isn't done (V.250, 5.7.2), nor after a call (27.007, 10.1.12)
 abbrev pub ran_unless : Option (List ℕ) → Ran → List ℕ → Ran
-ran_unless (Some error) r text = r
+ran_unless (Some code) r text = r
 ran_unless None r text = ran_text (command_of text) r text
 
--- what the next command of the line comes to, unless one before it was refused
+-- what the next command of the line comes to, unless one before it ended the line
 abbrev pub ran_next : Ran → List ℕ → Ran
-ran_next r text = ran_unless r.error r text
+ran_next r text = ran_unless r.ended r text
 
 -- the commands of a line: one of the first table is that command
 abbrev pub divided_by : Option Command → List ℕ → Option (List (List ℕ))
@@ -412,9 +424,10 @@ divided_by None line = commands_in line
 unfoldable pub line_commands : List ℕ → Option (List (List ℕ))
 line_commands line = divided_by (command_of line) line
 
+-- the result code behind what was told
 abbrev pub final_text : Option (List ℕ) → List ℕ
 final_text None = codes "OK"
-final_text (Some error) = error
+final_text (Some code) = code
 
 -- the report of a registration, where reports are on
 abbrev pub report_texts : List ℕ → ℕ → Bool → List (List ℕ)
@@ -443,7 +456,7 @@ announced before s = announced_as (is_registered before.lock before.oper) (is_re
 
 -- the answer to a line whose commands came to this
 abbrev pub worded_answer : ModemState → Ran → List AnswerLine
-worded_answer s r = r.told ++ line_of (final_text r.error) ∷ map line_of (announced s r.state)
+worded_answer s r = r.told ++ line_of (final_text r.ended) ∷ map line_of (announced s r.state)
 
 -- a line without AT isn't for the modem, and isn't answered
 abbrev pub worded_by : ModemState → Option (List (List ℕ)) → Step

@@ -19,6 +19,14 @@ QuotedLine =
     commands_in (codes "AT+CGDCONT=1,\"IP\",\"a ;b\"; +CREG?")
     ≡ Some (codes "AT+CGDCONT=1,\"IP\",\"a ;b\"" ∷ codes "AT+CREG?" ∷ [])
 
+-- What stands behind D is its own, without its blanks, a semicolon too: no call of this modem ends by one (V.250, 6.3.1). The D of AT&D is
+-- none.
+abbrev pub DialledLine : Type 0
+DialledLine =
+    (commands_in (codes "ATE0 D*99# ;+CSQ") ≡ Some (codes "ATE0" ∷ codes "ATD*99#;+CSQ" ∷ []))
+    × (commands_in (codes "AT+CSQ;d*99***2#") ≡ Some (codes "AT+CSQ" ∷ codes "ATd*99***2#" ∷ []))
+    × (commands_in (codes "AT&D2E0") ≡ Some (codes "AT&D2" ∷ codes "ATE0" ∷ []))
+
 -- AT alone has no command, and a line without it isn't for the modem
 abbrev pub BareLines : Type 0
 BareLines = (commands_in (codes "AAT") ≡ Some []) × (commands_in (codes "A T+CSQ") ≡ None)
@@ -127,6 +135,92 @@ ContextsActivated =
     ∷ (codes "+CGACT: 1,0" ∷ codes "+CGACT: 2,0" ∷ ok)
     ∷ (codes "+CME ERROR: 3" ∷ [])
     ∷ (codes "ERROR" ∷ [])
+    ∷ []
+
+-- A call is answered CONNECT where its context is active, which it doesn't make it: 1 where none is named. No OK stands behind that.
+abbrev pub CallsAnswered : Type 0
+CallsAnswered =
+    answers_to (started_with_words unlocked false)
+    (codes "ATD*99#" ∷ codes "AT+CGDCONT=1,\"IP\",\"a\";+CGDCONT=3,\"IPV6\",\"b\"" ∷ codes "ATD*99***1#" ∷ codes "AT+CGACT=1,1" ∷ codes "ATD*99#"
+    ∷ codes "atd*99***1#" ∷ codes "ATD*99***3#" ∷ codes "ATD*99***15#" ∷ codes "AT+CGDATA" ∷ codes "at+cgdata=\"ppp\"" ∷ codes "AT+CGDATA=\"PPP\",1"
+    ∷ codes "AT+CGDATA=\"PPP\",3" ∷ codes "AT+CGACT?" ∷ codes "AT+CGACT=0,1;+CGACT=1,3" ∷ codes "AT+CGDATA" ∷ codes "ATD*99***3#"
+    ∷ codes "AT+CGATT=0" ∷ codes "ATD*99***3#" ∷ codes "AT+CGDATA=?" ∷ [])
+    ≡ (codes "NO CARRIER" ∷ [])
+    ∷ ok
+    ∷ (codes "NO CARRIER" ∷ [])
+    ∷ ok
+    ∷ (codes "CONNECT" ∷ [])
+    ∷ (codes "CONNECT" ∷ [])
+    ∷ (codes "NO CARRIER" ∷ [])
+    ∷ (codes "NO CARRIER" ∷ [])
+    ∷ (codes "CONNECT" ∷ [])
+    ∷ (codes "CONNECT" ∷ [])
+    ∷ (codes "CONNECT" ∷ [])
+    ∷ (codes "NO CARRIER" ∷ [])
+    ∷ (codes "+CGACT: 1,1" ∷ codes "+CGACT: 3,0" ∷ ok)
+    ∷ ok
+    ∷ (codes "NO CARRIER" ∷ [])
+    ∷ (codes "CONNECT" ∷ [])
+    ∷ ok
+    ∷ (codes "NO CARRIER" ∷ [])
+    ∷ (codes "+CGDATA: (\"PPP\")" ∷ ok)
+    ∷ []
+
+-- forms that it doesn't take
+abbrev pub CallsMisspelt : Type 0
+CallsMisspelt =
+    answers_to (started_with_words unlocked false)
+    (codes "AT+CGDCONT=1,\"IP\",\"a\";+CGACT=1" ∷ codes "ATD*99" ∷ codes "ATD*99***1" ∷ codes "ATD*99***#" ∷ codes "ATD*99***01#" ∷ codes "ATD*99***16#"
+    ∷ codes "ATD*99**1#" ∷ codes "ATD*98#" ∷ codes "ATD" ∷ codes "AT+CGDATA=" ∷ codes "AT+CGDATA=PPP" ∷ codes "AT+CGDATA=\"M-HEX\",1" ∷ codes "AT+CGDATA=\"PPP\","
+    ∷ codes "AT+CGDATA=\"PPP\",0" ∷ codes "AT+CGDATA=\"PPP\",1,1" ∷ codes "AT+CGDATA?" ∷ [])
+    ≡ ok
+    ∷ (codes "ERROR" ∷ [])
+    ∷ (codes "ERROR" ∷ [])
+    ∷ (codes "ERROR" ∷ [])
+    ∷ (codes "ERROR" ∷ [])
+    ∷ (codes "ERROR" ∷ [])
+    ∷ (codes "ERROR" ∷ [])
+    ∷ (codes "ERROR" ∷ [])
+    ∷ (codes "ERROR" ∷ [])
+    ∷ (codes "ERROR" ∷ [])
+    ∷ (codes "ERROR" ∷ [])
+    ∷ (codes "ERROR" ∷ [])
+    ∷ (codes "ERROR" ∷ [])
+    ∷ (codes "ERROR" ∷ [])
+    ∷ (codes "ERROR" ∷ [])
+    ∷ (codes "ERROR" ∷ [])
+    ∷ []
+
+-- A call is done in its place. What stands behind it in its line isn't done: all behind D is what D calls, which is then none of the forms.
+abbrev pub CallsEndLines : Type 0
+CallsEndLines =
+    answers_to (started_with_words unlocked false)
+    (codes "AT+CGDCONT=1,\"IP\",\"a\";+CGACT=1,1;D*99#" ∷ codes "AT+CSQ;+CGDATA;+CGACT=0,1" ∷ codes "AT+CGDATA=\"PPP\",2;+CGACT=0,1" ∷ codes "ATD*99#;+CGACT=0,1"
+    ∷ codes "AT+CGACT?" ∷ codes "ATE0D * 99 #" ∷ codes "AT+FOO;+CGDATA" ∷ codes "ATD*99#;" ∷ [])
+    ≡ (codes "CONNECT" ∷ [])
+    ∷ (codes "+CSQ: 18,99" ∷ codes "CONNECT" ∷ [])
+    ∷ (codes "NO CARRIER" ∷ [])
+    ∷ (codes "ERROR" ∷ [])
+    ∷ (codes "+CGACT: 1,1" ∷ ok)
+    ∷ (codes "CONNECT" ∷ [])
+    ∷ (codes "ERROR" ∷ [])
+    ∷ (codes "ERROR" ∷ [])
+    ∷ []
+
+-- before the SIM is ready a call is refused, and the values of +CGDATA are told
+abbrev pub CallsRefused : Type 0
+CallsRefused =
+    answers_to (started_with_words locked false)
+    (codes "ATD*99#" ∷ codes "AT+CMEE=1" ∷ codes "ATD*99#" ∷ codes "AT+CGDATA" ∷ codes "AT+CGDATA=?" ∷ codes "AT+CMEE=2" ∷ codes "AT+CGDATA=\"PPP\",2"
+    ∷ codes "AT+CPIN=\"1234\";+CGDATA" ∷ [])
+    ≡ (codes "ERROR" ∷ [])
+    ∷ ok
+    ∷ (codes "+CME ERROR: 11" ∷ [])
+    ∷ (codes "+CME ERROR: 11" ∷ [])
+    ∷ (codes "+CGDATA: (\"PPP\")" ∷ ok)
+    ∷ ok
+    ∷ (codes "+CME ERROR: SIM PIN required" ∷ [])
+    ∷ (codes "NO CARRIER" ∷ [])
     ∷ []
 
 -- before the SIM is ready, and without a network, none becomes active

@@ -1,13 +1,13 @@
--- The commands of the second table by their texts (V.250, 6.1.1 to 6.1.9, 6.2.4 to 6.2.6; 27.007, 5.1 to 5.6, 7.2 to 7.4, 8.2, 8.3, 10.1.1, 10.1.10, 10.1.14, 10.1.20, 10.1.22).
+-- The commands of the second table by their texts (V.250, 6.1.1 to 6.1.9, 6.2.4 to 6.2.6, 6.3.1; 27.007, 5.1 to 5.6, 7.2 to 7.4, 8.2, 8.3, 10.1.1, 10.1.10, 10.1.12, 10.1.14, 10.1.20, 10.1.22, 10.2.1.1).
 use Rattle.std.specs.Prelude.{ℕ, ◌-◌, ◌||◌, ◌&&◌, Bool, true, false, List, length, take, drop, Option, Some, None, option_map, if◌then◌else◌, codes}
 use Rattle.std.specs.Str.{bytes_eq}
 use Rattle.at_text.specs.Octets.{is_digit}
 use Rattle.at_cmds.specs.Params.{◌>>=◌}
 use Rattle.at_cmds.specs.Forms.{is_cid, is_pin, is_run, numeral_in}
 use Rattle.modem_sim.specs.declared.words.Word.{Word}
-use Rattle.modem_sim.specs.declared.words.Word.TheVariants.{Reset, Echo, Usual, Identity, Manufacturer, Product, Revision, Serial, Subscriber, Capabilities, Functionality, FunctionalityQuery, FunctionalityForms, RegForms, Report, ReportQuery, ReportForms, OperFormat, ContextForms, Activate, ActivityQuery, ActivityForms, Addresses, AddressForms, SetCharset, CharsetQuery, CharsetForms, LockForms, LockQuery, Unlock, Forms, ErrorsQuery, MultiplexerQuery}
+use Rattle.modem_sim.specs.declared.words.Word.TheVariants.{Reset, Echo, Usual, Identity, Manufacturer, Product, Revision, Serial, Subscriber, Capabilities, Functionality, FunctionalityQuery, FunctionalityForms, RegForms, Report, ReportQuery, ReportForms, OperFormat, ContextForms, Activate, ActivityQuery, ActivityForms, Addresses, AddressForms, Dial, SetCharset, CharsetQuery, CharsetForms, LockForms, LockQuery, Unlock, Forms, ErrorsQuery, MultiplexerQuery}
 use Rattle.modem_sim.specs.declared.words.Charset.TheVariants.{Gsm, Ira}
-use Rattle.modem_sim.specs.declared.words.Form.TheVariants.{Unnamed, Operators, Strength, Errors, Attachment, Multiplexer}
+use Rattle.modem_sim.specs.declared.words.Form.TheVariants.{Unnamed, Operators, Strength, Errors, Attachment, Multiplexer, DataState}
 use Rattle.modem_sim.specs.declared.words.Domain.TheVariants.{Packet, Evolved}
 use Rattle.modem_sim.specs.Reading.{lowered}
 
@@ -109,6 +109,21 @@ context_word t =
     else if bytes_eq t (codes "at+cgpaddr=?") then Some AddressForms
     else numbered_word t
 
+-- the number of the context that D calls, behind the service code 99 and up to the number sign (27.007, 10.2.1.1)
+abbrev pub cid_called : List ℕ → Option ℕ
+cid_called text = do
+  value ← behind (codes "atd*99***") text
+  number ← before (codes "#") value
+  cid_in number
+
+-- commands that begin a packet call over one context, 1 where none is named: D with the service code 99 (27.007, 10.2.1.1), and +CGDATA, with
+-- PPP or without a protocol (10.1.12)
+abbrev pub dial_word : List ℕ → Option Word
+dial_word t =
+    if bytes_eq t (codes "atd*99#") then Some (Dial 1)
+    else if bytes_eq t (codes "at+cgdata") || bytes_eq t (codes "at+cgdata=\"ppp\"") then Some (Dial 1)
+    else or_else (option_map Dial (cid_called t)) (option_map Dial (cid_behind (codes "at+cgdata=\"ppp\",") t))
+
 -- commands for the characters of texts (27.007, 5.5), and for what the SIM's PIN locks (7.4)
 abbrev pub setting_word : List ℕ → Option Word
 setting_word t =
@@ -121,7 +136,7 @@ setting_word t =
     else None
 
 -- commands that ask what values another takes (27.007, 4.1): none is named, or those of operators (7.3), of the signal (8.5), of
--- errors (9.1), of the attachment (10.1.9) and of the multiplexer (5.7); and how errors are told, and the multiplexer's mode
+-- errors (9.1), of the attachment (10.1.9), of the data state (10.1.12) and of the multiplexer (5.7); and how errors are told, and the multiplexer's mode
 abbrev pub form_word : List ℕ → Option Word
 form_word t =
     if bytes_eq t (codes "at+cgmi=?") || bytes_eq t (codes "at+cgmm=?") then Some (Forms Unnamed)
@@ -132,6 +147,7 @@ form_word t =
     else if bytes_eq t (codes "at+csq=?") then Some (Forms Strength)
     else if bytes_eq t (codes "at+cmee=?") then Some (Forms Errors)
     else if bytes_eq t (codes "at+cgatt=?") then Some (Forms Attachment)
+    else if bytes_eq t (codes "at+cgdata=?") then Some (Forms DataState)
     else if bytes_eq t (codes "at+cmux=?") then Some (Forms Multiplexer)
     else if bytes_eq t (codes "at+cmee?") then Some ErrorsQuery
     else if bytes_eq t (codes "at+cmux?") then Some MultiplexerQuery
@@ -157,7 +173,7 @@ unlock_word t = do
 abbrev pub word_in : List ℕ → Option Word
 word_in t =
     or_else (basic_word t) (or_else (identity_word t) (or_else (phone_word t) (or_else (report_word t)
-    (or_else (context_word t) (or_else (setting_word t) (or_else (form_word t) (unlock_word t)))))))
+    (or_else (context_word t) (or_else (dial_word t) (or_else (setting_word t) (or_else (form_word t) (unlock_word t))))))))
 
 -- the command of the second table that a text is, its letters in either case
 unfoldable pub word_of : List ℕ → Option Word

@@ -46,7 +46,7 @@ fn activity_line(
     ensures { IfOk result (λ text. text.items ≡ activity_text active.now context.now) }
 {
     let cid = context.cid;
-    if active.has(context) {
+    if active.has(cid) {
         Ok(format!(in alloc; "+CGACT: {cid},1")?.into_bytes())
     } else {
         Ok(format!(in alloc; "+CGACT: {cid},0")?.into_bytes())
@@ -111,7 +111,7 @@ fn address_line(
 {
     let cid = context.cid;
     let mut text = format!(in alloc; "+CGPADDR: {cid}")?.into_bytes();
-    if active.has(context) {
+    if active.has(cid) {
         push_addresses(alloc, context.pdp, cid, &mut text)?;
     }
     Ok(text)

@@ -1,6 +1,6 @@
-//! The commands of one line (V.250, 5.2.1, 5.3.1, 5.4.1).
+//! The commands of one line (V.250, 5.2.1, 5.3.1, 5.4.1, 6.3.1).
 ghost use Rattle.std.specs.Prelude.{◌≡◌, IfOk, OnOk, option_map};
-ghost use Rattle.modem_sim.specs.CommandLines.{begins_at, commands_in, commands_read, goes_on_at, is_before_at, is_letter_a, is_letter_t, is_sign, nothing_read, place_after, place_behind, read_octet};
+ghost use Rattle.modem_sim.specs.CommandLines.{begins_at, commands_in, commands_read, goes_on_at, is_before_at, is_letter_a, is_letter_d, is_letter_t, is_sign, nothing_read, place_after, place_behind, read_octet};
 ghost use Rattle.at_text.specs.Octets.{is_digit};
 
 use at_text::Text;
@@ -25,6 +25,8 @@ pub(crate) enum Place {
     Extended,
     /// Between quotes.
     Quoted,
+    /// In a command D, which goes on to the end of the line.
+    Dialling,
 }
 
 /// Whether an octet is no blank and no semicolon.
@@ -44,6 +46,7 @@ impl Place {
             b';' => Place::Between,
             b'+' => Place::Extended,
             b'&' => Place::Ampersand,
+            b'D' | b'd' => Place::Dialling,
             _ => Place::Basic,
         }
     }
@@ -64,6 +67,7 @@ impl Place {
             (Place::Extended, _) => Place::Extended,
             (Place::Quoted, b'"') => Place::Extended,
             (Place::Quoted, _) => Place::Quoted,
+            (Place::Dialling, _) => Place::Dialling,
         }
     }
 
@@ -84,7 +88,7 @@ impl Place {
     {
         match self {
             Place::Basic => octet.is_ascii_digit(),
-            Place::Ampersand => octet != b' ',
+            Place::Ampersand | Place::Dialling => octet != b' ',
             Place::Extended => is_sign(octet),
             Place::Quoted => true,
             Place::Before | Place::Letter | Place::Between => false,

@@ -167,11 +167,11 @@ impl ActiveContexts {
         self.cids.clear();
     }
 
-    /// Whether a context is active.
-    pub(crate) fn has(&self, context: &PdpContext) -> bool
-        ensures { result ≡ is_active self.now context.now }
+    /// Whether the context of this number is active.
+    pub(crate) fn has(&self, cid: u8) -> bool
+        ensures { result ≡ is_active self.now cid }
     {
-        self.cids.iter().any(|cid| *cid == context.cid)
+        self.cids.iter().any(|active| *active == cid)
     }
 
     /// Whether it is active once those that are named became so, or inactive.
@@ -181,7 +181,7 @@ impl ActiveContexts {
         if context.is_named(which) {
             on
         } else {
-            self.has(context)
+            self.has(context.cid)
         }
     }
 

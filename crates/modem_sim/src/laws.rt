@@ -8,8 +8,8 @@ ghost use Rattle.modem_sim.specs.Laws.{IsStart, AnswersWellAlways, SetsOne, AreI
 ghost use Rattle.modem_sim.specs.SettingLaws.{KeepsAttached, KeepsContext, KeepsErrors, KeepsOper, KeepsReports};
 ghost use Rattle.modem_sim.specs.PinLaws.{FollowsNetworkAlways, IsReadyAlways, KeepsPin};
 ghost use Rattle.modem_sim.specs.Rows.{PinEntered, ThreeWrongPins, ErrorInWords, NetworkLeft};
-ghost use Rattle.modem_sim.specs.WordLaws.{AnswersAsStandard};
-ghost use Rattle.modem_sim.specs.WordRows.{BareLines, ChangeAnnounced, ClientAsks, ClientBegins, ContextsActivated, ContextsRefused, DividedLine, EchoOff, OperatorNamed, OwnAnswered, OwnLater, PinAnnounced, PinLocks, PukEntered, QuotedLine, RadioOff, TenWrongPuks, ValuesAsked};
+ghost use Rattle.modem_sim.specs.WordLaws.{AnswersAsStandard, AnswersCalls, EndsAtCalls, KeepsActive};
+ghost use Rattle.modem_sim.specs.WordRows.{BareLines, CallsAnswered, CallsEndLines, CallsMisspelt, CallsRefused, ChangeAnnounced, ClientAsks, ClientBegins, ContextsActivated, ContextsRefused, DialledLine, DividedLine, EchoOff, OperatorNamed, OwnAnswered, OwnLater, PinAnnounced, PinLocks, PukEntered, QuotedLine, RadioOff, TenWrongPuks, ValuesAsked};
 ghost use Rattle.modem_sim.specs.Acts.{Act, End};
 ghost use Rattle.modem_sim.specs.Histories.{SimLawful, LeavesInPieces, SaysReplies, DoesInOrder};
 ghost use Rattle.modem_sim.specs.Replied.{AnswersInLines, SendsReplies};
@@ -74,6 +74,16 @@ pub fn words()
     ensures { AnswersAsStandard }
 {}
 
+/// A modem with words whose SIM is ready answers a packet call by one result code: CONNECT where the context is active, else NO CARRIER. The
+/// call leaves it as it was. Nothing is done of what stands behind a call in its line. After all lines each context that is active is defined,
+/// and the modem is attached while one is.
+#[tactic(auto, using(crate::proofs::law_proofs::CalledModems::answers_calls, crate::proofs::law_proofs::CalledModems::ends_at_calls, crate::proofs::law_proofs::ActiveModems::keeps_active))]
+pub fn calls()
+    ensures answers { AnswersCalls }
+    ensures ends { EndsAtCalls }
+    ensures active { KeepsActive }
+{}
+
 /// Worked examples of a modem with words: how lines are divided into commands, what clients send as they begin, changes that are
 /// announced, the operator in other forms, and commands repeated.
 #[tactic(auto, using(crate::proofs::rows::WordRowFacts::divided_line, crate::proofs::rows::WordRowFacts::quoted_line, crate::proofs::rows::WordRowFacts::bare_lines, crate::proofs::rows::WordRowFacts::client_begins, crate::proofs::rows::WordRowFacts::change_announced, crate::proofs::rows::WordRowFacts::pin_announced, crate::proofs::rows::WordRowFacts::operator_named, crate::proofs::rows::WordRowFacts::echo_off))]
@@ -86,6 +96,17 @@ pub fn worked_words()
     ensures pin { PinAnnounced }
     ensures oper { OperatorNamed }
     ensures echo { EchoOff }
+{}
+
+/// Worked examples of packet calls to a modem with words: how a line with a call is divided, contexts that are active and others, forms that
+/// are none, what stands behind a call in its line, and a SIM that isn't ready.
+#[tactic(auto, using(crate::proofs::rows::WordRowFacts::dialled_line, crate::proofs::rows::WordRowFacts::calls_answered, crate::proofs::rows::WordRowFacts::calls_misspelt, crate::proofs::rows::WordRowFacts::calls_end_lines, crate::proofs::rows::WordRowFacts::calls_refused))]
+pub fn worked_calls()
+    ensures divided { DialledLine }
+    ensures answered { CallsAnswered }
+    ensures misspelt { CallsMisspelt }
+    ensures ends { CallsEndLines }
+    ensures refused { CallsRefused }
 {}
 
 /// Worked examples of a modem with words: packet contexts that become active and inactive, PUKs, what clients ask, the radio switched

@@ -106,9 +106,9 @@ impl Modem {
 
     /// A modem with words that was just started. It takes more than the commands of a modem without words: those that clients
     /// send as they begin, several in a line, with blanks, and behind whatever stands before `AT` (V.250, 5.2.1). It announces
-    /// changes of registration where reports are on (27.007, 7.2). It activates packet contexts (27.007, 10.1.10). After three
-    /// wrong PINs it takes a PUK (27.007, 8.3). `echo` says whether it repeats commands until an `ATE` says otherwise. It
-    /// takes no memory.
+    /// changes of registration where reports are on (27.007, 7.2). It activates packet contexts (27.007, 10.1.10), and answers
+    /// packet calls over them (27.007, 10.1.12, 10.2.1.1). After three wrong PINs it takes a PUK (27.007, 8.3). `echo` says
+    /// whether it repeats commands until an `ATE` says otherwise. It takes no memory.
     pub fn with_words(alloc: Global, start: ModemStart, echo: bool) -> Modem
         ensures { result ≡ started_with_words start echo }
     {
@@ -162,10 +162,11 @@ impl Modem {
         })
     }
 
-    /// Carries out a command line, given without its CR, and answers it in lines, the last a final code. A modem with words
-    /// announces a change of registration behind the final code. To a line without `AT` it answers nothing. Where an answer of
-    /// its own takes the line, it says that one and does nothing else. Last it says the lines of its earlier answers that
-    /// waited for this line. Refused with 1 NoMemory, which leaves the modem as it was.
+    /// Carries out a command line, given without its CR, and answers it in lines, the last a final code, or the `CONNECT` of a
+    /// packet call, behind which it takes command lines as before: it has no data of its own. A modem with words announces a change
+    /// of registration behind that. To a line without `AT` it answers nothing. Where an answer of its own takes the line, it says
+    /// that one and does nothing else. Last it says the lines of its earlier answers that waited for this line. Refused with
+    /// 1 NoMemory, which leaves the modem as it was.
     #[tactic(auto, using(crate::proofs::modem_steps::StandardModems::step_standard, crate::proofs::modem_steps::StandardModems::step_with_words))]
     pub fn execute(&mut self, line: &[u8]) -> Result<Vec<AnswerLine>, SimError>
         ensures answer { IfOk result (λ answer. answer.items ≡ (step self.old line.now).answer) }

@@ -258,7 +258,7 @@ impl ModemState {
 }
 
 impl ModemState {
-    ghost use Rattle.modem_sim.specs.Steps.{activated, after_word_refusal, context_error, lock_error, radio_error, refusal_as, settled, switched, word_after, word_refusal};
+    ghost use Rattle.modem_sim.specs.Steps.{activated, after_word_refusal, context_error, dialled, lock_error, radio_error, refusal_as, settled, switched, word_after, word_refusal};
     ghost use Rattle.modem_sim.specs.Contexts.{is_defined};
 
     /// The error that choosing an operator is refused with, where it is.
@@ -315,13 +315,23 @@ impl ModemState {
         ensures { result ≡ word_refusal words self.now word }
     {
         match word {
-            Word::Subscriber | Word::ActivityQuery | Word::Forms(Form::Operators) => {
-                self.lock.error()
-            }
+            Word::Subscriber | Word::ActivityQuery | Word::Dial(_) | Word::Forms(Form::Operators) =>
+                self.lock.error(),
             Word::Activate(true, which) => self.activate_error(words, which),
             Word::Activate(false, which) | Word::Addresses(which) => self.context_error(which),
             Word::Unlock(is_right) => self.lock.puk_error(words.puk_tries, is_right),
             _ => None,
+        }
+    }
+
+    /// What a packet call over the context of this number is answered.
+    pub(crate) fn dialled(&self, cid: u8) -> &'static str
+        ensures { result.now ≡ dialled cid self.now }
+    {
+        if self.active.has(cid) {
+            "CONNECT"
+        } else {
+            "NO CARRIER"
         }
     }
 

@@ -42,6 +42,7 @@ pub(crate) fn push_forms(
         Form::Strength => push_text(alloc, "+CSQ: (0-31,99),(0-7,99)", answer),
         Form::Errors => push_text(alloc, "+CMEE: (0-2)", answer),
         Form::Attachment => push_text(alloc, "+CGATT: (0,1)", answer),
+        Form::DataState => push_text(alloc, "+CGDATA: (\"PPP\")", answer),
         Form::Multiplexer => push_text(
             alloc,
             "+CMUX: (0),(0),(1-8),(31-32767),(1-255),(0-100),(2-255),(1-255)",

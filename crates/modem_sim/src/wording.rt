@@ -4,7 +4,7 @@ ghost use Rattle.std.specs.Fmt.{decimal};
 ghost use Rattle.at_cmds.specs.Forms.{in_quotes};
 ghost use Rattle.modem_sim.specs.Reading.{command_of};
 ghost use Rattle.modem_sim.specs.SettingTexts.{context_forms, lock_text, named_oper_text, oper_name};
-ghost use Rattle.modem_sim.specs.Steps.{all_reports, announced, domain_name, line_commands, line_of, nothing_ran, ran_command, ran_next, ran_other, ran_word, refusal_as, registration_text, report_texts, setting_told, status_text, told_as, word_refusal, word_told, worded_step};
+ghost use Rattle.modem_sim.specs.Steps.{all_reports, announced, domain_name, line_commands, line_of, nothing_ran, ran_command, ran_next, ran_other, ran_word, refusal_as, registration_text, report_texts, setting_told, status_text, told_as, word_code, word_refusal, word_told, worded_step};
 
 use crate::activity::{numbers_line, push_activity, push_contexts_named, push_whole_contexts};
 use crate::answers::{error_text, push_line, push_quoted, push_told};
@@ -23,7 +23,7 @@ use std::marker::Model;
 struct Run {
     state: ModemState,
     told: Vec<AnswerLine>,
-    error: Option<Text>,
+    ended: Option<Text>,
 }
 
 impl Model for Run {
@@ -31,7 +31,7 @@ impl Model for Run {
 
     ghost Value = { Ran };
 
-    ghost view = { λ r. record { state = r.state; told = r.told.items; error = r.error } };
+    ghost view = { λ r. record { state = r.state; told = r.told.items; ended = r.ended } };
 }
 
 /// The command of the first table that a text is, if it is one.
@@ -280,6 +280,17 @@ fn push_word_told(
     }
 }
 
+/// The result code with which a command of the second table ends its line, where it does.
+fn word_code(alloc: Global, state: &ModemState, word: Word) -> Result<Option<Text>, AllocError>
+    ensures { IfOk result (λ code. code ≡ word_code state.now word) }
+{
+    let Word::Dial(cid) = word else {
+        return Ok(None);
+    };
+    let code = Vec::from_slice(alloc, state.dialled(cid).as_bytes())?;
+    Ok(Some(Text::from(code)))
+}
+
 /// Writes what a command of the first table is told before OK behind other lines.
 fn push_told_as(
     alloc: Global,
@@ -305,13 +316,13 @@ fn push_told_as(
 impl Run {
     /// Does a command of the first table. After an error nothing is said of what was done.
     fn obey(&mut self, alloc: Global, command: Command) -> Result<(), AllocError>
-        requires { self.old.error ≡ None }
+        requires { self.old.ended ≡ None }
         ensures { OnOk result
             (self.new ≡ ran_command (refusal_as self.old.state.words self.old.state command) self.old command) }
     {
         if let Some(number) = self.state.refusal_as(&command) {
             let error = error_text(alloc, self.state.errors, number)?;
-            self.error = Some(Text::from(error));
+            self.ended = Some(Text::from(error));
             self.state.refuse(&command);
             return Ok(());
         }
@@ -323,40 +334,41 @@ impl Run {
 
     /// Does a command of the second table.
     fn obey_word(&mut self, alloc: Global, words: Words, word: Word) -> Result<(), AllocError>
-        requires { self.old.error ≡ None }
+        requires { self.old.ended ≡ None }
         ensures { OnOk result
             (self.new ≡ ran_word (word_refusal words self.old.state word) words self.old word) }
     {
         if let Some(number) = self.state.word_refusal(words, word) {
             let error = error_text(alloc, self.state.errors, number)?;
-            self.error = Some(Text::from(error));
+            self.ended = Some(Text::from(error));
             self.state.refuse_word(words, word);
             return Ok(());
         }
         push_word_told(alloc, words, &self.state, word, &mut self.told)?;
+        self.ended = word_code(alloc, &self.state, word)?;
         self.state.carry_out_word(words, word)
     }
 
     /// Does a command that isn't of the first table.
     fn do_other(&mut self, alloc: Global, word: Option<Word>) -> Result<(), AllocError>
-        requires { self.old.error ≡ None }
+        requires { self.old.ended ≡ None }
         ensures { OnOk result (self.new ≡ ran_other self.old.state.words self.old word) }
     {
         match (self.state.words, word) {
             (Some(words), Some(word)) => self.obey_word(alloc, words, word),
             _ => {
-                self.error = Some(Text::from(Vec::from_slice(alloc, b"ERROR")?));
+                self.ended = Some(Text::from(Vec::from_slice(alloc, b"ERROR")?));
                 Ok(())
             }
         }
     }
 
-    /// Does the next command of the line, unless one before it was refused.
+    /// Does the next command of the line, unless one before it ended the line.
     fn go_on(&mut self, alloc: Global, text: &[u8]) -> Result<(), SimError>
         ensures done { OnOk result (self.new ≡ ran_next self.old text.now) }
         ensures no_memory { OnErr result (IsErrOf result SimError.NoMemory) }
     {
-        if self.error.is_some() {
+        if self.ended.is_some() {
             return Ok(());
         }
         match command_of(alloc, text)? {
@@ -370,15 +382,15 @@ impl Run {
 impl Run {
     ghost use Rattle.modem_sim.specs.Steps.{final_text};
 
-    /// The state, and the lines with the final code behind them.
+    /// The state, and the lines with the result code behind them.
     fn finish(self, alloc: Global) -> Result<(ModemState, Vec<AnswerLine>), AllocError>
         ensures state { IfOk result (λ r. r.0 ≡ self.state) }
-        ensures lines { IfOk result (λ r. r.1.items ≡ self.told ++ line_of (final_text self.error) ∷ []) }
+        ensures lines { IfOk result (λ r. r.1.items ≡ self.told ++ line_of (final_text self.ended) ∷ []) }
     {
-        let Run { state, told, error } = self;
+        let Run { state, told, ended } = self;
         let mut answer = told;
-        match error {
-            Some(error) => push_line(&mut answer, error.into_vec())?,
+        match ended {
+            Some(code) => push_line(&mut answer, code.into_vec())?,
             None => push_text(alloc, "OK", &mut answer)?,
         }
         Ok((state, answer))
@@ -393,7 +405,7 @@ fn run_all(alloc: Global, state: ModemState, commands: &[Text]) -> Result<Run, S
     let mut run = Run {
         state,
         told: Vec::new(alloc),
-        error: None,
+        ended: None,
     };
     for command in commands {
         run.go_on(alloc, command.as_slice())?;

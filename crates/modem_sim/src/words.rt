@@ -2,7 +2,7 @@
 ghost use Rattle.std.specs.Prelude.{◌≡◌, IfOk};
 ghost use Rattle.std.specs.Str.{bytes_eq};
 ghost use Rattle.at_cmds.specs.Forms.{numeral_in};
-ghost use Rattle.modem_sim.specs.Words.{basic_word, cid_behind, cid_in, context_word, form_word, identity_word, numbered_word, phone_word, report_word, setting_word, unlock_word, word_of};
+ghost use Rattle.modem_sim.specs.Words.{basic_word, cid_behind, cid_called, cid_in, context_word, dial_word, form_word, identity_word, numbered_word, phone_word, report_word, setting_word, unlock_word, word_of};
 
 use at_text::octets::all_digits;
 use std::alloc::{AllocError, Global};
@@ -41,6 +41,8 @@ pub(crate) enum Form {
     Attachment,
     /// `AT+CMUX` (27.007, 5.7).
     Multiplexer,
+    /// `AT+CGDATA` (27.007, 10.1.12).
+    DataState,
 }
 
 /// A command of the second table.
@@ -94,6 +96,8 @@ pub(crate) enum Word {
     Addresses(Option<u8>),
     /// `AT+CGPADDR=?`.
     AddressForms,
+    /// `ATD*99#`, `AT+CGDATA`: a packet call over the context of this number (27.007, 10.1.12, 10.2.1.1).
+    Dial(u8),
     /// `AT+CSCS=` (27.007, 5.5).
     SetCharset(Charset),
     /// `AT+CSCS?`.
@@ -321,6 +325,30 @@ fn context_word(text: &[u8]) -> Option<Word>
     numbered_word(text)
 }
 
+/// The number of the context that `ATD*99***N#` calls.
+fn cid_called(text: &[u8]) -> Option<u8>
+    ensures { result ≡ cid_called text.now }
+{
+    let value = text.strip_prefix(b"atd*99***")?;
+    cid_in(value.strip_suffix(b"#")?)
+}
+
+/// A command that begins a packet call.
+fn dial_word(text: &[u8]) -> Option<Word>
+    ensures { result ≡ dial_word text.now }
+{
+    if is(text, b"atd*99#") {
+        return Some(Word::Dial(1));
+    }
+    if is(text, b"at+cgdata") || is(text, b"at+cgdata=\"ppp\"") {
+        return Some(Word::Dial(1));
+    }
+    if let Some(cid) = cid_called(text) {
+        return Some(Word::Dial(cid));
+    }
+    Some(Word::Dial(cid_behind(text, b"at+cgdata=\"ppp\",")?))
+}
+
 /// A command for the characters of texts, or for what the SIM's PIN locks.
 fn setting_word(text: &[u8]) -> Option<Word>
     ensures { result ≡ setting_word text.now }
@@ -374,6 +402,9 @@ fn form_word(text: &[u8]) -> Option<Word>
     if is(text, b"at+cgatt=?") {
         return Some(Word::Forms(Form::Attachment));
     }
+    if is(text, b"at+cgdata=?") {
+        return Some(Word::Forms(Form::DataState));
+    }
     if is(text, b"at+cmux=?") {
         return Some(Word::Forms(Form::Multiplexer));
     }
@@ -422,6 +453,9 @@ pub(crate) fn word_of(alloc: Global, text: &[u8]) -> Result<Option<Word>, AllocE
         return Ok(Some(word));
     }
     if let Some(word) = context_word(text) {
+        return Ok(Some(word));
+    }
+    if let Some(word) = dial_word(text) {
         return Ok(Some(word));
     }
     if let Some(word) = setting_word(text) {

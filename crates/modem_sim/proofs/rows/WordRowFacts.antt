@@ -7,7 +7,7 @@ use Rattle.at_cmds.specs.Values.{command_in}
 use Rattle.modem_sim.specs.CommandLines.{commands_in}
 use Rattle.modem_sim.specs.Reading.{command_of}
 use Rattle.modem_sim.specs.Steps.{line_commands}
-use Rattle.modem_sim.specs.WordRows.{BareLines, ChangeAnnounced, ClientAsks, ClientBegins, ContextsActivated, ContextsRefused, DividedLine, EchoOff, OperatorNamed, OwnAnswered, OwnLater, PinAnnounced, PinLocks, PukEntered, QuotedLine, RadioOff, TenWrongPuks, ValuesAsked}
+use Rattle.modem_sim.specs.WordRows.{BareLines, CallsAnswered, CallsEndLines, CallsMisspelt, CallsRefused, ChangeAnnounced, ClientAsks, ClientBegins, ContextsActivated, ContextsRefused, DialledLine, DividedLine, EchoOff, OperatorNamed, OwnAnswered, OwnLater, PinAnnounced, PinLocks, PukEntered, QuotedLine, RadioOff, TenWrongPuks, ValuesAsked}
 use Rattle.modem_sim.specs.Words.{word_of}
 
 pub divided_line : DividedLine
@@ -17,6 +17,10 @@ divided_line = refl
 pub quoted_line : QuotedLine
 unfolding commands_in
 quoted_line = refl
+
+pub dialled_line : DialledLine
+unfolding commands_in
+dialled_line = (refl, refl, refl)
 
 pub bare_lines : BareLines
 unfolding commands_in
@@ -53,6 +57,22 @@ echo_off = refl
 pub contexts_activated : ContextsActivated
 unfolding command_of command_in numeral_in unquoted parameters digits commands_in line_commands word_of
 contexts_activated = refl
+
+pub calls_answered : CallsAnswered
+unfolding command_of command_in numeral_in unquoted parameters digits commands_in line_commands word_of
+calls_answered = refl
+
+pub calls_misspelt : CallsMisspelt
+unfolding command_of command_in numeral_in unquoted parameters digits commands_in line_commands word_of
+calls_misspelt = refl
+
+pub calls_end_lines : CallsEndLines
+unfolding command_of command_in numeral_in unquoted parameters digits commands_in line_commands word_of
+calls_end_lines = refl
+
+pub calls_refused : CallsRefused
+unfolding command_of command_in numeral_in unquoted parameters digits commands_in line_commands word_of
+calls_refused = refl
 
 pub contexts_refused : ContextsRefused
 unfolding command_of command_in numeral_in unquoted parameters digits commands_in line_commands word_of

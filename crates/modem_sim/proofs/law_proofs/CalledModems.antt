@@ -1,0 +1,87 @@
+-- What a modem with words does at a packet call, and with the rest of its line.
+use Rattle.std.specs.Prelude.{◌≡◌, ℕ, Bool, true, false, List, [], ◌∷◌, fold, map, Option, Some, None, if◌then◌else◌, refl}
+use Rattle.std.proofs.Common.{ap, sym, ◌∙◌}
+use Rattle.std.proofs.lemmas.List.Sums.{fold-append}
+use Rattle.modem_sim.specs.declared.own_answers.OwnLine.{OwnLine}
+use Rattle.modem_sim.specs.declared.state.Lock.TheVariants.{Ready}
+use Rattle.modem_sim.specs.declared.state.ModemState.{ModemState}
+use Rattle.modem_sim.specs.declared.state.Words.{Words}
+use Rattle.modem_sim.specs.declared.words.Word.TheVariants.{Dial}
+use Rattle.modem_sim.specs.Reading.{command_of}
+use Rattle.modem_sim.specs.Steps.{announced_as, dialled, is_registered, line_commands, line_of, lock_error, nothing_ran, ran_next, ran_other, ran_text, ran_unless, ran_word, refused_by, with_late, worded_answer, worded_by, worded_step, Ran, Step}
+use Rattle.modem_sim.specs.WordLaws.{AnswersCalls, EndsAtCalls, IsCall}
+use Rattle.modem_sim.proofs.modem_steps.StandardModems.{step_worded}
+
+-- ## The rest of the line
+
+-- a line that has ended
+record IsOver (r : Ran) : Type 0 where
+  code : List ℕ
+  is : r.ended ≡ Some code
+
+stays_over : (r : Ran) (text : List ℕ) → IsOver r → ran_next r text ≡ r
+stays_over r text over = ap (λ o. ran_unless o r text) over.is
+
+rest_over : (texts : List (List ℕ)) (r : Ran) → IsOver r → fold ran_next r texts ≡ r
+rest_over [] r over = refl
+rest_over (text ∷ texts) r over = ap (λ x. fold ran_next x texts) (stays_over r text over) ∙ rest_over texts r over
+
+word_over : (o : Option ℕ) (w : Words) (r : Ran) (cid : ℕ) → IsOver (ran_word o w r (Dial cid))
+word_over None w r cid = record { code = _; is = refl }
+word_over (Some number) w r cid = record { code = _; is = refl }
+
+other_over : (words : Option Words) (r : Ran) (cid : ℕ) → IsOver (ran_other words r (Some (Dial cid)))
+other_over None r cid = record { code = _; is = refl }
+other_over (Some w) r cid = word_over (lock_error r.state.lock) w r cid
+
+-- a call is of the second table
+call_read : (r : Ran) (text : List ℕ) (cid : ℕ) → IsCall text cid → ran_text (command_of text) r text ≡ ran_other r.state.words r (Some (Dial cid))
+call_read r text cid is = ap (λ o. ran_text o r text) is.other ∙ ap (ran_other r.state.words r) is.call
+
+call_over_at : (o : Option (List ℕ)) (r : Ran) (text : List ℕ) (cid : ℕ) → r.ended ≡ o → IsCall text cid → IsOver (ran_unless o r text)
+call_over_at (Some code) r text cid ended is = record { code = code; is = ended }
+call_over_at None r text cid ended is = rw (call_read r text cid is) (other_over r.state.words r cid)
+
+call_over : (r : Ran) (text : List ℕ) (cid : ℕ) → IsCall text cid → IsOver (ran_next r text)
+call_over r text cid is = call_over_at r.ended r text cid refl is
+
+pub ends_at_calls : EndsAtCalls
+ends_at_calls r before behind text cid is =
+    let front : Ran = fold ran_next r before in
+    fold-append ran_next r before (text ∷ behind)
+    ∙ rest_over behind (ran_next front text) (call_over front text cid is)
+    ∙ sym (fold-append ran_next r before (text ∷ []))
+
+-- ## The answer
+
+-- what a call comes to where the SIM is ready
+abbrev called : ModemState → ℕ → Ran
+called s cid = record { state = s; told = []; ended = Some (dialled cid s) }
+
+call_ran : (s : ModemState) (w : Words) (text : List ℕ) (cid : ℕ) → s.words ≡ Some w → s.lock ≡ Ready → IsCall text cid → ran_next (nothing_ran s) text ≡ called s cid
+call_ran s w text cid some ready is =
+    call_read (nothing_ran s) text cid is
+    ∙ ap (λ words. ran_other words (nothing_ran s) (Some (Dial cid))) some
+    ∙ ap (λ lock. ran_word (lock_error lock) w (nothing_ran s) (Dial cid)) ready
+
+-- nothing is announced where nothing changed
+none_announced : (registered : Bool) (s : ModemState) → announced_as registered registered s ≡ []
+none_announced true s = refl
+none_announced false s = refl
+
+-- where no line waits, none comes behind an answer
+none_late : (s : ModemState) (code : List ℕ) (late : List OwnLine) → late ≡ s.late → late ≡ [] → with_late late (record { state = s; answer = line_of code ∷ [] }) ≡ record { state = s; answer = line_of code ∷ [] }
+none_late s code [] is none = ap (λ l. record { state = record s { late = l }; answer = line_of code ∷ [] }) is
+none_late s code (line ∷ more) is none = cc
+
+pub answers_calls : AnswersCalls
+answers_calls s w line text cid some ready short own none divided is =
+    let kept : worded_step s line ≡ worded_by s (line_commands line) = ap (λ (b : Bool). if b then refused_by s (line_commands line) else worded_by s (line_commands line)) short in
+    let done : worded_by s (line_commands line) ≡ worded_by s (Some (text ∷ [])) = ap (worded_by s) divided in
+    let by : Ran → Step = λ r. record { state = r.state; answer = worded_answer s r } in
+    let ran : worded_by s (Some (text ∷ [])) ≡ by (called s cid) = ap by (call_ran s w text cid some ready is) in
+    let alone : by (called s cid) ≡ record { state = s; answer = line_of (dialled cid s) ∷ [] } =
+    ap (λ texts. record { state = s; answer = line_of (dialled cid s) ∷ map line_of texts }) (none_announced (is_registered s.lock s.oper) s) in
+    step_worded s line w some own
+    ∙ ap (with_late s.late) (kept ∙ done ∙ ran ∙ alone)
+    ∙ none_late s (dialled cid s) s.late refl none
