@@ -4,9 +4,9 @@ ghost use Rattle.serial_line.specs.StreamLine.{new_stream};
 ghost use Rattle.serial_line.specs.declared.stream_line.ZeroRead.TheVariants.{Ended};
 
 use crate::fault::DriveFault;
-use crate::results::beside;
 use bell::Bell;
 use device_line::{DeviceLine, FlowEnd, RingReader, RingWriter, drain, leave, line_over, pump};
+use results::beside;
 use rtrb::{Consumer, Producer, RingBuffer};
 use serial_line::ZeroRead;
 use std::alloc::{AllocError, AllocGlobal, Global};

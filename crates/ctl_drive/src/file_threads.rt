@@ -9,12 +9,12 @@ use crate::fault::DriveFault;
 use crate::file_ending::{LOOKS, PAUSE};
 use crate::file_saying::say_of;
 use crate::on_device::open_device;
-use crate::results::beside;
 use crate::settings::DataPath;
 use bell::Bell;
 use data_files::DataFile;
 use device_line::DeviceLine;
 use modem_data::{Begin, Until};
+use results::beside;
 use serial_line::ZeroRead;
 use std::alloc::AllocGlobal;
 use std::fs::File;
@@ -75,7 +75,9 @@ where
 {
     let (line, threads) = match one.begin {
         Begin::ByPrompt => open_text(rt, bell, one.path)?,
-        Begin::AtOnce | Begin::ByConnect => open_terminal(rt, bell, one.path)?,
+        Begin::AtOnce | Begin::ByConnect | Begin::ByOwnConnect => open_terminal(
+            rt, bell, one.path,
+        )?,
     };
     let made = DataFile::new(rt.alloc(), one.dlci, one.begin, Until::Close, line);
     let (file, threads) = beside(made, threads)?;

@@ -11,7 +11,7 @@
 //!   threads of these files, their end, and what is said of it.
 //! - `running`, `driving`, `ending`, `fault`: a drive over any line. `users`, `plan`, `queues`, `turns`, `channels`,
 //!   `input`: what it asks.
-//! - `showing`, `pieces`, `saying`, `results`: what it prints. `captured_line`: what it captures.
+//! - `showing`, `pieces`, `saying`: what it prints. `captured_line`: what it captures.
 //! - `laws`.
 #![tactic(auto)]
 
@@ -33,7 +33,6 @@ mod patience;
 mod pieces;
 mod plan;
 mod queues;
-mod results;
 mod running;
 mod saying;
 mod settings;

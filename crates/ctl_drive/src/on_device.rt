@@ -11,13 +11,13 @@ ghost use Rattle.ctl_drive.specs.OnDevice.{DroveCaptured, DroveDevice, DroveLine
 use crate::captured_line::CapturedLine;
 use crate::device::{DeviceThreads, StopBell, line_beside, read_beside};
 use crate::fault::DriveFault;
-use crate::results::beside;
 use crate::running::{Driven, drive_over};
 use crate::saying::{Paths, say_end};
 use crate::settings::Settings;
 use bell::Bell;
 use device_line::{DeviceLine, RingReader};
 use mux_capture::Capture;
+use results::beside;
 use serial_line::{SerialLine, ZeroRead};
 use std::alloc::{AllocGlobal, Global};
 use std::fs::{File, OpenOptions};

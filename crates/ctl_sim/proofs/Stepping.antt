@@ -30,7 +30,7 @@ use Rattle.ctl_sim.specs.Muxes.{FedTo, FitsMux, IsDown, IsEndedBy, IsFed, IsOver
 use Rattle.ctl_sim.specs.Plain.{Plain, plain_after, plain_begun}
 use Rattle.ctl_sim.specs.Serving as stage
 use Rattle.ctl_sim.specs.Serving.{AnswersFrom, EntersAfter, Entry, Setting, plain_by_now, with_more}
-use Rattle.ctl_sim.specs.Standing.{AtLines, AtMux, EndsWith, HandlesText, IsEntered, Stands, StepsOn, at_lines, enters, held, in_mux, once_entered, undecided, unsaid, weight, with_entry, with_said}
+use Rattle.ctl_sim.specs.Standing.{AtLines, AtMux, EndsWith, HandlesText, Hears, IsEntered, Stands, StepsOn, at_lines, enters, held, in_mux, once_entered, undecided, unsaid, weight, with_entry, with_said}
 use Rattle.ctl_sim.specs.Coming.{more_twice}
 use Rattle.ctl_sim.proofs.Entries.{entry_more, none_more}
 use Rattle.ctl_sim.proofs.Served.{after_none, both_served}
@@ -476,3 +476,20 @@ frame_by setup s mux sim n1 kept octets all text behind left before out new same
 pub split_steps : (s : Setting) (old new : Mode) (entered : Option ℕ) (octets behind before out : List ℕ) (n : ℕ) → behind ≡ drop n octets → StepsOn Stands undecided s old new entered (take n octets ++ behind) behind before out → StepsOn Stands undecided s old new entered octets behind before out
 split_steps s old new entered octets behind before out n is steps =
     subst (λ (l : List ℕ). StepsOn Stands undecided s old new entered l behind before out) (ap (λ (l : List ℕ). take n octets ++ l) is ∙ take-append-drop n octets) steps
+
+-- ## By what plain lines took
+
+-- they go on
+pub stays_by : (s : Setting) (p new : Plain) (octets behind before out : List ℕ) → Hears p new octets behind before out → new.entered ≡ None → StepsOn Stands undecided s (Lines p) (Lines new) None octets behind before out
+stays_by s p new octets behind before out h none =
+    split_steps s (Lines p) (Lines new) None octets behind before out h.count h.behind_is
+    (stays s p new (take h.count octets) behind before out h.new_is (ap (λ (q : Plain). q.entered) (sym h.new_is) ∙ none) h.written)
+
+-- a line enters the multiplexer
+pub enters_by : (setup : Setup) (s : Setting) (p new : Plain) (n1 : ℕ) (m : ModemState) (mux : Mode) (octets behind left before out : List ℕ) → s.steps ≡ setup.steps → Hears p new octets behind before out
+    → new.entered ≡ Some n1 → new.behind ≡ [] → m ≡ new.modem → IsEntered setup m n1 mux → left ≡ behind → StepsOn Stands undecided s (Lines p) mux (Some n1) octets left before out
+enters_by setup s p new n1 m mux octets behind left before out steps h enters_it none_behind modem is same =
+    subst (λ (l : List ℕ). StepsOn Stands undecided s (Lines p) mux (Some n1) octets l before out) (sym same)
+    (split_steps s (Lines p) mux (Some n1) octets behind before out h.count h.behind_is
+    (entered setup s p n1 m mux (take h.count octets) behind before out steps (ap (λ (q : Plain). q.entered) (sym h.new_is) ∙ enters_it) (ap (λ (q : Plain). q.behind) (sym h.new_is) ∙ none_behind)
+    (modem ∙ ap (λ (q : Plain). q.modem) h.new_is) h.written is))

@@ -1,5 +1,5 @@
 -- How a modem for a client stands after octets that came.
-use Rattle.std.specs.Prelude.{◌≡◌, ℕ, ◌+◌, ◌*◌, min, true, false, List, [], ◌∷◌, ◌++◌, drop, length, Option, Some, None}
+use Rattle.std.specs.Prelude.{◌≡◌, ℕ, ◌+◌, ◌*◌, ◌≤◌, ◌<◌, min, true, false, List, [], ◌∷◌, ◌++◌, take, drop, length, Option, Some, None}
 use Rattle.mux_frame.specs.Frames.{Frame}
 use Rattle.mux_frame.specs.Laws.{AreOctets}
 use Rattle.mux_frame.specs.Reading.{Reads}
@@ -15,7 +15,7 @@ use Rattle.ctl_sim.specs.HeldLine.{HeldState}
 use Rattle.ctl_sim.specs.InMux.{mux_end, octets_sent}
 use Rattle.ctl_sim.specs.MuxStates.{MuxState}
 use Rattle.ctl_sim.specs.Muxes.{FitsMux, IsFed}
-use Rattle.ctl_sim.specs.Plain.{Plain, plain_begun}
+use Rattle.ctl_sim.specs.Plain.{Plain, plain_after, plain_begun}
 use Rattle.ctl_sim.specs.Serving.{AnswersFrom, Entry, Setting, plain_by_now, with_more}
 use Rattle.ctl_sim.specs.Serving as stage
 
@@ -90,6 +90,15 @@ pub record StepsOn {X : Type 0} (Holds : Setting → (came went : List ℕ) → 
   pub stands :
       (came went : List ℕ) (es : List Entry) → Holds s came went es old octets
       → Holds s came (went ++ more) (with_entry (with_more [] more es) entered (Undecided new ++ left)) new left
+
+-- plain lines took octets, to the end of a line that enters the multiplexer at most, and all that was said went out
+pub record Hears (old new : Plain) (octets behind before out : List ℕ) : Type 0 where
+  pub count : ℕ
+  pub bound : count ≤ length octets
+  pub some : old.entered ≡ None → 0 < length octets → 0 < count
+  pub behind_is : behind ≡ drop count octets
+  pub new_is : new ≡ unsaid (plain_after old (take count octets))
+  pub written : out ≡ before ++ (plain_after old (take count octets)).said
 
 -- the setting of a modem that was handed in so
 abbrev pub setting_by : Setup → ModemState → Setting

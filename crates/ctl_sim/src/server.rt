@@ -4,7 +4,7 @@ ghost use Rattle.ctl_sim.specs.Entry.{octets_of};
 ghost use Rattle.ctl_sim.specs.Serving.{Entry, Setting, with_more};
 ghost use Rattle.modem_sim.specs.declared.state.ModemState.{ModemState};
 ghost use Rattle.ctl_sim.specs.Leaving.{IsOfModem};
-ghost use Rattle.ctl_sim.specs.Standing.{EndsWith, HandlesText, IsEntered, MayBeFrame, Stands, StepsOn, setting_by, undecided, weight};
+ghost use Rattle.ctl_sim.specs.Standing.{EndsWith, HandlesText, Hears, IsEntered, MayBeFrame, Stands, StepsOn, setting_by, undecided, weight};
 ghost use Rattle.ctl_sim.specs.Coming.{may_be_frame, stands_before};
 ghost use Rattle.ctl_sim.specs.declared.server.Mode.TheVariants.{Lines, Mux};
 
@@ -16,6 +16,7 @@ use crate::steps::copied;
 use modem_sim::{Modem, Script, Sim, Steps};
 use mux_capture::{Found, first_frame};
 use mux_frame::N1;
+use results::beside;
 use std::alloc::{AllocError, Global};
 use std::marker::Model;
 
@@ -116,6 +117,22 @@ fn enter(setup: &Setup, modem: Modem, n1: N1) -> Result<Mode, AllocError>
     }))
 }
 
+/// Has plain lines take octets, to the end of a line that enters the multiplexer at most, and writes what is said to them. Gives the octets
+/// behind that line.
+fn hear(
+    setup: &Setup,
+    lines: &mut PlainMode,
+    octets: &[u8],
+    out: &mut Vec<u8>,
+) -> Result<Vec<u8>, AllocError>
+    ensures { IfOk result (λ behind. Hears lines.old lines.new octets.now behind.items out.old.items out.new.items) }
+{
+    let count = lines.feed(octets)?;
+    out.extend_from_slice(lines.said())?;
+    lines.clear_said();
+    Vec::from_slice(setup.alloc, &octets[count..])
+}
+
 /// Takes octets at plain lines, to the end of a line that enters the multiplexer at most. Gives those behind it, and the N1.
 fn take_lines(
     setup: &Setup,
@@ -128,13 +145,13 @@ fn take_lines(
     ensures steps { IfOk result (λ r. (m : ModemState)
         → StepsOn Stands undecided (setting_by setup.now m) (Lines plain) r.0 (option_map octets_of r.2) octets.now r.1.items out.old.items out.new.items) }
 {
-    let mut lines = plain;
-    let count = lines.feed(octets)?;
-    out.extend_from_slice(lines.said())?;
-    lines.clear_said();
-    let behind = Vec::from_slice(setup.alloc, &octets[count..])?;
+    let mut plain = plain;
+    let (behind, lines) = beside(hear(setup, &mut plain, octets, out), plain)?;
     match lines.entered() {
-        Some(n1) => Ok((enter(setup, lines.finish(), n1)?, behind, Some(n1))),
+        Some(n1) => {
+            let (mux, behind) = beside(enter(setup, lines.finish(), n1), behind)?;
+            Ok((mux, behind, Some(n1)))
+        }
         None => Ok((Mode::Lines(lines), behind, None)),
     }
 }
@@ -151,16 +168,14 @@ fn handle(
     ensures fault { IfErr result IsOfModem }
     ensures handles { IfOk result (λ mode. HandlesText setup.now sim n1.octets frame.now mode out.old.items out.new.items) }
 {
-    let mut mux = sim;
-    if feed(&mut mux, frame, out)? {
-        let (_line, modem) = mux.finish();
+    let mut sim = sim;
+    let (is_over, sim) = beside(feed(&mut sim, frame, out), sim)?;
+    if is_over {
+        let (_line, modem) = sim.finish();
         return Ok(Mode::Lines(PlainMode::new(setup.alloc, setup.n1, modem)));
     }
-    Ok(Mode::Mux(Muxed {
-        sim: mux,
-        n1,
-        kept: Vec::from_slice(setup.alloc, &[FLAG])?,
-    }))
+    let (kept, sim) = beside(Vec::from_slice(setup.alloc, &[FLAG]), sim)?;
+    Ok(Mode::Mux(Muxed { sim, n1, kept }))
 }
 
 /// Takes octets in the multiplexer, to the end of the first frame at most, and gives those behind it.

@@ -7,11 +7,11 @@ ghost use Rattle.modem_bench.specs.Faults.{opening_end, stop_end};
 ghost use Rattle.modem_bench.specs.declared.cause.Cause.TheVariants.{OtherOutcomes};
 
 use crate::cause::Cause;
-use crate::results::beside;
 use crate::signals::{Fault, Signals};
 use crate::submission::{Submission, names};
 use modem_desk::{Answer, Ask, Caller, Outcome};
 use mux_frame::Dlci;
+use results::beside;
 use std::alloc::Global;
 use std::sync::Wait;
 

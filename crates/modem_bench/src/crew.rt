@@ -5,10 +5,10 @@ ghost use Rattle.modem_bench.specs.Calling.{Works};
 ghost use Rattle.modem_bench.specs.Running.{AllWork, AreBack, AreCalled, AreOut, ComesBack, GoesOut, OpensFirst, StopsFirst};
 
 use crate::calling::{Worked, open_all, stop, work};
-use crate::results::beside;
 use crate::signals::{Fault, Signals};
 use crate::submission::{Submission, asks_for};
 use modem_desk::{Ask, Caller};
+use results::beside;
 use std::alloc::Global;
 use std::snapshot::Snapshot;
 use std::sync::Wait;

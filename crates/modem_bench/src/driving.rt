@@ -8,9 +8,9 @@ ghost use Rattle.modem_bench.specs.Faults.{halt_fault, session_fault};
 
 use crate::cause::Cause;
 use crate::limit::{Limit, Limits};
-use crate::results::unless_failed;
 use crate::signals::{Fault, Reason, Signals};
 use modem_driver::{Ended, Progress, Session, SessionFault, Turn};
+use results::unless_failed;
 use serial_line::SerialLine;
 use std::snapshot::Snapshot;
 use std::sync::Wait;

@@ -7,13 +7,13 @@ ghost use Rattle.modem_bench.specs.Driving.{IsBegun};
 ghost use Rattle.modem_bench.specs.Running.{AreFresh, IsLine};
 ghost use Rattle.modem_bench.specs.Simulating.{IsStarted};
 
-use crate::results::{beside, both};
 use crate::ringing_line::RingingLine;
 use crate::signals::{Fault, Signals};
 use bell::Bell;
 use modem_desk::{Caller, Desk, DriverEnd, Listener};
 use modem_driver::Session;
 use modem_sim::{Modem, ModemStart, Script, Sim};
+use results::{beside, both};
 use serial_line::{SerialLine, ThreadLine};
 use std::alloc::Global;
 use std::sync::Wait;

@@ -3,7 +3,7 @@
 //!
 //! # Layout
 //!
-//! - `running`, `threads`, `crew`, `limit`: a bench from its beginning to its end. `ends`, `settling`, `results`: both of these.
+//! - `running`, `threads`, `crew`, `limit`: a bench from its beginning to its end. `ends`, `settling`: both of these.
 //! - `driving`, `calling`, `simulating`: its threads. `submission`: what is asked. `signals`, `bells`, `ringing_line`: how they wake one
 //!   another. `cause`: why it is given up.
 //! - `meeting`, `rounds`: the same in one thread.
@@ -19,7 +19,6 @@ mod ends;
 pub mod laws;
 mod limit;
 mod meeting;
-mod results;
 mod ringing_line;
 mod rounds;
 mod running;

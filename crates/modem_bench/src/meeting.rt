@@ -9,12 +9,12 @@ ghost use Rattle.modem_sim.specs.Steps.{started};
 ghost use Rattle.modem_bench.specs.OneLine.{AreOnOneLine, at_nothing};
 ghost use Rattle.modem_bench.specs.Rounds.{look_in, pair, sight_in};
 
-use crate::results::beside;
 use crate::signals::Fault;
 use modem_desk::DriverEnd;
 use modem_driver::Session;
 use modem_sim::{Modem, ModemStart, Script, Sim};
 use mux_frame::N1;
+use results::beside;
 use serial_line::CutLine;
 use std::alloc::Global;
 use std::sync::Wait;

@@ -8,7 +8,6 @@ ghost use Rattle.modem_bench.specs.Running.{Ran, RanFor};
 
 use crate::ends::{Ends, begin, make_line};
 use crate::limit::Limits;
-use crate::results::beside;
 use crate::ringing_line::CountedLine;
 use crate::settling::settle_run;
 use crate::signals::{Fault, Signals};
@@ -16,6 +15,7 @@ use crate::submission::Submission;
 use crate::threads::run_beside;
 use modem_desk::Outcome;
 use modem_sim::Script;
+use results::beside;
 use serial_line::SerialLine;
 use std::alloc::Global;
 use std::sync::Wait;

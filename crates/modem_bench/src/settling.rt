@@ -5,10 +5,10 @@ ghost use Rattle.modem_driver.specs.SessionStates.{line_by};
 ghost use Rattle.modem_bench.specs.Driving.{IsOver, WasSettled};
 
 use crate::calling::Worked;
-use crate::results::beside;
 use crate::signals::Fault;
 use modem_desk::{Caller, Listener, Outcome, Settled, settle};
 use modem_driver::Session;
+use results::beside;
 use serial_line::SerialLine;
 use std::alloc::Global;
 use std::sync::Wait;

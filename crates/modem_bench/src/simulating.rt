@@ -6,10 +6,10 @@ ghost use Rattle.modem_bench.specs.Faults.{sim_end, sim_fault};
 ghost use Rattle.modem_bench.specs.Simulating.{IsSimulated};
 
 use crate::cause::Cause;
-use crate::results::spent;
 use crate::ringing_line::CountedLine;
 use crate::signals::{Fault, Signals};
 use modem_sim::{Sim, SimError, SimTurn};
+use results::spent;
 use serial_line::SerialLine;
 use std::snapshot::Snapshot;
 use std::sync::Wait;

@@ -1,5 +1,5 @@
 //! The threads of a bench: the driver's, the simulated modem's, and the callers' in between.
-ghost use Rattle.std.specs.Prelude.{◌≡◌, ◌≤◌, ◌<◌, IfOk, OnOk, length};
+ghost use Rattle.std.specs.Prelude.{◌≡◌, ◌≤◌, ◌<◌, IfOk, Ok, OnOk, length};
 ghost use Rattle.modem_driver.specs.SessionStates.{line_by};
 ghost use Rattle.modem_sim.specs.Sims.{sight};
 ghost use Rattle.modem_bench.specs.Driving.{Continues};
@@ -10,7 +10,6 @@ use crate::calling::Worked;
 use crate::crew::call;
 use crate::driving::{Later, drive};
 use crate::limit::Limits;
-use crate::results::{beside, both, spawned};
 use crate::ringing_line::CountedLine;
 use crate::signals::{Fault, Signals};
 use crate::simulating::{Ending, simulate};
@@ -18,12 +17,20 @@ use crate::submission::Submission;
 use modem_desk::Caller;
 use modem_driver::Session;
 use modem_sim::Sim;
+use results::{beside, both};
 use serial_line::SerialLine;
 use std::alloc::Global;
 use std::snapshot::Snapshot;
 use std::sync::Wait;
 use std::thread;
-use std::thread::{PromisedHandle, Threads};
+use std::thread::{PromisedHandle, SpawnError, Threads};
+
+/// A thread that was spawned. Generic, because proving the drop of a concrete closure is slow.
+fn spawned<H: Drop, F: Drop>(thread: Result<H, SpawnError<F>>) -> Result<H, Fault>
+    ensures { IfOk result (λ h. thread ≡ Ok h) }
+{
+    Ok(thread?)
+}
 
 /// Has a simulated modem go on in a thread of its own.
 fn send_modem<L, R>(

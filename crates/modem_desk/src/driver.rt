@@ -11,6 +11,7 @@ use crate::rule::{AddsCaller, Takes, View};
 use at_text::UrcKind;
 use bell::Bell;
 use crossbeam_queue::Pass;
+use results::beside;
 use rtrb::{Producer, PushError, RingBuffer};
 use std::alloc::{AllocError, Global};
 use std::marker::Model;
@@ -168,13 +169,17 @@ impl DriverEnd {
             × (c.place.number ≡ length self.old.desk.rings) × (c.place.first ≡ first)
             × IsFresh c) }
     {
-        let bell = share_of(bell)?;
-        let queue = Arc::try_clone(&self.queue)?;
-        let (producer, consumer) = RingBuffer::new(alloc, WAITING)?;
-        let number = self.rings.len() as u8;
+        self.rings.try_reserve(1)?;
         self.told_back.try_reserve(1)?;
-        self.rings.push(producer)?;
-        self.told_back.push(0)?;
+        let bell = share_of(bell)?;
+        let (queue, bell) = beside(Arc::try_clone(&self.queue), bell)?;
+        let ((producer, consumer), (queue, bell)) = beside(
+            RingBuffer::new(alloc, WAITING),
+            (queue, bell),
+        )?;
+        let number = self.rings.len() as u8;
+        self.rings.push(producer).unwrap();
+        self.told_back.push(0).unwrap();
         let pass = queue.another::<AddsCaller>(&mut self.pass);
         Ok(Caller::new(queue, pass, consumer, number, first, bell))
     }
@@ -203,14 +208,15 @@ impl DriverEnd {
             × (l.subscription.place ≡ length self.old.desk.line_rings) × (l.subscription.kind ≡ kind)
             × (l.heard ≡ []) × (l.seen ≡ [])) }
     {
-        let bell = share_of(bell)?;
-        let (producer, consumer) = RingBuffer::new(alloc, LINES)?;
-        let place = self.kinds.len();
+        self.lines.try_reserve(1)?;
         self.kinds.try_reserve(1)?;
         self.lines_back.try_reserve(1)?;
-        self.lines.push(producer)?;
-        self.kinds.push(kind)?;
-        self.lines_back.push(0)?;
+        let bell = share_of(bell)?;
+        let ((producer, consumer), bell) = beside(RingBuffer::new(alloc, LINES), bell)?;
+        let place = self.kinds.len();
+        self.lines.push(producer).unwrap();
+        self.kinds.push(kind).unwrap();
+        self.lines_back.push(0).unwrap();
         Ok(Listener::new(consumer, kind, place, bell))
     }
 
