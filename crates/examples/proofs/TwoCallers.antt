@@ -13,9 +13,7 @@ both all rest (x ∷ xs) first second two last before =
     absurd (omega (arith, two, a, b))
 
 -- callers that come back to their places at the same desk
-pub whole_after : (d e : DeskId) (a b x y : CallerView) (all : List CallerView) → IsWhole d (map place_of (a ∷ b ∷ [])) → e ≡ d
-    → x.place ≡ a.place → y.place ≡ b.place → all ≡ x ∷ y ∷ [] → IsWhole e (map place_of all)
-whole_after d e a b x y all whole desk first second items =
-    let places : map place_of all ≡ map place_of (a ∷ b ∷ []) =
-    ap (map place_of) items ∙ (λ i. first i ∷ second i ∷ []) in
-    subst (λ (z : DeskId × List Place). IsWhole z.0 z.1) (λ i. (sym desk i, sym places i)) whole
+pub whole_after : (d e : DeskId) (a b x y : CallerView) → IsWhole d (map place_of (a ∷ b ∷ [])) → e ≡ d → x.place ≡ a.place → y.place ≡ b.place
+    → IsWhole e (map place_of (x ∷ y ∷ []))
+whole_after d e a b x y whole desk first second =
+    subst (λ (z : DeskId × List Place). IsWhole z.0 z.1) (λ i. (sym desk i, sym first i ∷ sym second i ∷ [])) whole

@@ -1,4 +1,4 @@
-//! What two callers and a listener do beside one another.
+//! Two callers and a listener, and what they do beside one another.
 ghost use Rattle.std.specs.Prelude.{◌≡◌};
 
 use crate::calling::{Came, ask, hear};
@@ -10,19 +10,28 @@ use std::sync::Wait;
 use std::thread;
 use std::thread::Threads;
 
+/// Two callers, what each asks, and a listener.
+#[derive(Drop)]
+pub struct Crew {
+    pub callers: (Caller, Caller),
+    pub asks: (Ask, Ask),
+    pub listener: Listener,
+}
+
 /// The first caller opens connections 0 and 1. Both ask there, while a line is waited for. The first ends the multiplexer, and then
 /// the bell is over.
 pub fn call<R: Threads + Wait + Clock + Sync>(
     rt: &R,
     bell: &Bell,
-    callers: (Caller, Caller),
-    asks: (Ask, Ask),
-    listener: Listener,
+    crew: Crew,
 ) -> ((Caller, Caller), Came)
-    ensures { (result.0.0.place ≡ callers.0.place) × (result.0.1.place ≡ callers.1.place) }
+    ensures { (result.0.0.place ≡ crew.callers.0.place) × (result.0.1.place ≡ crew.callers.1.place) }
 {
-    let (first, second) = callers;
-    let (one, two) = asks;
+    let Crew {
+        callers: (first, second),
+        asks: (one, two),
+        listener,
+    } = crew;
     let (first, _opened) = ask(rt, first, Ask::OpenChannel(Dlci::CONTROL));
     let (first, _opened) = ask(rt, first, Ask::OpenChannel(Dlci::new(1).unwrap()));
     let ((caller, first), ((other, second), line)) = thread::join(

@@ -1,5 +1,6 @@
 //! A dialect of one's own: three rules, a command that one of them ends, and a line of a kind of its own.
 use crate::Stop;
+use crate::holding::with;
 use crate::own_codes::ask_both;
 use at_text::{Dialect, DialectError, Form};
 use modem_driver::{Answer, Endpoint, Urc};
@@ -31,8 +32,24 @@ fn print_both<R: Print>(rt: &R, dialect: &Dialect, answer: &Answer, line: &Urc) 
     }
 }
 
-/// The driver listens to the kind of the name QIURC.
-pub fn drive<R: Print>(
+/// Asks, and prints what came.
+fn print_asked<R: Print>(
+    rt: &R,
+    alloc: Global,
+    dialect: &Dialect,
+    driver: &mut Endpoint,
+    modem: &mut Sim<CutLine>,
+) -> Result<(), Stop> {
+    let outcome = ask_both(alloc, driver, modem)?;
+    let Some(line) = driver.poll_unsolicited() else {
+        return Err(Stop::Unexpected);
+    };
+    print_both(rt, dialect, &outcome.answer, &line);
+    Ok(())
+}
+
+/// The driver listens to the kind of the name QIURC. `with` lends it.
+fn drive<R: Print>(
     rt: &R,
     alloc: Global,
     dialect: &Dialect,
@@ -41,13 +58,15 @@ pub fn drive<R: Print>(
     let Some(kind) = dialect.kind_named(b"QIURC") else {
         return Err(Stop::Unexpected);
     };
-    let Ok(mut driver) = Endpoint::with_dialect(alloc, 31, dialect, &[kind], 1) else {
-        return Err(Stop::NoMemory);
-    };
-    let outcome = ask_both(alloc, &mut driver, modem)?;
-    match driver.poll_unsolicited() {
-        Some(line) => print_both(rt, dialect, &outcome.answer, &line),
-        None => return Err(Stop::Unexpected),
-    }
-    Ok(())
+    let driver = Endpoint::with_dialect(alloc, 31, dialect, &[kind], 1);
+    with(
+        driver,
+        |driver| print_asked(rt, alloc, dialect, driver, modem),
+    )
+}
+
+/// Runs a driver that knows the dialect, at this modem.
+pub fn run<R: Print>(rt: &R, alloc: Global, modem: &mut Sim<CutLine>) -> Result<(), Stop> {
+    let dialect = dialect(alloc)?;
+    drive(rt, alloc, &dialect, modem)
 }

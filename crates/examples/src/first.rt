@@ -9,23 +9,23 @@ use std::alloc::Global;
 
 /// Asks the modem for its signal (27.007, 8.5).
 pub fn signal(alloc: Global, modem: &mut Sim<CutLine>) -> Result<Outcome, Stop> {
-    let command = CommandLine::new(alloc, b"AT+CSQ")?;
     let mut driver = Endpoint::new(alloc, 31, &[], 1)?;
-    ask(&mut driver, modem, Dlci::new(1).unwrap(), command)
+    ask(alloc, &mut driver, modem, Dlci::new(1).unwrap(), b"AT+CSQ")
 }
 
 /// Opens connection 0 and this one, sends the command, and gives its outcome.
 pub fn ask(
+    alloc: Global,
     driver: &mut Endpoint,
     modem: &mut Sim<CutLine>,
     dlci: Dlci,
-    command: CommandLine,
+    command: &[u8],
 ) -> Result<Outcome, Stop> {
     driver.open(Dlci::CONTROL)?;
     outcome(driver, modem)?;
     driver.open(dlci)?;
     outcome(driver, modem)?;
-    driver.command(dlci, command)?;
+    driver.command(dlci, CommandLine::new(alloc, command)?)?;
     outcome(driver, modem)
 }
 

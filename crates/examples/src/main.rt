@@ -8,6 +8,7 @@ mod dialect;
 mod driving;
 mod first;
 mod frames;
+mod holding;
 mod own_codes;
 mod own_line;
 mod own_modem;
@@ -88,7 +89,7 @@ impl From<DialectError> for Stop {
 }
 
 /// Prints what two callers were told and a listener heard.
-fn print_session<R: Print>(rt: &R, alloc: Global, came: &Came) -> Result<(), Stop> {
+fn print_came<R: Print>(rt: &R, alloc: Global, came: &Came) -> Result<(), Stop> {
     let (Some(one), Some(two), Some(line)) = (&came.first, &came.second, &came.line) else {
         return Err(Stop::Unexpected);
     };
@@ -98,15 +99,32 @@ fn print_session<R: Print>(rt: &R, alloc: Global, came: &Came) -> Result<(), Sto
     Ok(())
 }
 
+/// A session, its callers and a listener in threads.
+fn run_threads<R>(rt: &R, alloc: Global) -> Result<(), Stop>
+where
+    R: Threads + Wait + Clock + Print + Sync + Send + Copy + Drop,
+{
+    let came = session::run(rt, alloc)?;
+    print_came(rt, alloc, &came)
+}
+
+/// A session and its caller in one thread.
+fn run_polled<R>(rt: &R, alloc: Global) -> Result<(), Stop>
+where
+    R: Wait + RandomSource + AllocGlobal + Print + Copy + Drop,
+{
+    let answer = polled::run(rt, alloc)?;
+    print_signal(rt, alloc, &answer)
+}
+
 fn run<R>(rt: &R, alloc: Global) -> Result<(), Stop>
 where
     R: Threads + Wait + Clock + RandomSource + AllocGlobal + Print + Sync + Send + Copy + Drop,
 {
     typed::run(rt, alloc)?;
     own_codes::run(rt, alloc)?;
-    let came = session::run(rt, alloc)?;
-    print_session(rt, alloc, &came)?;
-    print_signal(rt, alloc, &polled::run(rt, alloc)?)?;
+    run_threads(rt, alloc)?;
+    run_polled(rt, alloc)?;
     own_line::run(rt, alloc)?;
     frames::run(rt, alloc)?;
     desk::run(rt, alloc)

@@ -1,9 +1,8 @@
 //! A modem whose codes go beyond the standard's, and what it is asked.
-use crate::Stop;
-use crate::dialect::{dialect, drive};
 use crate::first::ask;
+use crate::holding::with;
 use crate::own_modem::{modem_in_memory, says};
-use at_text::CommandLine;
+use crate::{Stop, dialect};
 use modem_driver::{Endpoint, Outcome};
 use modem_sim::{Sim, Step, StepAct};
 use mux_frame::Dlci;
@@ -30,25 +29,12 @@ pub fn ask_both(
     driver: &mut Endpoint,
     modem: &mut Sim<CutLine>,
 ) -> Result<Outcome, Stop> {
-    let _answered = ask(
-        driver,
-        modem,
-        Dlci::new(2).unwrap(),
-        CommandLine::new(alloc, b"AT")?,
-    )?;
-    ask(
-        driver,
-        modem,
-        Dlci::new(1).unwrap(),
-        CommandLine::new(alloc, b"AT+QISEND=0")?,
-    )
+    let _answered = ask(alloc, driver, modem, Dlci::new(2).unwrap(), b"AT")?;
+    ask(alloc, driver, modem, Dlci::new(1).unwrap(), b"AT+QISEND=0")
 }
 
-/// Runs a driver that knows the dialect, and this modem.
+/// Runs a driver that knows the dialect, and this modem. `with` lends the modem.
 pub fn run<R: Print>(rt: &R, alloc: Global) -> Result<(), Stop> {
-    let dialect = dialect(alloc)?;
-    match modem_in_memory(alloc, steps(alloc)?) {
-        Ok(mut modem) => drive(rt, alloc, &dialect, &mut modem),
-        Err(stop) => Err(stop),
-    }
+    let modem = modem_in_memory(alloc, steps(alloc)?);
+    with(modem, |modem| dialect::run(rt, alloc, modem))
 }

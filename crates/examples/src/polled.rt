@@ -1,13 +1,14 @@
 //! A session, a simulated modem and a caller as three futures under one executor, in one thread. Of a session that is polled only
 //! the end is known: who wants to settle its desk polls it by `advance`, as `driving` does.
 use crate::Stop;
+use crate::holding::beside;
 use crate::session::begin;
 use crate::typed::signal_ask;
 use futures::Future;
 use futures::executor::block_on;
 use futures::future::join3;
 use futures::task::{Context, Poll};
-use modem_desk::{Answer, Ask, Caller, Desk};
+use modem_desk::{Answer, Ask, Caller, Desk, DriverEnd};
 use modem_driver::{Ended, Session};
 use modem_sim::Sim;
 use mux_frame::Dlci;
@@ -87,25 +88,35 @@ where
     }
 }
 
-/// Asks for the signal on connection 1.
-pub fn run<R>(rt: &R, alloc: Global) -> Result<Answer, Stop>
-where
-    R: Wait + RandomSource + AllocGlobal + Copy + Drop,
-{
-    let asks = asks(alloc)?;
+/// A desk of one caller.
+fn ends(alloc: Global) -> Result<(DriverEnd, Caller), Stop> {
     let Ok((driver, mut callers, _)) = Desk::open(alloc, 1, &[]) else {
         return Err(Stop::NoMemory);
     };
-    let Some(caller) = callers.pop() else {
-        return Err(Stop::Unexpected);
-    };
-    let (session, modem) = begin(*rt, alloc, driver)?;
+    let caller = callers.pop().unwrap();
+    Ok((driver, caller))
+}
+
+/// The driver's end of a desk, and its caller who asks for the signal on connection 1.
+fn make_asking<R: Wait + Drop>(rt: R, alloc: Global) -> Result<(DriverEnd, Asking<R>), Stop> {
+    let asks = asks(alloc)?;
+    let (driver, caller) = ends(alloc)?;
     let asking = Asking {
-        rt: *rt,
+        rt,
         caller,
         asks,
         waits: false,
         answer: None,
     };
+    Ok((driver, asking))
+}
+
+/// Asks for the signal on connection 1.
+pub fn run<R>(rt: &R, alloc: Global) -> Result<Answer, Stop>
+where
+    R: Wait + RandomSource + AllocGlobal + Copy + Drop,
+{
+    let (driver, asking) = make_asking(*rt, alloc)?;
+    let ((session, modem), asking) = beside(begin(*rt, alloc, driver), asking)?;
     poll_all(rt, session, modem, asking)
 }

@@ -1,26 +1,34 @@
 //! Ends a session, and settles its desk.
-ghost use Rattle.std.specs.Prelude.{map};
+ghost use Rattle.std.specs.Prelude.{[], ◌∷◌, map};
 ghost use Rattle.modem_desk.specs.Ends.{IsWhole, place_of};
 
 use crate::Stop;
 use modem_desk::{Caller, Settled, settle};
-use modem_driver::Session;
+use modem_driver::{Finished, Session};
 use serial_line::SerialLine;
 use std::alloc::Global;
 use std::sync::Wait;
 
-/// Ends a session, settles its desk with all its callers, and gives what the desk still held.
+fn expect_none_left(settled: &Settled) -> Result<(), Stop> {
+    if settled.left.is_empty() {
+        return Ok(());
+    }
+    Err(Stop::Unexpected)
+}
+
+/// Ends a session, and settles its desk with both its callers: no request was left.
 pub fn end<L: SerialLine + Drop, R: Wait + Drop>(
     rt: &R,
     alloc: Global,
     session: Session<L, R>,
-    callers: Vec<Caller>,
-) -> Result<Settled, Stop>
-    requires { IsWhole session.driver.desk (map place_of callers.items) }
+    callers: (Caller, Caller),
+) -> Result<(), Stop>
+    requires { IsWhole session.driver.desk (map place_of (callers.0 ∷ callers.1 ∷ [])) }
 {
-    let finished = session.finish();
-    match settle(rt, alloc, finished.driver, callers, Vec::new(alloc)) {
-        Ok(settled) => Ok(settled),
+    let Finished { driver, .. } = session.finish();
+    let callers = Vec::from_array(alloc, [callers.0, callers.1])?;
+    match settle(rt, alloc, driver, callers, Vec::new(alloc)) {
+        Ok(settled) => expect_none_left(&settled),
         Err(_) => Err(Stop::NoMemory),
     }
 }

@@ -2,9 +2,10 @@
 ghost use Rattle.std.specs.Prelude.{◌≡◌};
 
 use crate::calling::Came;
-use crate::crew::call;
+use crate::crew::{Crew, call};
+use crate::holding::lend;
 use bell::Bell;
-use modem_desk::{Ask, Caller, Listener};
+use modem_desk::Caller;
 use modem_sim::{Sim, SimTurn};
 use serial_line::SerialLine;
 use std::rt::Clock;
@@ -13,7 +14,7 @@ use std::thread::{self, Threads};
 use std::time::Duration;
 
 /// Has a modem go on until it has ended, or the bell is over.
-fn simulate<L: SerialLine + Drop, R: Clock>(rt: &R, bell: &Bell, mut modem: Sim<L>) {
+fn simulate<L: SerialLine, R: Clock>(rt: &R, bell: &Bell, modem: &mut Sim<L>) {
     for _ in 0..u64::MAX {
         match modem.turn() {
             Ok(SimTurn::Moved) => {}
@@ -23,21 +24,19 @@ fn simulate<L: SerialLine + Drop, R: Clock>(rt: &R, bell: &Bell, mut modem: Sim<
     }
 }
 
-/// The callers and the listener work beside the modem.
+/// The crew works beside the modem.
 pub fn use_modem<L: SerialLine + Drop + Send, R: Threads + Wait + Clock + Sync>(
     rt: &R,
     bell: &Bell,
     modem: Sim<L>,
-    callers: (Caller, Caller),
-    asks: (Ask, Ask),
-    listener: Listener,
+    crew: Crew,
 ) -> ((Caller, Caller), Came)
-    ensures { (result.0.0.place ≡ callers.0.place) × (result.0.1.place ≡ callers.1.place) }
+    ensures { (result.0.0.place ≡ crew.callers.0.place) × (result.0.1.place ≡ crew.callers.1.place) }
 {
     let ((), called) = thread::join(
         rt,
-        move || simulate(rt, bell, modem),
-        move || call(rt, bell, callers, asks, listener),
+        move || lend(modem, |modem| simulate(rt, bell, modem)),
+        move || call(rt, bell, crew),
     );
     called
 }

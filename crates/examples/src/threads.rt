@@ -4,11 +4,12 @@ ghost use Rattle.modem_desk.specs.Ends.{IsWhole, place_of};
 
 use crate::Stop;
 use crate::calling::Came;
+use crate::crew::Crew;
 use crate::driving::drive;
+use crate::holding::beside;
 use crate::settling::end;
 use crate::simulating::use_modem;
 use bell::Bell;
-use modem_desk::{Ask, Caller, Listener, Settled};
 use modem_driver::Session;
 use modem_sim::Sim;
 use serial_line::SerialLine;
@@ -25,18 +26,15 @@ pub fn run_beside<L: SerialLine + Drop + Send, R: Threads + Wait + Clock + Sync 
     bell: &Bell,
     session: Session<L, R>,
     modem: Sim<L>,
-    callers: (Caller, Caller),
-    asks: (Ask, Ask),
-    listener: Listener,
-) -> Result<(Came, Settled), Stop>
-    requires { IsWhole session.driver.desk (map place_of (callers.0 ∷ callers.1 ∷ [])) }
+    crew: Crew,
+) -> Result<Came, Stop>
+    requires { IsWhole session.driver.desk (map place_of (crew.callers.0 ∷ crew.callers.1 ∷ [])) }
 {
     let (session, (callers, came)) = thread::join(
         rt,
         move || drive(rt, bell, session),
-        move || use_modem(rt, bell, modem, callers, asks, listener),
+        move || use_modem(rt, bell, modem, crew),
     );
-    let callers = Vec::from_array(alloc, [callers.0, callers.1])?;
-    let settled = end(rt, alloc, session, callers)?;
-    Ok((came, settled))
+    let ((), came) = beside(end(rt, alloc, session, callers), came)?;
+    Ok(came)
 }

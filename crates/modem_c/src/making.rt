@@ -11,9 +11,33 @@ use crate::driver::Cimbaloty;
 use crate::kinds::{kinds_in, kinds_of_sets};
 use crate::numbers::{BAD_KINDS, BAD_N1, HAS_DRIVER, NO_DIALECT, NO_MEMORY, OK};
 use at_text::Dialect;
-use modem_driver::{Endpoint, SessionError};
+use modem_driver::Endpoint;
 use mux_frame::N1;
 use std::alloc::Global;
+
+/// A value in a box; nothing where there is no memory for it. It may be any value here, so this proves at little cost.
+fn boxed<T: Drop>(alloc: Global, value: T) -> Option<Box<T>>
+    ensures { IfSome result (λ b. b.value ≡ value) }
+{
+    match Box::new(alloc, value) {
+        Ok(kept) => Some(kept),
+        Err(_) => None,
+    }
+}
+
+/// An endpoint at a modem of the standard's codes, which listens to the kinds of a set.
+fn make_standard(alloc: Global, n1: N1, kinds: u8, first: u64) -> Option<Box<Endpoint>>
+    ensures made { IfSome result (λ b. b.value ≡ new_endpoint n1.octets (kinds_in kinds) first) }
+    ensures begins { IfSome result (λ b. Begins n1.octets (kinds_in kinds) b.value) }
+{
+    let Ok(kinds) = kinds_in(alloc, kinds) else {
+        return None;
+    };
+    match Endpoint::new(alloc, n1.octets, kinds.as_slice(), first) {
+        Ok(endpoint) => boxed(alloc, endpoint),
+        Err(_) => None,
+    }
+}
 
 /// Makes a driver where there is none.
 #[unsafe(no_mangle)]
@@ -43,18 +67,12 @@ pub extern "C" fn cimbaloty_new(
     let Some(n1) = N1::new(n1) else {
         return BAD_N1;
     };
-    let Ok(kinds) = kinds_in(alloc, kinds) else {
-        return NO_MEMORY;
-    };
-    match Endpoint::new(alloc, n1.octets, kinds.as_slice(), first) {
-        Ok(endpoint) => match Box::new(alloc, endpoint) {
-            Ok(endpoint) => {
-                *c = Cimbaloty::of(endpoint);
-                OK
-            }
-            Err(_) => NO_MEMORY,
-        },
-        Err(why) => why.number(),
+    match make_standard(alloc, n1, kinds, first) {
+        Some(endpoint) => {
+            *c = Cimbaloty::of(endpoint);
+            OK
+        }
+        None => NO_MEMORY,
     }
 }
 
@@ -73,14 +91,31 @@ fn make(
     let Ok(kinds) = kinds_of_sets(alloc, kinds, own) else {
         return None;
     };
-    let Ok(endpoint) = Endpoint::with_dialect(alloc, n1.octets, dialect, kinds.as_slice(), first)
-    else {
-        return None;
-    };
-    match Box::new(alloc, endpoint) {
-        Ok(endpoint) => Some(endpoint),
+    match Endpoint::with_dialect(alloc, n1.octets, dialect, kinds.as_slice(), first) {
+        Ok(endpoint) => boxed(alloc, endpoint),
         Err(_) => None,
     }
+}
+
+/// The same at a modem of the dialect that C keeps, if there is one.
+fn make_by(
+    alloc: Global,
+    d: &mut CimbalotyDialect,
+    n1: N1,
+    kinds: u8,
+    own: u64,
+    first: u64,
+) -> Option<Box<Endpoint>>
+    ensures made { IfSome result (λ b. Has d.old (λ r.
+        b.value ≡ endpoint_by r n1.octets (kinds_of_sets kinds own) first)) }
+    ensures begins { IfSome result (λ b. Has d.old (λ r.
+        BeginsBy (dialect_of r) n1.octets (kinds_of_sets kinds own) b.value)) }
+    ensures stays { rules_of d.new ≡ rules_of d.old }
+{
+    let dialect = d.take(alloc)?;
+    let made = make(alloc, &dialect, n1, kinds, own, first);
+    *d = CimbalotyDialect::of(dialect);
+    made
 }
 
 /// Makes a driver of a modem of this dialect where there is none.
@@ -118,12 +153,10 @@ pub extern "C" fn cimbaloty_new_with_dialect(
     let Some(n1) = N1::new(n1) else {
         return BAD_N1;
     };
-    let Some(dialect) = d.take(alloc) else {
+    if !d.is_there() {
         return NO_DIALECT;
-    };
-    let made = make(alloc, &dialect, n1, kinds, own, first);
-    *d = CimbalotyDialect::of(dialect);
-    match made {
+    }
+    match make_by(alloc, d, n1, kinds, own, first) {
         Some(endpoint) => {
             *c = Cimbaloty::of(endpoint);
             OK

@@ -7,5 +7,5 @@ end-requires g c =
     let first = c.join-session.ensures.first in
     let second = c.join-session.ensures.second in
     let came = c.join-session.result in
-    whole_after c.args.session.driver.desk came.0.driver.desk c.args.callers.0 c.args.callers.1 came.1.0.0 came.1.0.1 c.in_ok-callers.callers.items
-    c.requires (search (first)) (search (second)) (search (second)) c.in_ok-callers.ensures.items
+    whole_after c.args.session.driver.desk came.0.driver.desk c.args.crew.callers.0 c.args.crew.callers.1 came.1.0.0 came.1.0.1 c.requires
+    (search (first)) (search (second)) (search (second))
