@@ -1,0 +1,15 @@
+//! What a simulated modem on such a line comes to.
+ghost use Rattle.modem_data_sim.specs.SimLaws.{TellsSim};
+
+use mux_frame::laws::deframed;
+use serial_line::SerialLine;
+
+/// A simulated modem over a line with a relay of a responder has the line's own frames, but for data. The frames that it got are
+/// the first of those that came, and all of them where nothing waits on the way. Those that it gave on leave whole and in order; the
+/// others that it sent wait in its control queue.
+#[tactic(auto, using(crate::proofs::SimLaws::tells_sim))]
+pub fn modems<L: SerialLine>()
+    ensures { TellsSim L.received L.sent }
+{
+    deframed();
+}
