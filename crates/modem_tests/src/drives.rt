@@ -136,15 +136,18 @@ fn ends<R: Clock + Copy>(
     Ok((reading, writing, asking))
 }
 
-/// Drives one command. Memory may be refused between the two marks.
-fn drive_one<R>(rt: &R, mark: &str) -> Result<Came, Fail>
+/// Drives the command, and gives the fault, if there is one. Memory may be refused between the two marks.
+fn drive<R>(
+    rt: &R,
+    mark: &str,
+    ends: (Reading<R>, Writing, Asking),
+    printed: &mut Vec<u8>,
+    faults: &mut Vec<u8>,
+) -> Option<DriveFault>
 where
-    R: Threads + Wait + Clock + AllocGlobal + Print + Abort + Copy + Send + Drop + 'static,
+    R: Threads + Wait + Clock + AllocGlobal + Print + Copy + Send + Drop + 'static,
 {
-    let alloc = rt.alloc();
-    let written = Arc::new(alloc, AtomicUsize::new(0))?;
-    let (reading, writing, asking) = ends(rt, &written)?;
-    let dialect = Dialect::standard(alloc);
+    let dialect = Dialect::standard(rt.alloc());
     let settings = Settings {
         n1: 31,
         entry: None,
@@ -154,25 +157,50 @@ where
         data: &[],
         capture: None,
     };
-    let mut printed = Vec::with_capacity(alloc, 256)?;
-    let mut faults = Vec::with_capacity(alloc, 256)?;
-    let device = (reading, writing);
+    let (reading, writing, asking) = ends;
     let _ = rt.println(format_args!("> {mark}"));
     let ended = drive_threaded::<R, Reading<R>, Writing, Vec<u8>, Asking, Vec<u8>, Vec<u8>>(
         rt,
-        device,
+        (reading, writing),
         None,
         asking,
-        &mut printed,
-        &mut faults,
+        printed,
+        faults,
         settings,
     );
     let _ = rt.println("<");
+    fault_of(ended)
+}
+
+/// Drives it with what counts the octets that are written to the device.
+fn drive_counted<R>(
+    rt: &R,
+    mark: &str,
+    written: &Written,
+    printed: &mut Vec<u8>,
+) -> Result<Option<DriveFault>, AllocError>
+where
+    R: Threads + Wait + Clock + AllocGlobal + Print + Copy + Send + Drop + 'static,
+{
+    let mut faults = Vec::with_capacity(rt.alloc(), 256)?;
+    let ends = ends(rt, written)?;
+    Ok(drive(rt, mark, ends, printed, &mut faults))
+}
+
+/// What comes of it.
+fn drive_one<R>(rt: &R, mark: &str) -> Result<Came, Fail>
+where
+    R: Threads + Wait + Clock + AllocGlobal + Print + Abort + Copy + Send + Drop + 'static,
+{
+    let written = Arc::new(rt.alloc(), AtomicUsize::new(0))?;
+    let mut printed = Vec::with_capacity(rt.alloc(), 256)?;
+    let fault = drive_counted(rt, mark, &written, &mut printed)?;
     assert!(rt; are_let_go(rt, &written));
+    let written = written.load(Ordering::SeqCst);
     Ok(Came {
-        fault: fault_of(ended),
+        fault,
         printed,
-        written: written.load(Ordering::SeqCst),
+        written,
     })
 }
 

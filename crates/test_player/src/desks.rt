@@ -1,9 +1,10 @@
 //! A desk by itself: it is opened, filled and settled.
-ghost use Rattle.std.specs.Prelude.{◌≡◌, IfOk, map};
+ghost use Rattle.std.specs.Prelude.{◌≡◌, IfErr, IfOk, map};
 ghost use Rattle.modem_desk.specs.Ends.{place_of, subscription_of, IsWhole, AreSubscribed};
 
+use crate::lines::Host;
+use crate::printing::{mark, print_count};
 use crate::setup::Setup;
-use crate::words::{Host, Lines, mark};
 use at_text::{Text, UrcKind};
 use ctl_run::Stop;
 use modem_desk::*;
@@ -19,7 +20,7 @@ const TAKEN: u32 = 16;
 /// A desk's ends.
 type Opened = (DriverEnd, Vec<Caller>, Vec<Listener>);
 
-fn open_once(setup: &Setup) -> Result<Opened, Stop>
+pub fn open_once(setup: &Setup) -> Result<Opened, Stop>
     ensures callers { IfOk result (λ ends. IsWhole ends.0.desk (map place_of ends.1.items)) }
     ensures listeners { IfOk result (λ ends. AreSubscribed ends.0.desk (map subscription_of ends.2.items)) }
 {
@@ -141,58 +142,70 @@ fn announce_all(driver: &mut DriverEnd, alloc: Global, kinds: &[UrcKind], dlci: 
     }
 }
 
+/// Fills queue and rings: each caller submits until it is refused, the driver takes 16 requests, tells each caller outcomes until
+/// one comes back, and announces lines of each kind until one comes back.
+fn fill<R: Host>(rt: &R, setup: &Setup, driver: &mut DriverEnd, callers: &mut Vec<Caller>)
+    ensures desk { driver.new.desk ≡ driver.old.desk }
+    ensures places { map place_of callers.new.items ≡ map place_of callers.old.items }
+{
+    submit_all(rt, callers);
+    take_some(rt, driver);
+    tell_all(driver);
+    announce_all(
+        driver,
+        setup.alloc,
+        setup.kinds.as_slice(),
+        Dlci::new(1).unwrap(),
+    );
+}
+
+/// Ends a desk. Where memory is refused, its ends come back.
+fn settle_once<R: Host>(rt: &R, alloc: Global, ends: Opened) -> Result<Settled, Opened>
+    requires callers { IsWhole ends.0.desk (map place_of ends.1.items) }
+    requires listeners { AreSubscribed ends.0.desk (map subscription_of ends.2.items) }
+    ensures callers { IfErr result (λ ends. IsWhole ends.0.desk (map place_of ends.1.items)) }
+    ensures listeners { IfErr result (λ ends. AreSubscribed ends.0.desk (map subscription_of ends.2.items)) }
+{
+    let (driver, callers, listeners) = ends;
+    match settle(rt, alloc, driver, callers, listeners) {
+        Ok(settled) => Ok(settled),
+        Err(refused) => Err((refused.driver, refused.callers, refused.listeners)),
+    }
+}
+
 /// Ends a desk, by a second call where memory was refused.
 fn settle_all<R: Host>(rt: &R, alloc: Global, ends: Opened) -> Result<Settled, Stop>
     requires callers { IsWhole ends.0.desk (map place_of ends.1.items) }
     requires listeners { AreSubscribed ends.0.desk (map subscription_of ends.2.items) }
 {
-    let (driver, callers, listeners) = ends;
     mark(rt, true, "> settle");
-    let refused = match settle(rt, alloc, driver, callers, listeners) {
-        Ok(settled) => {
-            mark(rt, true, "<");
-            return Ok(settled);
-        }
-        Err(refused) => refused,
+    let settled = match settle_once(rt, alloc, ends) {
+        Ok(settled) => Ok(settled),
+        Err(ends) => settle_once(rt, alloc, ends),
     };
-    let SettleRefused {
-        driver,
-        callers,
-        listeners,
-        ..
-    } = refused;
-    let settled = settle(rt, alloc, driver, callers, listeners);
     mark(rt, true, "<");
-    settled.map_err(|_| Stop::NoMemory)
+    match settled {
+        Ok(settled) => Ok(settled),
+        Err(_) => Err(Stop::NoMemory),
+    }
 }
 
 /// How many requests are left, and how many outcomes and lines each ring had.
 fn print_settled<R: Host>(rt: &R, settled: &Settled) {
-    let left = settled.left.len();
-    let _ = rt.println(format_args!("{left} left"));
+    print_count(rt, settled.left.len(), "left");
     for outcomes in &settled.untaken {
-        let count = outcomes.len();
-        let _ = rt.println(format_args!("{count} untaken"));
+        print_count(rt, outcomes.len(), "untaken");
     }
     for lines in &settled.unheard {
-        let count = lines.len();
-        let _ = rt.println(format_args!("{count} unheard"));
+        print_count(rt, lines.len(), "unheard");
     }
 }
 
-/// Opens a desk with the callers and the kinds of the setup; each caller submits until it is refused, the driver takes 16 requests,
-/// tells each caller outcomes until one comes back, and announces lines of each kind until one comes back; then the desk is settled.
-pub fn play<R: Host>(lines: &mut Lines<R>, setup: &Setup) -> Result<(), Stop> {
-    let rt = lines.rt;
-    let Some(dlci) = Dlci::new(1) else {
-        return Ok(());
-    };
-    let (mut driver, mut callers, listeners) = open(&rt, setup)?;
-    submit_all(&rt, &mut callers);
-    take_some(&rt, &mut driver);
-    tell_all(&mut driver);
-    announce_all(&mut driver, setup.alloc, setup.kinds.as_slice(), dlci);
-    let settled = settle_all(&rt, setup.alloc, (driver, callers, listeners))?;
-    print_settled(&rt, &settled);
+/// Opens a desk with the callers and the kinds of the setup, fills it, and settles it.
+pub fn play<R: Host>(rt: &R, setup: &Setup) -> Result<(), Stop> {
+    let (mut driver, mut callers, listeners) = open(rt, setup)?;
+    fill(rt, setup, &mut driver, &mut callers);
+    let settled = settle_all(rt, setup.alloc, (driver, callers, listeners))?;
+    print_settled(rt, &settled);
     Ok(())
 }

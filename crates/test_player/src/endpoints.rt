@@ -1,9 +1,13 @@
 //! An endpoint and its caller.
+ghost use Rattle.std.specs.Prelude.{◌≤◌};
+
+use crate::holding::lend;
+use crate::lines::{Begins, Host, Player};
+use crate::printing::{print_act, print_octets, print_refused, show};
 use crate::setup::Setup;
-use crate::words::{BAD, Begins, Host, Lines, Player, event, number, play_by, print_octets, split};
-use ctl_run::{Stop, push_act};
-use modem_driver::{Act, Ask, Endpoint, Event, RequestError, SessionError, SessionFault};
-use std::alloc::Global;
+use crate::words::{BAD, dlci, event, number, split};
+use ctl_run::Stop;
+use modem_driver::{Act, Ask, Endpoint, Event, Left, RequestError, SessionError};
 
 /// The most octets of a piece.
 const MOST: usize = 4096;
@@ -18,18 +22,10 @@ const MOST: usize = 4096;
 /// - `state D`: how the connection stands. `wants`: whether it wants ticks.
 /// - `finish`: the endpoint ends, and so does the script. It prints how many requests, outcomes and lines are left.
 #[derive(Drop)]
-struct Played<R: Host> {
+pub struct Played<R: Host> {
     rt: R,
-    alloc: Global,
     endpoint: Endpoint,
     sent: Vec<u8>,
-}
-
-fn print_act<R: Host>(rt: &R, act: &Act) -> Result<(), Stop> {
-    let mut text = String::new(rt.alloc());
-    push_act(rt.alloc(), act, &mut text)?;
-    let _ = rt.print(text.as_str());
-    Ok(())
 }
 
 /// Makes a request.
@@ -59,44 +55,33 @@ impl<R: Host> Played<R> {
         }
     }
 
-    fn ask(&mut self, ask: Ask) {
-        if let Err(why) = request(&mut self.endpoint, ask) {
-            let _ = self.rt.println(format_args!("{why}"));
-        }
-    }
-
-    fn print_fault(&self, came: Result<(), SessionFault>) {
-        if let Err(why) = came {
-            let _ = self.rt.println(format_args!("{why}"));
-        }
-    }
-
     fn happen(&mut self, line: &str) -> Result<(), Stop> {
-        match event(self.alloc, line)? {
-            Event::Ask(request) => self.ask(request.ask),
+        match event(self.rt.alloc(), line)? {
+            Event::Ask(asked) => print_refused(&self.rt, request(&mut self.endpoint, asked.ask)),
             Event::Octets(octets) => self.come(octets.into_vec().as_slice()),
-            Event::Tick => {
-                let came = self.endpoint.tick();
-                self.print_fault(came);
-            }
-            Event::Lost => {
-                let came = self.endpoint.line_lost();
-                self.print_fault(came);
-            }
+            Event::Tick => print_refused(&self.rt, self.endpoint.tick()),
+            Event::Lost => print_refused(&self.rt, self.endpoint.line_lost()),
         }
         Ok(())
+    }
+
+    /// Takes a piece of so many octets, and says whether it was whole.
+    fn take_piece(&mut self, most: usize) -> Result<bool, Stop>
+        requires { most ≤ 4096 }
+    {
+        let mut room = [0; MOST];
+        let count = self.endpoint.poll_output(&mut room[..most]);
+        self.sent.extend_from_slice(&room[..count])?;
+        Ok(count == most)
     }
 
     fn go_out(&mut self, most: usize) -> Result<(), Stop> {
         if most == 0 || most > MOST {
             return Err(BAD);
         }
-        let mut room = [0; MOST];
         let rt = self.rt;
         for _ in rt.forever() {
-            let count = self.endpoint.poll_output(&mut room[..most]);
-            self.sent.extend_from_slice(&room[..count])?;
-            if count < most {
+            if !self.take_piece(most)? {
                 return Ok(());
             }
         }
@@ -109,49 +94,36 @@ impl<R: Host> Played<R> {
         Ok(())
     }
 
-    fn take_outcomes(&mut self) -> Result<(), Stop> {
+    /// The unsolicited line that waits first, or the outcome that does.
+    fn next(&mut self, is_line: bool) -> Option<Act> {
+        if is_line {
+            return self.endpoint.poll_unsolicited().map(Act::Heard);
+        }
+        self.endpoint.poll_outcome().map(Act::Told)
+    }
+
+    /// Takes and prints all unsolicited lines that wait, or all outcomes.
+    fn take_all(&mut self, are_lines: bool) -> Result<(), Stop> {
         let rt = self.rt;
         for _ in rt.forever() {
-            let Some(outcome) = self.endpoint.poll_outcome() else {
+            let Some(act) = self.next(are_lines) else {
                 return Ok(());
             };
-            print_act(&rt, &Act::Told(outcome))?;
+            print_act(&rt, &act)?;
         }
         unreachable!()
     }
 
-    fn take_lines(&mut self) -> Result<(), Stop> {
-        let rt = self.rt;
-        for _ in rt.forever() {
-            let Some(line) = self.endpoint.poll_unsolicited() else {
-                return Ok(());
-            };
-            print_act(&rt, &Act::Heard(line))?;
-        }
-        unreachable!()
-    }
-
-    /// The same for a line of several words, and for what happens.
+    /// Takes a line of several words, or of what happens.
     fn go_on(&mut self, line: &str) -> Result<(), Stop> {
         match split(line) {
             ("out", most) => self.go_out(number(most)?),
             ("state", word) => {
-                let state = self.endpoint.state(crate::words::dlci(word)?);
-                let _ = self.rt.println(format_args!("{state:?}"));
+                show(&self.rt, &self.endpoint.state(dlci(word)?));
                 Ok(())
             }
             _ => self.happen(line),
         }
-    }
-
-    fn finish(self) {
-        let left = self.endpoint.finish();
-        let _ = self.rt.println(format_args!(
-            "{} in hand, {} outcomes, {} lines",
-            left.in_hand.len(),
-            left.outcomes.len(),
-            left.unsolicited.len()
-        ));
     }
 }
 
@@ -159,12 +131,9 @@ impl<R: Host> Player for Played<R> {
     fn go(&mut self, line: &str) -> Result<bool, Stop> {
         match line {
             "sent" => self.print_sent()?,
-            "outcomes" => self.take_outcomes()?,
-            "lines" => self.take_lines()?,
-            "wants" => {
-                let wants = self.endpoint.wants_tick();
-                let _ = self.rt.println(format_args!("{wants}"));
-            }
+            "outcomes" => self.take_all(false)?,
+            "lines" => self.take_all(true)?,
+            "wants" => show(&self.rt, &self.endpoint.wants_tick()),
             "finish" => return Ok(true),
             _ => self.go_on(line)?,
         }
@@ -172,27 +141,34 @@ impl<R: Host> Player for Played<R> {
     }
 }
 
-impl<R: Host> Begins<R> for Played<R> {
-    fn begin(rt: R, setup: &mut Setup) -> Result<Played<R>, Stop> {
-        let alloc = setup.alloc;
-        match Endpoint::new(alloc, setup.n1, setup.kinds.as_slice(), 1) {
-            Ok(endpoint) => Ok(Played {
-                rt,
-                alloc,
-                endpoint,
-                sent: Vec::new(alloc),
-            }),
-            Err(SessionError::BadN1) => Err(Stop::BadN1),
-            Err(_) => Err(Stop::NoMemory),
-        }
-    }
+fn print_left<R: Host>(rt: &R, left: &mut Left) {
+    let _ = rt.println(format_args!(
+        "{} in hand, {} outcomes, {} lines",
+        left.in_hand.len(),
+        left.outcomes.len(),
+        left.unsolicited.len()
+    ));
+}
 
-    fn end(self) {
-        self.finish();
+fn endpoint(setup: &Setup) -> Result<Endpoint, Stop> {
+    match Endpoint::new(setup.alloc, setup.n1, setup.kinds.as_slice(), 1) {
+        Ok(endpoint) => Ok(endpoint),
+        Err(SessionError::BadN1) => Err(Stop::BadN1),
+        Err(_) => Err(Stop::NoMemory),
     }
 }
 
-/// Plays the lines that follow.
-pub fn play<R: Host>(lines: &mut Lines<R>, setup: &mut Setup) -> Result<(), Stop> {
-    play_by::<R, Played<R>>(lines, setup)
+impl<R: Host> Begins<R> for Played<R> {
+    fn begin(rt: R, setup: &mut Setup) -> Result<Played<R>, Stop> {
+        Ok(Played {
+            rt,
+            endpoint: endpoint(setup)?,
+            sent: Vec::new(setup.alloc),
+        })
+    }
+
+    fn end(self) {
+        let rt = self.rt;
+        lend(self.endpoint.finish(), |left| print_left(&rt, left));
+    }
 }

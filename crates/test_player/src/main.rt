@@ -13,9 +13,12 @@
 mod desks;
 mod endpoints;
 mod frames;
+mod holding;
+mod lines;
 mod modems;
 mod near;
 mod pairs;
+mod printing;
 mod rounds;
 mod sessions;
 mod setup;
@@ -25,52 +28,54 @@ mod typed;
 mod words;
 
 use ctl_run::{Stop, give_up};
+use lines::{Host, Lines, play_all, play_by};
 use setup::Setup;
 use std::io::Write;
 use std::process::ExitCode;
-use words::{BAD, Host, Lines, number, split};
+use words::{BAD, number, split};
 
-fn play_entry<R: Host>(lines: &mut Lines<R>, setup: &Setup, what: &str) -> Result<(), Stop> {
-    match split(what) {
-        ("enter", calls) => sessions::enter_line(lines, setup, number(calls)?),
+/// What is played on one line or two.
+fn play<R: Host>(lines: &mut Lines<R>, setup: &mut Setup) -> Result<(), Stop> {
+    match lines.line() {
+        "session" => play_by::<R, sessions::Played<R>>(lines, setup),
+        "endpoint" => play_by::<R, endpoints::Played<R>>(lines, setup),
+        "sim" => play_by::<R, sims::Played<R>>(lines, setup),
+        "pair" => play_by::<R, pairs::Pair<R>>(lines, setup),
+        "rounds" => play_by::<R, rounds::Rounds<R>>(lines, setup),
+        _ => play_other(lines, setup),
+    }
+}
+
+/// What is played without one.
+fn play_other<R: Host>(lines: &mut Lines<R>, setup: &mut Setup) -> Result<(), Stop> {
+    match lines.line() {
+        "modem" => play_by::<R, modems::Played<R>>(lines, setup),
+        "typed" => play_by::<R, typed::Played<R>>(lines, setup),
+        "texts" => play_by::<R, texts::Played<R>>(lines, setup),
+        "frames" => play_by::<R, frames::Played<R>>(lines, setup),
+        "desk" => desks::play(&lines.rt, setup),
+        _ => play_entry(lines, setup),
+    }
+}
+
+fn play_entry<R: Host>(lines: &Lines<R>, setup: &Setup) -> Result<(), Stop> {
+    match split(lines.line()) {
+        ("enter", calls) => sessions::enter_line(&lines.rt, setup, number(calls)?),
         _ => Err(BAD),
     }
 }
 
-fn play<R: Host>(lines: &mut Lines<R>, setup: &mut Setup, what: &str) -> Result<(), Stop> {
-    match what {
-        "session" => sessions::play(lines, setup),
-        "endpoint" => endpoints::play(lines, setup),
-        "sim" => sims::play(lines, setup),
-        "pair" => pairs::play(lines, setup),
-        "rounds" => rounds::play(lines, setup),
-        "modem" => modems::play(lines, setup),
-        "desk" => desks::play(lines, setup),
-        "typed" => typed::play(lines),
-        "texts" => texts::play(lines),
-        "frames" => frames::play(lines, setup.n1),
-        _ => play_entry(lines, setup, what),
-    }
-}
-
-/// Takes the first lines, and gives the one that says what is played.
-fn set_up<R: Host>(lines: &mut Lines<R>, setup: &mut Setup) -> Result<String, Stop> {
-    let rt = lines.rt;
-    for _ in rt.forever() {
-        let Some(line) = lines.next_line()? else {
-            return Err(BAD);
-        };
-        if !setup.take(line.as_str())? {
-            return Ok(line);
-        }
-    }
-    unreachable!()
-}
-
+/// Takes the first lines, and plays what the last of them says.
 fn run<R: Host>(lines: &mut Lines<R>) -> Result<(), Stop> {
     let mut setup = Setup::new(lines.rt.alloc());
-    let what = set_up(lines, &mut setup)?;
-    play(lines, &mut setup, what.as_str())
+    run_with(lines, &mut setup)
+}
+
+fn run_with<R: Host>(lines: &mut Lines<R>, setup: &mut Setup) -> Result<(), Stop> {
+    if !play_all(lines, setup)? {
+        return Err(BAD);
+    }
+    play(lines, setup)
 }
 
 /// Names a bad line, and gives the status. A line of a player isn't one of `modemctl`, so it isn't said what of it is bad.

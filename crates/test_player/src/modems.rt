@@ -1,6 +1,7 @@
 //! A modem and its answers.
+use crate::lines::{Begins, Host, Player};
+use crate::printing::mark;
 use crate::setup::Setup;
-use crate::words::{Host, Lines, Player, mark, play_all};
 use at_text::AnswerLine;
 use ctl_run::Stop;
 use modem_sim::{Modem, SimError};
@@ -9,7 +10,7 @@ use std::str;
 /// A modem and its answers. It reads a command a line, and prints the lines of its answer, each behind `| `. After `marks` a
 /// call stands between two marks; `copy` puts a copy of the modem in its place.
 #[derive(Drop)]
-struct Played<R: Host> {
+pub struct Played<R: Host> {
     rt: R,
     modem: Modem,
     marks: bool,
@@ -55,13 +56,12 @@ impl<R: Host> Player for Played<R> {
     }
 }
 
-/// Plays the lines that follow.
-pub fn play<R: Host>(lines: &mut Lines<R>, setup: &Setup) -> Result<(), Stop> {
-    let mut played = Played {
-        rt: lines.rt,
-        modem: setup.modem()?,
-        marks: false,
-    };
-    play_all(lines, &mut played)?;
-    Ok(())
+impl<R: Host> Begins<R> for Played<R> {
+    fn begin(rt: R, setup: &mut Setup) -> Result<Played<R>, Stop> {
+        Ok(Played {
+            rt,
+            modem: setup.modem()?,
+            marks: false,
+        })
+    }
 }

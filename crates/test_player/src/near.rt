@@ -1,22 +1,21 @@
 //! A session with its callers and listeners.
+use crate::desks::open_once;
+use crate::holding::beside;
+use crate::lines::Host;
+use crate::printing::{mark, poll, print_act, print_came, print_refused, say, wait};
 use crate::setup::Setup;
-use crate::words::{BAD, Host, event, kind, mark, number, split};
+use crate::words::{BAD, event, kind, number, split};
 use at_text::UrcKind;
-use ctl_run::{Stop, push_act};
-use futures::executor::block_on;
-use futures::future::poll_immediate;
-use modem_desk::{Caller, Desk, DeskError, Listener};
-use modem_driver::{
-    Act, Ask, Ended, Event, Outcome, Session, SessionError, SessionFault, Turn, Urc,
-};
+use ctl_run::Stop;
+use modem_desk::{Caller, DriverEnd, Listener};
+use modem_driver::{Act, Ask, Event, Outcome, Session, SessionError, SessionFault, Turn, Urc};
 use serial_line::SerialLine;
-use std::alloc::Global;
 
 /// The most turns in a row.
 const TURNS: u32 = 1_000_000;
 
 /// The most outcomes that wait for a caller.
-const WAITING: u32 = 8;
+const WAITING: usize = 8;
 
 /// A session with its callers and listeners. What it reads of a line of a script:
 ///
@@ -32,7 +31,6 @@ const WAITING: u32 = 8;
 #[derive(Drop)]
 pub struct Near<L: SerialLine + Drop, R: Host> {
     pub rt: R,
-    pub alloc: Global,
     pub session: Session<L, R>,
     pub callers: Vec<Caller>,
     listeners: Vec<Listener>,
@@ -40,38 +38,8 @@ pub struct Near<L: SerialLine + Drop, R: Host> {
     marks: bool,
 }
 
-fn print_turn<R: Host>(rt: &R, turn: Result<Turn, SessionFault>) {
-    let _ = match turn {
-        Ok(turn) => rt.println(format_args!("{turn:?}")),
-        Err(why) => rt.println(format_args!("{why}")),
-    };
-}
-
-fn print_end<R: Host>(rt: &R, given: Result<Ended, SessionFault>) {
-    let _ = match given {
-        Ok(ended) => rt.println(format_args!("{ended:?}")),
-        Err(why) => rt.println(format_args!("{why}")),
-    };
-}
-
-fn print_poll<R: Host>(rt: &R, given: Option<Result<Ended, SessionFault>>) {
-    match given {
-        Some(end) => print_end(rt, end),
-        None => {
-            let _ = rt.println("pending");
-        }
-    }
-}
-
-fn print_act<R: Host>(rt: &R, act: &Act) -> Result<(), Stop> {
-    let mut text = String::new(rt.alloc());
-    push_act(rt.alloc(), act, &mut text)?;
-    let _ = rt.print(text.as_str());
-    Ok(())
-}
-
 /// How many outcomes a caller takes by now.
-pub fn caller_takes(caller: &mut Caller) -> u32 {
+pub fn caller_takes(caller: &mut Caller) -> usize {
     for count in 0..WAITING {
         if caller.take().is_none() {
             return count;
@@ -80,35 +48,42 @@ pub fn caller_takes(caller: &mut Caller) -> u32 {
     WAITING
 }
 
+fn fault(why: SessionError) -> Stop {
+    match why {
+        SessionError::BadN1 => Stop::BadN1,
+        _ => Stop::NoMemory,
+    }
+}
+
+fn session<L: SerialLine + Drop, R: Host>(
+    rt: R,
+    line: L,
+    driver: DriverEnd,
+    setup: &Setup,
+) -> Result<Session<L, R>, Stop> {
+    match Session::new(rt, setup.alloc, line, driver, setup.n1) {
+        Ok(session) => Ok(session),
+        Err(refused) => Err(fault(refused.why)),
+    }
+}
+
 impl<L: SerialLine + Drop, R: Host> Near<L, R> {
     pub fn new(rt: R, line: L, setup: &Setup) -> Result<Near<L, R>, Stop> {
-        let alloc = setup.alloc;
-        let (driver, callers, listeners) = match Desk::open(
-            alloc,
-            setup.callers,
-            setup.kinds.as_slice(),
-        ) {
-            Ok(ends) => ends,
-            Err(DeskError::BadCount) => return Err(Stop::BadCallers),
-            Err(DeskError::NoMemory) => return Err(Stop::NoMemory),
-        };
-        match Session::new(rt, alloc, line, driver, setup.n1) {
-            Ok(session) => Ok(Near {
-                rt,
-                alloc,
-                session,
-                callers,
-                listeners,
-                caller: 0,
-                marks: false,
-            }),
-            Err(refused) if refused.why == SessionError::BadN1 => Err(Stop::BadN1),
-            Err(_) => Err(Stop::NoMemory),
-        }
+        let (driver, callers, listeners) = open_once(setup)?;
+        let held = (callers, listeners);
+        let (session, (callers, listeners)) = beside(session(rt, line, driver, setup), held)?;
+        Ok(Near {
+            rt,
+            session,
+            callers,
+            listeners,
+            caller: 0,
+            marks: false,
+        })
     }
 
     /// Makes turns as long as they move, also where memory was refused, and gives what the last one answers.
-    pub fn turns(&mut self) -> Result<Turn, SessionFault> {
+    fn turns(&mut self) -> Result<Turn, SessionFault> {
         for _ in 0..TURNS {
             match self.session.turn() {
                 Ok(Turn::Moved) | Err(SessionFault::NoMemory) => {}
@@ -122,34 +97,7 @@ impl<L: SerialLine + Drop, R: Host> Near<L, R> {
         mark(&self.rt, self.marks, "> Session::turn");
         let turn = self.turns();
         mark(&self.rt, self.marks, "<");
-        print_turn(&self.rt, turn);
-    }
-
-    fn turn(&mut self) {
-        let turn = self.session.turn();
-        print_turn(&self.rt, turn);
-    }
-
-    fn poll(&mut self) -> Result<(), Stop> {
-        let Ok(given) = block_on(&self.rt, poll_immediate(&mut self.session)) else {
-            return Err(Stop::NoMemory);
-        };
-        print_poll(&self.rt, given);
-        Ok(())
-    }
-
-    fn wait(&mut self) -> Result<(), Stop> {
-        let Ok(given) = block_on(&self.rt, &mut self.session) else {
-            return Err(Stop::NoMemory);
-        };
-        print_end(&self.rt, given);
-        Ok(())
-    }
-
-    fn tick(&mut self) {
-        if let Err(why) = self.session.tick() {
-            let _ = self.rt.println(format_args!("{why}"));
-        }
+        print_came(&self.rt, turn);
     }
 
     fn submit(&mut self, ask: Ask) -> Result<(), Stop> {
@@ -157,7 +105,7 @@ impl<L: SerialLine + Drop, R: Host> Near<L, R> {
             return Err(BAD);
         };
         if let Err((why, _)) = caller.submit(&self.rt, ask) {
-            let _ = self.rt.println(format_args!("{why}"));
+            say(&self.rt, &why);
         }
         Ok(())
     }
@@ -203,8 +151,8 @@ impl<L: SerialLine + Drop, R: Host> Near<L, R> {
         Err(BAD)
     }
 
-    fn listen(&mut self, kind: UrcKind) -> Result<(), Stop> {
-        match self.next_urc(kind)? {
+    fn listen(&mut self, word: &str) -> Result<(), Stop> {
+        match self.next_urc(kind(word)?)? {
             Some(urc) => print_act(&self.rt, &Act::Heard(urc)),
             None => {
                 let _ = self.rt.println("-");
@@ -231,7 +179,7 @@ impl<L: SerialLine + Drop, R: Host> Near<L, R> {
     }
 
     fn ask(&mut self, line: &str) -> Result<(), Stop> {
-        match event(self.alloc, line)? {
+        match event(self.rt.alloc(), line)? {
             Event::Ask(request) => self.submit(request.ask),
             _ => Err(BAD),
         }
@@ -241,11 +189,8 @@ impl<L: SerialLine + Drop, R: Host> Near<L, R> {
     pub fn go(&mut self, line: &str) -> Result<(), Stop> {
         match line {
             "marks" => self.marks = true,
-            "turn" => self.turn(),
+            "turn" => print_came(&self.rt, self.session.turn()),
             "run" => self.run(),
-            "poll" => self.poll()?,
-            "await" => self.wait()?,
-            "tick" => self.tick(),
             "take" => self.take()?,
             "drain" => self.drain()?,
             _ => self.go_on(line)?,
@@ -253,14 +198,25 @@ impl<L: SerialLine + Drop, R: Host> Near<L, R> {
         Ok(())
     }
 
-    /// The same for a line of several words, and for what is submitted.
+    /// The same for what else the session does.
     fn go_on(&mut self, line: &str) -> Result<(), Stop> {
+        match line {
+            "tick" => print_refused(&self.rt, self.session.tick()),
+            "poll" => poll(&self.rt, &mut self.session)?,
+            "await" => wait(&self.rt, &mut self.session)?,
+            _ => self.take_words(line)?,
+        }
+        Ok(())
+    }
+
+    /// The same for a line of several words, and for what is submitted.
+    fn take_words(&mut self, line: &str) -> Result<(), Stop> {
         match split(line) {
             ("by", caller) => {
                 self.caller = number(caller)?;
                 Ok(())
             }
-            ("listen", word) => self.listen(kind(word)?),
+            ("listen", word) => self.listen(word),
             ("hear", words) => self.hear(words),
             _ => self.ask(line),
         }

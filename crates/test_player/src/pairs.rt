@@ -1,8 +1,10 @@
 //! A session and a simulated modem at the two ends of one line, in one thread.
+use crate::holding::beside;
+use crate::lines::{Begins, Host, Player};
 use crate::near::Near;
 use crate::setup::Setup;
 use crate::sims::made;
-use crate::words::{BAD, Begins, Host, Lines, Player, beside, play_by};
+use crate::words::BAD;
 use ctl_run::Stop;
 use modem_bench::Cause;
 use modem_driver::Turn;
@@ -14,7 +16,7 @@ const TURNS: u32 = 1_000_000;
 
 /// Both ends. What they read beside the lines of `Near`: `run` has both turn, the modem first, until neither moves.
 #[derive(Drop)]
-struct Pair<R: Host> {
+pub struct Pair<R: Host> {
     near: Near<ThreadLine, R>,
     sim: Sim<ThreadLine>,
 }
@@ -67,9 +69,4 @@ impl<R: Host> Begins<R> for Pair<R> {
         let (near, sim) = beside(Near::new(rt, one, setup), sim)?;
         Ok(Pair { near, sim })
     }
-}
-
-/// Plays the lines that follow.
-pub fn play<R: Host>(lines: &mut Lines<R>, setup: &mut Setup) -> Result<(), Stop> {
-    play_by::<R, Pair<R>>(lines, setup)
 }

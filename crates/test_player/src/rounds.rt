@@ -1,8 +1,9 @@
 //! A session and a simulated modem, each at one of two lines in memory, in one thread and in rounds.
+use crate::holding::beside;
+use crate::lines::{Begins, Host, Player};
 use crate::near::Near;
 use crate::setup::Setup;
 use crate::sims::made;
-use crate::words::{Begins, Host, Lines, Player, beside, play_by};
 use ctl_run::Stop;
 use modem_bench::{Cause, Rest, run_in_rounds};
 use modem_sim::Sim;
@@ -17,7 +18,7 @@ const ROUNDS: usize = 1_000_000;
 
 /// Both ends. What they read beside the lines of `Near`: `run` has them make rounds until both have nothing to do.
 #[derive(Drop)]
-struct Rounds<R: Host> {
+pub struct Rounds<R: Host> {
     near: Near<CutLine, R>,
     sim: Sim<CutLine>,
     /// How many octets a round carries each way at most.
@@ -70,9 +71,4 @@ impl<R: Host> Begins<R> for Rounds<R> {
             cut: setup.room,
         })
     }
-}
-
-/// Plays the lines that follow.
-pub fn play<R: Host>(lines: &mut Lines<R>, setup: &mut Setup) -> Result<(), Stop> {
-    play_by::<R, Rounds<R>>(lines, setup)
 }

@@ -1,7 +1,10 @@
 //! A session on a line in memory.
+use crate::holding::lend;
+use crate::lines::{Begins, Host, Player};
 use crate::near::{Near, caller_takes};
+use crate::printing::{print_count, print_octets, print_sent, say};
 use crate::setup::Setup;
-use crate::words::{Begins, Host, Lines, Player, octets, play_by, print_octets, split};
+use crate::words::{come, split};
 use ctl_run::Stop;
 use modem_desk::{Caller, DriverEnd};
 use modem_driver::{Finished, enter};
@@ -14,7 +17,7 @@ use serial_line::CutLine;
 /// - `finish`: the session ends, and so does the script. It prints how many requests are in hand, outcomes that have no place,
 ///   lines that have none and requests at the desk are left, and how many outcomes each caller takes then.
 #[derive(Drop)]
-struct Played<R: Host> {
+pub struct Played<R: Host> {
     near: Near<CutLine, R>,
     printed: usize,
 }
@@ -42,49 +45,17 @@ fn print_finished<R: Host>(rt: &R, finished: &mut Finished<CutLine>) {
 /// How many outcomes each caller takes.
 fn print_untaken<R: Host>(rt: &R, callers: &mut [Caller]) {
     for caller in callers {
-        let taken = caller_takes(caller);
-        let _ = rt.println(format_args!("{taken} untaken"));
-    }
-}
-
-impl<R: Host> Played<R> {
-    fn come(&mut self, line: &str) -> Result<(), Stop> {
-        let octets = octets(self.near.alloc, line)?;
-        if self.near.session.line_mut().put(octets.as_slice()) < octets.len() {
-            return Err(Stop::Line);
-        }
-        Ok(())
-    }
-
-    fn print_sent(&mut self) -> Result<(), Stop> {
-        let rt = self.near.rt;
-        let sent = self.near.session.line_mut().sent();
-        if let Some(more) = sent.get(self.printed..) {
-            print_octets(&rt, more)?;
-        }
-        self.printed = sent.len();
-        Ok(())
-    }
-
-    fn finish(self) {
-        let Near {
-            rt,
-            session,
-            mut callers,
-            ..
-        } = self.near;
-        let mut finished = session.finish();
-        print_finished(&rt, &mut finished);
-        print_untaken(&rt, &mut callers);
+        print_count(rt, caller_takes(caller), "untaken");
     }
 }
 
 impl<R: Host> Player for Played<R> {
     fn go(&mut self, line: &str) -> Result<bool, Stop> {
+        let rt = self.near.rt;
         match line {
-            "sent" => self.print_sent()?,
+            "sent" => print_sent(&rt, self.near.session.line_mut(), &mut self.printed)?,
             "finish" => return Ok(true),
-            _ if split(line).0 == "in" => self.come(line)?,
+            _ if split(line).0 == "in" => come(rt.alloc(), self.near.session.line_mut(), line)?,
             _ => self.near.go(line)?,
         }
         Ok(false)
@@ -93,27 +64,30 @@ impl<R: Host> Player for Played<R> {
 
 impl<R: Host> Begins<R> for Played<R> {
     fn begin(rt: R, setup: &mut Setup) -> Result<Played<R>, Stop> {
-        let line = setup.line()?;
-        let near = Near::new(rt, line, setup)?;
+        let near = Near::new(rt, setup.line()?, setup)?;
         Ok(Played { near, printed: 0 })
     }
 
     fn end(self) {
-        self.finish();
+        let Near {
+            rt,
+            session,
+            callers,
+            ..
+        } = self.near;
+        lend(session.finish(), |finished| print_finished(&rt, finished));
+        lend(callers, |callers| print_untaken(&rt, callers));
     }
 }
 
-/// Plays the lines that follow.
-pub fn play<R: Host>(lines: &mut Lines<R>, setup: &mut Setup) -> Result<(), Stop> {
-    play_by::<R, Played<R>>(lines, setup)
-}
-
 /// Enters the multiplexer with at most so many calls on the line, and prints what was sent.
-pub fn enter_line<R: Host>(lines: &mut Lines<R>, setup: &Setup, calls: u32) -> Result<(), Stop> {
+pub fn enter_line<R: Host>(rt: &R, setup: &Setup, calls: u32) -> Result<(), Stop> {
     let mut line = setup.line()?;
-    let _ = match enter(&mut line, calls) {
-        Ok(()) => lines.rt.println("entered"),
-        Err(why) => lines.rt.println(format_args!("{why}")),
-    };
-    print_octets(&lines.rt, line.sent())
+    match enter(&mut line, calls) {
+        Ok(()) => {
+            let _ = rt.println("entered");
+        }
+        Err(why) => say(rt, &why),
+    }
+    print_octets(rt, line.sent())
 }

@@ -1,4 +1,5 @@
 //! What a line and its ends are made with.
+use crate::lines::Player;
 use crate::words::{BAD, dlci, kind, number, octets, push_cuts, split};
 use at_cmds::Pin;
 use at_text::{Text, UrcKind};
@@ -30,14 +31,14 @@ pub struct Setup {
     pub n1: u16,
     pub callers: u8,
     pub kinds: Vec<UrcKind>,
-    pub input: Vec<u8>,
-    pub reads: Vec<Cut>,
-    pub writes: Vec<Cut>,
+    input: Vec<u8>,
+    reads: Vec<Cut>,
+    writes: Vec<Cut>,
     pub room: usize,
-    pub echo: bool,
-    pub pin: bool,
-    pub signal: (u8, u8),
-    pub steps: Vec<Step>,
+    echo: bool,
+    pin: bool,
+    signal: (u8, u8),
+    steps: Vec<Step>,
 }
 
 /// What a step does.
@@ -109,32 +110,39 @@ impl Setup {
         Ok(())
     }
 
-    /// Takes a line, where it says something of these.
-    pub fn take(&mut self, line: &str) -> Result<bool, Stop> {
-        let (word, rest) = split(line);
+    /// Takes what is a number.
+    fn take_number(&mut self, word: &str, rest: &str) -> Result<bool, Stop> {
         match word {
             "n1" => self.n1 = number(rest)?,
             "callers" => self.callers = number(rest)?,
-            "listen" => self.kinds.push(kind(rest)?)?,
-            "in" => self.push_input(line)?,
-            "reads" => push_cuts(&mut self.reads, rest)?,
-            "writes" => push_cuts(&mut self.writes, rest)?,
             "room" => self.room = number(rest)?,
             "signal" => self.set_signal(rest)?,
-            "step" => self.push_steps(rest)?,
-            _ => return Ok(self.take_word(line)),
+            _ => return Ok(false),
         }
         Ok(true)
     }
 
-    /// The same for a line that is one word.
-    fn take_word(&mut self, line: &str) -> bool {
+    /// Takes what is one of several.
+    fn take_one(&mut self, word: &str, rest: &str) -> Result<bool, Stop> {
+        match word {
+            "listen" => self.kinds.push(kind(rest)?)?,
+            "reads" => push_cuts(&mut self.reads, rest)?,
+            "writes" => push_cuts(&mut self.writes, rest)?,
+            "step" => self.push_steps(rest)?,
+            _ => return Ok(false),
+        }
+        Ok(true)
+    }
+
+    /// Takes another line.
+    fn take_other(&mut self, line: &str) -> Result<bool, Stop> {
         match line {
             "echo" => self.echo = true,
             "pin" => self.pin = true,
-            _ => return false,
+            _ if split(line).0 == "in" => self.push_input(line)?,
+            _ => return Ok(false),
         }
-        true
+        Ok(true)
     }
 
     /// The line in memory.
@@ -169,5 +177,13 @@ impl Setup {
             echo: self.echo,
             steps: Steps::from(steps),
         }
+    }
+}
+
+/// A line that says nothing of these is the last one.
+impl Player for Setup {
+    fn go(&mut self, line: &str) -> Result<bool, Stop> {
+        let (word, rest) = split(line);
+        Ok(!self.take_number(word, rest)? && !self.take_one(word, rest)? && !self.take_other(line)?)
     }
 }

@@ -1,5 +1,9 @@
 //! Typed commands, and what they are answered.
-use crate::words::{BAD, Host, Lines, Player, number, play_all, split};
+use crate::lines::{Begins, Host, Player};
+use crate::printing::{say, show};
+use crate::setup::Setup;
+use crate::texts::print_text;
+use crate::words::{BAD, number, split};
 use at_cmds::{
     Apn, CmdError, Command, OperChoice, OperNumber, Pdp, Pin, Registration, Reply, ReplyFault,
     cme_text,
@@ -7,7 +11,6 @@ use at_cmds::{
 use at_text::AnswerLines;
 use ctl_run::Stop;
 use std::alloc::{AllocError, Global};
-use std::str;
 
 /// A typed command, and what it is answered. What it reads:
 ///
@@ -19,9 +22,8 @@ use std::str;
 /// - `pin DIGITS`, `operator DIGITS`, `context CID NAME`, `reports MODE`, `errors MODE`: a command with this. It prints the
 ///   command's text, or what is wrong with it.
 #[derive(Drop)]
-struct Played<R: Host> {
+pub struct Played<R: Host> {
     rt: R,
-    alloc: Global,
     command: Option<Command>,
 }
 
@@ -41,28 +43,16 @@ fn copied(alloc: Global, text: &str) -> Result<Vec<u8>, AllocError> {
     Vec::from_slice(alloc, text.as_bytes())
 }
 
-fn print_command<R: Host>(rt: &R, alloc: Global, command: &Command) -> Result<(), Stop> {
-    let Ok(line) = command.line(alloc) else {
-        return Err(Stop::NoMemory);
-    };
-    let Ok(text) = str::from_utf8(line.text()) else {
-        return Err(BAD);
-    };
-    let _ = rt.println(format_args!("{command:?} {text}"));
-    Ok(())
-}
-
-/// The text of a command that was made, or what is wrong with it.
-fn print_made<R: Host>(rt: &R, alloc: Global, command: &Command) -> Result<(), Stop> {
-    let _ = match command.line(alloc) {
-        Ok(line) => match str::from_utf8(line.text()) {
-            Ok(text) => rt.println(text),
-            Err(_) => return Err(BAD),
-        },
-        Err(CmdError::NoMemory) => return Err(Stop::NoMemory),
-        Err(why) => rt.println(format_args!("{why}")),
-    };
-    Ok(())
+/// The text of a command, or what is wrong with it.
+fn print_command<R: Host>(rt: &R, command: &Command) -> Result<(), Stop> {
+    match command.line(rt.alloc()) {
+        Ok(line) => print_text(rt, line.text()),
+        Err(CmdError::NoMemory) => Err(Stop::NoMemory),
+        Err(why) => {
+            say(rt, &why);
+            Ok(())
+        }
+    }
 }
 
 fn made(alloc: Global, word: &str, rest: &str) -> Result<Command, Stop> {
@@ -87,11 +77,11 @@ fn made(alloc: Global, word: &str, rest: &str) -> Result<Command, Stop> {
 }
 
 fn print_reply<R: Host>(rt: &R, reply: Result<Reply, ReplyFault>) -> Result<(), Stop> {
-    let _ = match reply {
-        Ok(reply) => rt.println(format_args!("{reply:?}")),
+    match reply {
+        Ok(reply) => show(rt, &reply),
         Err(ReplyFault::NoMemory) => return Err(Stop::NoMemory),
-        Err(fault) => rt.println(format_args!("{fault}")),
-    };
+        Err(fault) => say(rt, &fault),
+    }
     Ok(())
 }
 
@@ -111,30 +101,34 @@ fn print_cme<R: Host>(rt: &R, number: u32) {
 
 impl<R: Host> Played<R> {
     fn read_command(&mut self, text: &str) -> Result<(), Stop> {
-        let Ok(command) = Command::read(self.alloc, text.as_bytes()) else {
+        let Ok(command) = Command::read(self.rt.alloc(), text.as_bytes()) else {
             return Err(Stop::NoMemory);
         };
         self.command = command;
-        match &self.command {
-            Some(command) => print_command(&self.rt, self.alloc, command),
-            None => {
-                let _ = self.rt.println("-");
-                Ok(())
-            }
-        }
+        self.show_command()
+    }
+
+    /// Prints which command it is and its text, or `-` where there is none.
+    fn show_command(&self) -> Result<(), Stop> {
+        let Some(command) = &self.command else {
+            let _ = self.rt.println("-");
+            return Ok(());
+        };
+        let _ = self.rt.print(format_args!("{command:?} "));
+        print_command(&self.rt, command)
     }
 
     fn read_answer(&self, words: &str) -> Result<(), Stop> {
         let Some(command) = &self.command else {
             return Err(BAD);
         };
-        let lines = answer_lines(self.alloc, words)?;
-        print_reply(&self.rt, Reply::read(self.alloc, command, &lines))
+        let lines = answer_lines(self.rt.alloc(), words)?;
+        print_reply(&self.rt, Reply::read(self.rt.alloc(), command, &lines))
     }
 
     fn make(&self, word: &str, rest: &str) -> Result<(), Stop> {
-        let command = made(self.alloc, word, rest)?;
-        print_made(&self.rt, self.alloc, &command)
+        let command = made(self.rt.alloc(), word, rest)?;
+        print_command(&self.rt, &command)
     }
 }
 
@@ -151,13 +145,8 @@ impl<R: Host> Player for Played<R> {
     }
 }
 
-/// Plays the lines that follow.
-pub fn play<R: Host>(lines: &mut Lines<R>) -> Result<(), Stop> {
-    let mut played = Played {
-        rt: lines.rt,
-        alloc: lines.rt.alloc(),
-        command: None,
-    };
-    play_all(lines, &mut played)?;
-    Ok(())
+impl<R: Host> Begins<R> for Played<R> {
+    fn begin(rt: R, _setup: &mut Setup) -> Result<Played<R>, Stop> {
+        Ok(Played { rt, command: None })
+    }
 }

@@ -1,5 +1,5 @@
 //! A reader without an end.
-use ctl_run::frames_run;
+use super::expect_frames;
 use std::io;
 use std::io::Read;
 use std::process::Abort;
@@ -26,12 +26,7 @@ impl Read for Endless {
 
 #[test]
 fn a_reader_without_an_end_is_left(rt: HostRuntime) {
-    let alloc = rt.alloc();
     let mut input = Endless { reads: 0 };
-    let mut output = Vec::new(alloc);
-    let mut faults = Vec::new(alloc);
-    assert!(rt; frames_run(alloc, &mut input, &mut output, &mut faults, 31) == 1);
-    assert!(rt; faults.as_slice() == b"fault: input\n".as_slice());
-    assert!(rt; output.is_empty());
+    expect_frames(&rt, rt.alloc(), &mut input, 31, (1, b"", b"fault: input\n"));
     assert!(rt; input.reads == READS);
 }
