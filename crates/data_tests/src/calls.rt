@@ -54,7 +54,16 @@ fn modem_at(
         echo: false,
         steps: Steps::from(Vec::new(alloc)),
     };
-    made(rt, Sim::new(alloc, line, Modem::with_words(alloc, start, false), script, 64))
+    made(
+        rt,
+        Sim::new(
+            alloc,
+            line,
+            Modem::with_words(alloc, start, false),
+            script,
+            64,
+        ),
+    )
 }
 
 /// The client writes these octets. The modem turns until it has nothing to do, and the client reads what it answered.
@@ -104,5 +113,9 @@ fn a_call_carries_data_until_the_client_closes(rt: HostRuntime) {
     expect(&rt, &mut client, &mut sim, CAME, b"");
     carry(&rt, &mut client, &mut sim, data);
     expect(&rt, &mut client, &mut sim, DISC, CLOSED);
-    assert!(rt; sim.line_mut().begin(data, Begin::ByOwnConnect, Until::Close).is_ok());
+    assert!(rt;
+        sim.line_mut()
+            .begin(data, Begin::ByOwnConnect, Until::Close)
+            .is_ok()
+    );
 }
