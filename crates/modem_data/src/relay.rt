@@ -133,8 +133,8 @@ impl Relay {
 
     /// Ends the lane of a connection, if there is one. From the next frame on lines come and go again. What was given and hasn't left
     /// isn't sent; what came stays readable. Of a lane by prompt a `>` may be held back, which may have been the prompt's: it goes to
-    /// the driver before the next octets, and the lane is over with these. Refused with 6 NotData where `new` didn't name the
-    /// connection.
+    /// the driver before the next octets, and the lane is over with these. Refused with 6 NotData where the connection wasn't
+    /// named.
     pub fn lines(&mut self, dlci: Dlci) -> Result<(), DataError>
         ensures ended { OnOk result (Hops self.old self.new (Passed (EndedLane dlci.number))) }
         ensures not_data { OnErr result ((result ≡ Err error.NotData) × IsNotData self.old.pipes dlci.number) }
