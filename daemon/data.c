@@ -106,7 +106,7 @@ static bool take(struct data *d, struct lane *l, bool is_dropped, bool all)
 static void begin_next(struct data *d, struct lane *l)
 {
 	if (d->modem->stage == MODEM_UP)
-		cimbaloty_data_begin(&d->modem->relay, (uint8_t)l->dlci, is_dialled(d, l), CIMBALOTY_DATA_UNTIL_CLOSE);
+		modem_begin_lane(d->modem, l->dlci);
 	l->has_carried = false;
 }
 
@@ -121,8 +121,10 @@ static void serve(struct data *d, struct lane *l)
 	if (!is_over)
 		return;
 	if (l->has_carried && l->terminal->opens > 0) {
-		say(LOG_NOTICE, "%s: connection %u was closed", l->terminal->path, l->dlci);
-		drop_rest(l, "the connection was closed");
+		bool is_open = cimbaloty_state(&d->modem->c, (uint8_t)l->dlci) == CIMBALOTY_IS_OPENED;
+
+		say(LOG_NOTICE, "%s: connection %u %s", l->terminal->path, l->dlci, is_open ? "lost its carrier" : "was closed");
+		drop_rest(l, is_open ? "the carrier was lost" : "the connection was closed");
 		l->state = LANE_HANGS_UP;
 	}
 	begin_next(d, l);
@@ -140,7 +142,7 @@ static void hang_up(struct data *d, struct lane *l)
 {
 	if (!is_read(l->terminal))
 		return;
-	terminals_renew(d->terminals, l->terminal, "is hung up, as its connection was closed");
+	terminals_renew(d->terminals, l->terminal, "is hung up, as its data has ended");
 	l->state = LANE_SERVES;
 }
 

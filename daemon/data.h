@@ -2,7 +2,8 @@
  *
  * What a program writes there goes to the modem while the connection is open and carries data, and waits before. Once the last
  * program has closed the terminal, and what it wrote has gone, the connection is closed and opened again: so the modem hangs up. Where
- * the modem closes the connection, or the line is lost, the terminal is hung up once its program has read all that came. */
+ * the modem closes the connection, or loses its carrier where that is to end data, or the line is lost, the terminal is hung up once its
+ * program has read all that came. */
 #ifndef DATA_H
 #define DATA_H
 
@@ -11,7 +12,7 @@
 
 enum lane_state {
 	LANE_SERVES,            /* octets pass between terminal and modem */
-	LANE_HANGS_UP,          /* the connection was closed: the program reads what came before, and then its terminal is hung up */
+	LANE_HANGS_UP,          /* the data has ended: the program reads what came before, and then its terminal is hung up */
 	LANE_LEAVES,            /* the program has left: what it wrote goes to the modem, what comes is dropped */
 	LANE_CLOSES             /* the connection is closed for it */
 };

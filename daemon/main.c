@@ -10,6 +10,7 @@
 #include "modem.h"
 #include "notify.h"
 #include "terminal.h"
+#include "texts.h"
 #include <errno.h>
 #include <fcntl.h>
 #include <inttypes.h>
@@ -50,6 +51,8 @@ static void answer(struct daemon *d, const struct cimbaloty_outcome *o, const ch
 		if (!t->is_waiting || t->asked != o->number)
 			continue;
 		t->is_waiting = false;
+		if (d->options.carries[i] == TEXTS)
+			modem_end_text(&d->modem, i);
 		if (t->is_orphan)
 			return;
 		bool is_whole = o->answer == CIMBALOTY_DONE && !modem_is_cut(&d->modem, i);
@@ -100,22 +103,55 @@ static void take_lines(struct daemon *d)
 	} while (!has_room && events_have_room(&d->events));
 }
 
-/* What a program wrote is a command on its connection. */
+/* A command that was made waits for its outcome; else the answer is ERROR. */
+static void await(struct terminal *t, bool is_made)
+{
+	t->is_waiting = is_made;
+	t->is_orphan = is_made && t->is_last_line;
+	t->commands += is_made;
+	if (!is_made && !t->is_last_line)
+		terminal_put(t, "ERROR", 5);
+}
+
+/* The line that a program wrote is a command on its connection, or the program is asked for the text of one. What has left gives none. */
+static void ask_line(struct daemon *d, unsigned place)
+{
+	struct terminal *t = &d->terminals.all[place];
+	bool is_text = d->options.carries[place] == TEXTS && t->length <= COMMAND && texts_are_asked(t->line, t->length);
+
+	if (!is_text || t->is_last_line)
+		await(t, !is_text && modem_ask(&d->modem, place, t->line, t->length, &t->asked));
+	else if (!terminal_ask_text(t))
+		await(t, false);
+	t->length = 0;
+	t->is_last_line = false;
+}
+
+/* The text that a program wrote goes to the modem behind its prompt; or the program has given up. */
+static void ask_text(struct daemon *d, unsigned place)
+{
+	struct terminal *t = &d->terminals.all[place];
+
+	if (t->text->end == GIVES_TEXT_UP)
+		terminal_put(t, "OK", 2);
+	else
+		await(t, modem_ask_text(&d->modem, place, t->text, &t->asked));
+	free(t->text);
+	t->text = NULL;
+}
+
+/* What a program wrote is asked, as far as it is whole. */
 static void ask(struct daemon *d, unsigned place)
 {
 	struct terminal *t = &d->terminals.all[place];
 
-	while (!modem_waits(&d->modem, place) && terminal_next_line(t)) {
-		bool is_last = t->is_last_line;
-
-		if (modem_ask(&d->modem, place, t->line, t->length, &t->asked)) {
-			t->is_waiting = true;
-			t->is_orphan = is_last;
-			t->commands++;
-		} else if (!is_last)
-			terminal_put(t, "ERROR", 5);
-		t->length = 0;
-		t->is_last_line = false;
+	while (!modem_waits(&d->modem, place)) {
+		if (terminal_next_text(t))
+			ask_text(d, place);
+		else if (terminal_next_line(t))
+			ask_line(d, place);
+		else
+			return;
 	}
 }
 

@@ -98,17 +98,34 @@ static bool write_line(struct modem *m)
 
 /* ---- The entry ---- */
 
-/* A relay, with a lane on each connection that is to carry data; none where none is. False where there is no memory. */
+static bool has_relay(const struct options *o)
+{
+	return o->lanes + o->asking > 0;
+}
+
+void modem_begin_lane(struct modem *m, unsigned dlci)
+{
+	const struct options *o = m->options;
+	uint8_t how = o->carries[dlci] == DATA_BEHIND_CONNECT ? CIMBALOTY_DATA_BY_CONNECT : CIMBALOTY_DATA_AT_ONCE;
+
+	cimbaloty_data_begin(&m->relay, (uint8_t)dlci, how, o->carrier[dlci] ? CIMBALOTY_DATA_UNTIL_CARRIER_LOSS : CIMBALOTY_DATA_UNTIL_CLOSE);
+}
+
+/* A relay, with a lane on each connection that is to carry data; none where none carries more than commands. False where there is no
+ * memory. */
 static bool begin_relay(struct modem *m)
 {
 	const struct options *o = m->options;
+	uint8_t all[LANES];
 
-	if (o->lanes == 0)
+	if (!has_relay(o))
 		return true;
-	if (cimbaloty_data_new_at(&m->relay, (uint16_t)o->n1, o->data, o->lanes) != CIMBALOTY_DATA_OK)
+	memcpy(all, o->data, o->lanes);
+	memcpy(all + o->lanes, o->texts, o->asking);
+	if (cimbaloty_data_new_at(&m->relay, (uint16_t)o->n1, all, o->lanes + o->asking) != CIMBALOTY_DATA_OK)
 		return false;
 	for (unsigned i = 0; i < o->lanes; i++)
-		cimbaloty_data_begin(&m->relay, o->data[i], o->carries[o->data[i]] == DATA_BEHIND_CONNECT, CIMBALOTY_DATA_UNTIL_CLOSE);
+		modem_begin_lane(m, o->data[i]);
 	return true;
 }
 
@@ -244,7 +261,7 @@ static void fill_out_by_relay(struct modem *m)
 
 static void fill_out(struct modem *m)
 {
-	if (m->options->lanes)
+	if (has_relay(m->options))
 		fill_out_by_relay(m);
 	else
 		m->out_length = cimbaloty_output(&m->c, m->out, sizeof m->out);
@@ -255,7 +272,7 @@ static void fill_out(struct modem *m)
 static bool exchange(struct modem *m, int64_t now)
 {
 	for (;;) {
-		if (m->options->lanes)
+		if (has_relay(m->options))
 			take_in_by_relay(m, now);
 		else
 			take_in(m, now);
@@ -370,15 +387,43 @@ bool modem_carries_data(struct modem *m, unsigned dlci)
 	return cimbaloty_data_give_at(&m->relay, (uint8_t)dlci, m->out, 0, &none) == CIMBALOTY_DATA_OK;
 }
 
-bool modem_ask(struct modem *m, unsigned dlci, const char *text, size_t length, uint64_t *number)
+static bool takes_commands(struct modem *m, unsigned dlci)
 {
-	if (m->stage != MODEM_UP || m->stop || m->options->carries[dlci] == DATA || modem_carries_data(m, dlci) || length > COMMAND
-	    || cimbaloty_command(&m->c, (uint8_t)dlci, text, length, number) != CIMBALOTY_OK)
+	return m->stage == MODEM_UP && !m->stop && m->options->carries[dlci] != DATA && !modem_carries_data(m, dlci);
+}
+
+static bool send_command(struct modem *m, unsigned dlci, const char *text, size_t length, uint64_t *number)
+{
+	if (length > COMMAND || cimbaloty_command(&m->c, (uint8_t)dlci, text, length, number) != CIMBALOTY_OK)
 		return false;
 	m->last = *number;
 	m->commands++;
 	m->cut_on &= ~(UINT64_C(1) << dlci);
 	return true;
+}
+
+bool modem_ask(struct modem *m, unsigned dlci, const char *text, size_t length, uint64_t *number)
+{
+	return takes_commands(m, dlci) && send_command(m, dlci, text, length, number);
+}
+
+bool modem_ask_text(struct modem *m, unsigned dlci, const struct text *text, uint64_t *number)
+{
+	size_t taken = 0;
+
+	if (!takes_commands(m, dlci) || text->length > TEXT
+	    || cimbaloty_data_begin(&m->relay, (uint8_t)dlci, CIMBALOTY_DATA_BY_PROMPT, CIMBALOTY_DATA_UNTIL_CLOSE) != CIMBALOTY_DATA_OK)
+		return false;
+	if (cimbaloty_data_give_at(&m->relay, (uint8_t)dlci, (const uint8_t *)text->octets, text->length, &taken) == CIMBALOTY_DATA_OK
+	    && taken == text->length && send_command(m, dlci, text->command, text->command_length, number))
+		return true;
+	modem_end_text(m, dlci);
+	return false;
+}
+
+void modem_end_text(struct modem *m, unsigned dlci)
+{
+	cimbaloty_data_lines(&m->relay, (uint8_t)dlci);
 }
 
 bool modem_is_cut(const struct modem *m, unsigned dlci)

@@ -6,6 +6,7 @@
 #include "cimbaloty_data.h"
 #include "entry.h"
 #include "options.h"
+#include "terminal.h"
 
 enum modem_stage {
 	MODEM_GONE,             /* the line isn't open; the next try is at `retry_at` */
@@ -76,6 +77,15 @@ bool modem_waits(const struct modem *m, unsigned dlci);
 
 /* Sends a command line; false where it is none, is too long, the connection carries data, or the modem isn't there. */
 bool modem_ask(struct modem *m, unsigned dlci, const char *text, size_t length, uint64_t *number);
+
+/* Sends a command that asks for a text, which leaves behind the modem's prompt; false as modem_ask, and where the text is too long. */
+bool modem_ask_text(struct modem *m, unsigned dlci, const struct text *text, uint64_t *number);
+
+/* A command that asked for a text has its outcome: if no prompt came, the text isn't sent. */
+void modem_end_text(struct modem *m, unsigned dlci);
+
+/* A lane of data begins there, of the opening that there is or of the next. */
+void modem_begin_lane(struct modem *m, unsigned dlci);
 
 /* Whether a frame longer than N1 was dropped there since a command was asked: its answer isn't whole. */
 bool modem_is_cut(const struct modem *m, unsigned dlci);

@@ -97,18 +97,31 @@ static const char *take_events(struct options *o, const char *text)
 	return NULL;
 }
 
+static const char connection_form[] = "the number of a connection, 1 to 61";
+
 static const char *take_carries(struct options *o, const char *text, enum carries what)
 {
 	unsigned place;
 
 	if (!is_number(text, 1, CONNECTIONS, &place))
-		return "the number of a connection, 1 to 61";
+		return connection_form;
 	o->carries[place] = (uint8_t)what;
 	return NULL;
 }
 
 static const char *take_data(struct options *o, const char *text) { return take_carries(o, text, DATA); }
 static const char *take_dial(struct options *o, const char *text) { return take_carries(o, text, DATA_BEHIND_CONNECT); }
+static const char *take_sms(struct options *o, const char *text) { return take_carries(o, text, TEXTS); }
+
+static const char *take_carrier(struct options *o, const char *text)
+{
+	unsigned place;
+
+	if (!is_number(text, 1, CONNECTIONS, &place))
+		return connection_form;
+	o->carrier[place] = true;
+	return NULL;
+}
 
 static const char *take_mode(struct options *o, const char *text)
 {
@@ -173,6 +186,8 @@ static const struct word words[] = {
 	{ "events", "NAME", "unsolicited lines go to at1, at2 .. too; repeatable", BY(take_events) },
 	{ "data", "D", "connection D carries data, on dataD; up to 8 of them", BY(take_data) },
 	{ "dial", "D", "so it does behind the CONNECT line of a command on atD", BY(take_dial) },
+	{ "carrier", "D", "data on D ends where the modem loses the carrier, too", BY(take_carrier) },
+	{ "sms", "D", "AT+CMGS, AT+CMGW and AT+CMGC on atD ask for their text", BY(take_sms) },
 	{ "keep", "N", "unsolicited lines kept while nobody reads, up to 65536 (256)", NUMBER(keep, 0, 65536) },
 	{ "mode", "MODE", "permissions of the terminals in octal, such as 660", BY(take_mode) },
 	{ "group", "GROUP", "group of the terminals", BY(take_group) },
@@ -292,17 +307,32 @@ static int take_option(struct options *o, char *name, const char *next)
 	return joined || !value ? 1 : 2;
 }
 
+/* Why what was said of a connection can't be; NULL where it can. */
+static const char *fault_of(const struct options *o, unsigned place)
+{
+	if (o->carrier[place] && o->carries[place] != DATA && o->carries[place] != DATA_BEHIND_CONNECT)
+		return "it has a carrier, and carries no data: see --data and --dial";
+	if (o->carries[place] == LINES)
+		return NULL;
+	if (place > o->connections)
+		return "there is no such connection: see --connections";
+	return o->lanes + o->asking == LANES ? "at most 8 connections carry data or ask for texts" : NULL;
+}
+
+/* Lists the connections that carry more than commands. */
 static bool complete_data(struct options *o)
 {
 	for (unsigned place = 1; place <= CONNECTIONS; place++) {
-		if (o->carries[place] == LINES)
-			continue;
-		if (place > o->connections || o->lanes == LANES) {
-			fprintf(stderr, "cimbalotyd: data %u: %s\n", place, place > o->connections ? "there is no such connection: see --connections"
-				: "at most 8 connections carry data");
+		const char *why = fault_of(o, place);
+
+		if (why) {
+			fprintf(stderr, "cimbalotyd: connection %u: %s\n", place, why);
 			return false;
 		}
-		o->data[o->lanes++] = (uint8_t)place;
+		if (o->carries[place] == TEXTS)
+			o->texts[o->asking++] = (uint8_t)place;
+		else if (o->carries[place] != LINES)
+			o->data[o->lanes++] = (uint8_t)place;
 	}
 	return true;
 }

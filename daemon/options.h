@@ -9,8 +9,9 @@
 
 enum { COMMAND = 256, CONNECTIONS = 61, INITS = 16, LANES = 8 };
 
-/* What a connection carries: commands; data, from its opening on; or data behind the CONNECT line of a command. */
-enum carries { LINES, DATA, DATA_BEHIND_CONNECT };
+/* What a connection carries: commands; commands that may ask for a text; data, from its opening on; or data behind the CONNECT line of a
+ * command. */
+enum carries { LINES, TEXTS, DATA, DATA_BEHIND_CONNECT };
 
 struct options {
 	char *tty, *directory;          /* the modem's terminal; the folder for the pseudo-terminals */
@@ -25,8 +26,10 @@ struct options {
 	unsigned t1;                    /* milliseconds */
 	unsigned limit, probe;          /* seconds; probe 0: none */
 	bool events[CONNECTIONS + 1];   /* where unsolicited lines go: 0 is the terminal for events */
-	uint8_t carries[CONNECTIONS + 1], data[LANES];  /* enum carries; the connections that may carry data, in order */
-	unsigned lanes;                 /* how many these are */
+	uint8_t carries[CONNECTIONS + 1];       /* enum carries */
+	bool carrier[CONNECTIONS + 1];  /* whether the loss of the carrier ends its data */
+	uint8_t data[LANES], texts[LANES];      /* the connections that may carry data, and those whose commands may ask for a text, in order */
+	unsigned lanes, asking;         /* how many these are: LANES together at most */
 	unsigned keep;                  /* how many unsolicited lines are kept while nobody reads */
 	bool has_mode, has_group;       /* of the pseudo-terminals */
 	mode_t mode;

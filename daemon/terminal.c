@@ -2,6 +2,7 @@
 #define _GNU_SOURCE
 #include "terminal.h"
 #include "log.h"
+#include "texts.h"
 #include <errno.h>
 #include <fcntl.h>
 #include <stdlib.h>
@@ -62,11 +63,18 @@ static void close_one(struct terminals *ts, struct terminal *t)
 	t->ours = t->theirs = t->watch = -1;
 }
 
+static void drop_text(struct terminal *t)
+{
+	free(t->text);
+	t->text = NULL;
+}
+
 /* The link is never without a terminal. */
 void terminals_renew(struct terminals *ts, struct terminal *t, const char *why)
 {
 	struct terminal old = *t;
 
+	drop_text(t);
 	t->in_length = t->fresh = t->length = t->out_at = t->out_length = 0;
 	t->opens = 0;
 	t->is_orphan = t->is_waiting;
@@ -127,6 +135,7 @@ void terminals_close(struct terminals *ts)
 			unlink(t->path);
 		close_one(ts, t);
 		free(t->out);
+		free(t->text);
 	}
 	free(ts->all);
 	if (ts->watcher >= 0)
@@ -224,10 +233,11 @@ static void clean(struct terminals *ts, struct terminal *t)
 	bool is_full = t->in_length == PENDING;
 	size_t from = newcomer(t);
 	bool is_mixed = t->wrote_behind && from == t->in_length;
-	size_t first = t->is_waiting || is_mixed ? 0 : first_line(t, from);
+	size_t first = t->is_waiting || t->text || is_mixed ? 0 : first_line(t, from);
 
 	memmove(t->in + first, t->in + from, t->in_length - from);
 	t->in_length -= from - first;
+	drop_text(t);
 	t->is_last_line = first > 0;
 	if (!t->is_last_line)
 		t->length = 0;
@@ -306,7 +316,7 @@ bool terminal_next_line(struct terminal *t)
 	size_t at = 0;
 	bool is_whole = false;
 
-	if (t->is_waiting || t->out_length)
+	if (t->is_waiting || t->text || t->out_length)
 		return false;
 	while (at < t->in_length && !is_whole) {
 		char octet = t->in[at++];
@@ -321,6 +331,51 @@ bool terminal_next_line(struct terminal *t)
 	memmove(t->in, t->in + at, t->in_length - at);
 	t->in_length -= at;
 	return is_whole;
+}
+
+/* Each line of a text stands behind a prompt (27.005, 3.3.1). */
+static void put_prompt(struct terminal *t)
+{
+	terminal_put_raw(t, "\r\n> ", 4);
+}
+
+bool terminal_ask_text(struct terminal *t)
+{
+	t->text = calloc(1, sizeof *t->text);
+	if (!t->text)
+		return false;
+	memcpy(t->text->command, t->line, t->length);
+	t->text->command_length = t->length;
+	put_prompt(t);
+	return true;
+}
+
+/* Takes an octet of a text. An LF just behind the command belongs to the command. */
+static void take_octet(struct terminal *t, char octet)
+{
+	struct text *x = t->text;
+
+	if (x->length == 0 && octet == '\n')
+		return;
+	if (octet == SENDS_TEXT || octet == GIVES_TEXT_UP)
+		x->end = octet;
+	else if (octet == '\r')
+		put_prompt(t);
+	if (x->length < TEXT)
+		x->octets[x->length] = octet;
+	if (x->length <= TEXT)
+		x->length++;
+}
+
+bool terminal_next_text(struct terminal *t)
+{
+	size_t at = 0;
+
+	while (t->text && at < t->in_length && !t->text->end)
+		take_octet(t, t->in[at++]);
+	memmove(t->in, t->in + at, t->in_length - at);
+	t->in_length -= at;
+	return t->text && t->text->end;
 }
 
 /* Gives room for so many octets behind those that wait, which stay; NULL where there is no memory. */

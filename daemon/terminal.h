@@ -11,7 +11,14 @@
 #include <stdint.h>
 #include <termios.h>
 
-enum { PENDING = 4096 };
+enum { PENDING = 4096, TEXT = 4096 };
+
+/* A command that asks for a text, and its text as far as a program wrote it, with the octet that ends it. */
+struct text {
+	char command[COMMAND], octets[TEXT];
+	size_t command_length, length;  /* length: TEXT + 1 where it is too long */
+	char end;                       /* the octet that ends it, once it is there */
+};
 
 struct terminal {
 	bool is_data;           /* raw octets; who has it reads and writes them, not this module */
@@ -23,6 +30,7 @@ struct terminal {
 	size_t in_length, fresh;
 	char line[COMMAND + 1];
 	size_t length;          /* COMMAND + 1 where it is too long */
+	struct text *text;      /* what a program is asked for: no line is read before it is there; NULL: nothing */
 	/* what isn't written to programs yet */
 	char *out;
 	size_t out_at, out_length, out_room;
@@ -63,6 +71,12 @@ void terminals_look(struct terminals *ts);
 /* Whether a whole line stands in t->line, t->length octets long; none does before the answers were read. Set the length
  * to 0 once it is taken. */
 bool terminal_next_line(struct terminal *t);
+
+/* The line that stands there asks for a text: the program is prompted for it. False where there is no memory. */
+bool terminal_ask_text(struct terminal *t);
+
+/* Whether the whole text stands there. Free it, and set it to NULL, once it is taken. */
+bool terminal_next_text(struct terminal *t);
 
 /* Puts a line into what is to be written, between CR LF and CR LF (V.250, 5.7.1). */
 void terminal_put(struct terminal *t, const char *text, size_t length);

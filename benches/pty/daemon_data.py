@@ -15,7 +15,7 @@ from modem import DISC, DM, PF, UA, UIH, frame
 
 N1 = 512
 WORDS = ("--n1", str(N1), "--connections", "3")
-FLOW_OFF, GO = 0x8F, 0x8D
+FLOW_OFF, GO, NO_CARRIER = 0x8F, 0x8D, 0x0D
 
 
 class DataModem(daemons.Modem):
@@ -79,6 +79,7 @@ class DataModem(daemons.Modem):
         self.shuts += 1
 
     def flow(self, signals):
+        """An MSC on connection 2 (27.010, 5.4.6.3.7)."""
         self.write(frame(0, UIH, bytes([0xE3, 5, 2 << 2 | 3, signals]), cr=0))
 
     def run(self):
@@ -295,4 +296,116 @@ def line_lost(build):
               f"{len(got)} of {len(octets)} octets, hung up: {ended}")
 
 
-CASES = [both_ways, slow_reader, held_by_modem, dialled, written_and_left, closed_by_modem, line_lost]
+def carrier_lost(build):
+    """The modem loses its carrier: the program reads all that came, and is hung up, the line NO CARRIER is unsolicited, and the next
+    program has a call of its own on the same opening. Without `--carrier` nothing of that happens."""
+    octets = random.Random(4).randbytes(50_000)
+    for words in ((), ("--carrier", "2")):
+        line = DataLine(raw=False)
+        with Daemon(build, line.path, *WORDS, "--dial", "2", *words, "--dialect", "dialling") as daemon, daemon.terminal("at2") as terminal, \
+                daemon.terminal("events") as events:
+            line.modem.give(octets)
+            terminal.write(b"ATD*99#\r")
+            connect = terminal.next()
+            line.modem.flow(GO)
+            with daemon.terminal("data2") as data:
+                got = read(data, len(octets), 10)
+                line.modem.carries = False
+                line.modem.flow(NO_CARRIER)
+                line.modem.write(frame(2, UIH, b"\r\nNO CARRIER\r\n", cr=0))
+                ended = data.is_hung_up(1)
+            told = "lost its carrier" in daemon.said()
+            heard, again = events.next(1), terminal.ask("AT+AGAIN") if words else None
+        holds = connect == "CONNECT 150000000" and got == octets and ended == told == bool(words)
+        if words:
+            holds = holds and heard == "NO CARRIER" and is_own(again, "AT+AGAIN") and line.modem.opened.count(2) == 1
+        else:
+            holds = holds and heard is None
+        check(f"{build.name}: a carrier that is lost{', with --carrier' if words else ''}", holds,
+              f"{connect}, {len(got)} of {len(octets)} octets, hung up: {ended}, said: {told}, events: {heard}, then {again}")
+        line.end()
+
+
+class TextModem(daemons.Modem):
+    """A modem that takes the text of AT+CMGS on connection 1 behind a prompt, which it cuts in two; but none for number 0."""
+
+    def __init__(self, fd):
+        super().__init__(fd)
+        self.is_prompted, self.texts = False, []
+
+    def take_info(self, dlci, info):
+        if dlci == 1 and self.is_prompted:
+            self.texts[-1] += info
+            self.is_prompted = b"\x1A" not in info
+            if not self.is_prompted:
+                self.say(1, b"\r\n+CMGS: %d\r\n\r\nOK\r\n" % len(self.texts))
+        else:
+            super().take_info(dlci, info)
+
+    def answer(self, dlci, line):
+        if not line.startswith(b"AT+CMGS=") or line.endswith(b"?"):
+            return super().answer(dlci, line)
+        self.asked.append((dlci, line))
+        if line == b"AT+CMGS=0":
+            self.say(dlci, b"\r\n+CMS ERROR: 304\r\n")
+        else:
+            self.is_prompted = True
+            self.texts.append(b"")
+            self.say(dlci, b"\r\n>")
+            self.say(dlci, b" ")
+        return None
+
+
+class TextLine(DataLine):
+    """A modem of that kind in a thread."""
+
+    def __init__(self):
+        self.ours, self.theirs, self.path = modem.open_terminal()
+        self.modem = TextModem(self.ours)
+        self.thread = threading.Thread(target=self.modem.run, daemon=True)
+        self.thread.start()
+
+
+def prompts(terminal, count=1):
+    """Whether so many prompts come, and nothing else."""
+    return read(terminal, 4 * count, 5) == b"\r\n> " * count
+
+
+def sent(terminal, command, text):
+    """The answer to a command and its text, once a prompt came; else none."""
+    terminal.write(command + b"\r")
+    if not prompts(terminal):
+        return None
+    terminal.write(text)
+    return terminal.rest()
+
+
+def texts(build):
+    """An SMS goes behind the modem's prompt, once, and each of two lines of a text behind a prompt of the daemon's. One that is given up, that
+    is too long, whose program leaves, or that the modem doesn't ask for isn't sent. Beside it another program has its answers."""
+    line = TextLine()
+    there, long = line.modem, b"x" * 4096
+    with Daemon(build, line.path, "--connections", "2", "--sms", "1") as daemon, daemon.terminal("at1") as one, daemon.terminal("at2") as two:
+        first = sent(one, b'AT+CMGS="+49"', b"a text" * 30 + b"\x1A")
+        one.write(b"AT+CMGF=1;+CMGS=7\r\n")
+        asked = prompts(one)
+        beside = two.ask("AT+BESIDE")
+        one.write(b"two\rlines\x1A")
+        second = prompts(one) and one.rest()
+        given_up, late = sent(one, b"at+cmgs=8", b"never\x1B"), sent(one, b"AT+CMGS=9", long + b"\x1A")
+        refused, tested = sent(one, b"AT+CMGS=0", b"none\x1A"), one.ask("AT+CMGS=?")
+        one.write(b"AT+CMGS=10\rhalf a text")
+        asked = prompts(one) and asked
+        one.close()
+        with daemon.terminal("at1") as next_one:
+            after = next_one.ask("AT+AFTER")
+    commands = [it for _, it in there.asked if b"CMGS" in it]
+    holds = (first == ["+CMGS: 1", "OK"] and asked and is_own(beside, "AT+BESIDE") and second == ["+CMGS: 2", "OK"] and given_up == ["OK"] and late == ["ERROR"]
+             and refused == ["+CMS ERROR: 304"] and is_own(tested, "AT+CMGS=?") and is_own(after, "AT+AFTER")
+             and there.texts == [b"a text" * 30 + b"\x1A", b"two\rlines\x1A"]
+             and commands == [b'AT+CMGS="+49"', b"AT+CMGF=1;+CMGS=7", b"AT+CMGS=0", b"AT+CMGS=?"])
+    check(f"{build.name}: texts of SMS", holds, f"{first}, {second}, {given_up}, {late}, {refused}, {tested}, {beside}, {after}; {there.texts}, {commands}")
+    line.end()
+
+
+CASES = [both_ways, slow_reader, held_by_modem, dialled, written_and_left, closed_by_modem, line_lost, carrier_lost, texts]
