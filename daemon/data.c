@@ -182,12 +182,14 @@ static bool turn(struct data *d, struct lane *l, int64_t now)
 			break;
 		gave = true;
 	}
-	switch (l->state) {
-	case LANE_SERVES: serve(d, l); break;
-	case LANE_HANGS_UP: hang_up(d, l); break;
-	case LANE_LEAVES: leave(d, l, now); break;
-	case LANE_CLOSES: close_lane(d, l); break;
-	}
+	if (l->state == LANE_SERVES)
+		serve(d, l);
+	else if (l->state == LANE_LEAVES)
+		leave(d, l, now);
+	else if (l->state == LANE_CLOSES)
+		close_lane(d, l);
+	if (l->state == LANE_HANGS_UP)
+		hang_up(d, l);
 	return gave;
 }
 

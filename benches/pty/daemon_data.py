@@ -343,7 +343,7 @@ class TextModem(daemons.Modem):
             super().take_info(dlci, info)
 
     def answer(self, dlci, line):
-        if not line.startswith(b"AT+CMGS=") or line.endswith(b"?"):
+        if b"+CMGS=" not in line or line.endswith(b"?"):
             return super().answer(dlci, line)
         self.asked.append((dlci, line))
         if line == b"AT+CMGS=0":

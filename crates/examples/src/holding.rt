@@ -1,18 +1,5 @@
-//! What is kept while something else is made, or lent. It may be anything here, so these prove at little cost.
-ghost use Rattle.std.specs.Prelude.{◌≡◌, IfOk, Ok};
-
+//! What is lent. It may be anything here, so these prove at little cost.
 use crate::Stop;
-
-/// What was made, beside what is kept.
-pub fn beside<A: Drop, K: Drop>(made: Result<A, Stop>, kept: K) -> Result<(A, K), Stop>
-    ensures made { IfOk result (λ r. made ≡ Ok r.0) }
-    ensures kept { IfOk result (λ r. r.1 ≡ kept) }
-{
-    match made {
-        Ok(made) => Ok((made, kept)),
-        Err(stop) => Err(stop),
-    }
-}
 
 /// Lends what was made, and drops it.
 pub fn with<T: Drop, E, A, F>(made: Result<T, E>, used: F) -> Result<A, Stop>

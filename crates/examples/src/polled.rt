@@ -1,7 +1,6 @@
 //! A session, a simulated modem and a caller as three futures under one executor, in one thread. Of a session that is polled only
 //! the end is known: who wants to settle its desk polls it by `advance`, as `driving` does.
 use crate::Stop;
-use crate::holding::beside;
 use crate::session::begin;
 use crate::typed::signal_ask;
 use futures::Future;
@@ -12,6 +11,7 @@ use modem_desk::{Answer, Ask, Caller, Desk, DriverEnd};
 use modem_driver::{Ended, Session};
 use modem_sim::Sim;
 use mux_frame::Dlci;
+use results::beside;
 use serial_line::SerialLine;
 use std::alloc::{AllocGlobal, Global};
 use std::random::RandomSource;

@@ -8,7 +8,7 @@ use Rattle.std_heap.specs.contracts.GlobalAllocator.TheImpl.{ghosts, dict}
 use Rattle.std_heap.proofs.Global.TheLaws as heap
 use Rattle.modem_driver.specs.contracts.endpoint.Endpoint as Endpoint
 use Rattle.modem_driver.proofs.endpoint.Endpoint.TheLaws as endpoint
-use Rattle.modem_c.specs.contracts.parts.Parts as Parts
+use Rattle.box_parts.specs.contracts.parts.Parts as Parts
 use Rattle.modem_c.specs.contracts.handle.Handle as Handle
 
 abbrev pub E : Bx

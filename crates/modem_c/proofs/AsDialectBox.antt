@@ -8,7 +8,7 @@ use Rattle.std_heap.specs.contracts.GlobalAllocator.TheImpl.{ghosts, dict}
 use Rattle.std_heap.proofs.Global.TheLaws as heap
 use Rattle.at_text.specs.contracts.dialect.Dialect as Dialect
 use Rattle.at_text.proofs.dialect.Dialect.TheLaws as dialect
-use Rattle.modem_c.specs.contracts.parts.Parts as Parts
+use Rattle.box_parts.specs.contracts.parts.Parts as Parts
 use Rattle.modem_c.specs.contracts.dialects.handle.Handle as Handle
 
 abbrev pub E : Bx

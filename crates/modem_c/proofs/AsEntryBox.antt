@@ -8,7 +8,7 @@ use Rattle.std_heap.specs.contracts.GlobalAllocator.TheImpl.{ghosts, dict}
 use Rattle.std_heap.proofs.Global.TheLaws as heap
 use Rattle.modem_c.specs.contracts.entries.entering.Entering as Entering
 use Rattle.modem_c.proofs.entries.entering.Entering.TheLaws as entering
-use Rattle.modem_c.specs.contracts.parts.Parts as Parts
+use Rattle.box_parts.specs.contracts.parts.Parts as Parts
 use Rattle.modem_c.specs.contracts.entries.handle.Handle as Handle
 
 abbrev pub E : Bx

@@ -3,7 +3,7 @@ ghost use Rattle.std.specs.Prelude.{◌≡◌, ◌≢◌, None, Some, Option};
 ghost use Rattle.modem_driver.specs.Endpoints.{EndpointState};
 ghost use Rattle.modem_c.specs.Held.{held_coded, holds};
 
-use crate::parts::Parts;
+use box_parts::Parts;
 use modem_driver::Endpoint;
 use std::alloc::Global;
 use std::marker::Model;

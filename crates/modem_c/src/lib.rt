@@ -3,7 +3,7 @@
 //!
 //! # Layout
 //!
-//! - `driver`, `handle`, `parts`: what C keeps of a driver. `making`, `ending`.
+//! - `driver`, `handle`: what C keeps of a driver. `making`, `ending`.
 //! - `requests`, `octets`, `outcomes`, `lines`, `states`, `time`: its calls. `numbers`, `kinds`, `places`: numbers and the caller's room.
 //! - `dialects/`, `entries/`: dialects and entries, each with a handle of its own.
 //! - `laws`.
@@ -21,7 +21,6 @@ mod making;
 mod numbers;
 mod octets;
 mod outcomes;
-mod parts;
 mod places;
 mod requests;
 mod states;

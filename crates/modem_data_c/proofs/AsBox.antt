@@ -8,7 +8,7 @@ use Rattle.std_heap.specs.contracts.GlobalAllocator.TheImpl.{ghosts, dict}
 use Rattle.std_heap.proofs.Global.TheLaws as heap
 use Rattle.modem_data.specs.contracts.relay.Relay as Relay
 use Rattle.modem_data.proofs.relay.Relay.TheLaws as relay
-use Rattle.modem_data_c.specs.contracts.parts.Parts as Parts
+use Rattle.box_parts.specs.contracts.parts.Parts as Parts
 use Rattle.modem_data_c.specs.contracts.handle.Handle as Handle
 
 abbrev pub E : Bx

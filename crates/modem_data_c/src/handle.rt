@@ -3,7 +3,7 @@ ghost use Rattle.std.specs.Prelude.{◌≡◌, ◌≢◌, None, Some, Option};
 ghost use Rattle.modem_data.specs.Hops.{Relay as Kept};
 ghost use Rattle.modem_data_c.specs.Held.{held_coded, holds};
 
-use crate::parts::Parts;
+use box_parts::Parts;
 use modem_data::Relay;
 use std::alloc::Global;
 use std::marker::Model;

@@ -2,7 +2,7 @@
 ghost use Rattle.std.specs.Prelude.{◌≡◌, ◌≢◌, ◌↔◌, true, None, Some, IfSome};
 
 use crate::handle::Handle;
-use crate::parts::Parts;
+use box_parts::Parts;
 use modem_data::Relay;
 use std::alloc::Global;
 use std::mem::replace;

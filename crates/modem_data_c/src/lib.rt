@@ -3,7 +3,7 @@
 //!
 //! # Layout
 //!
-//! - `held_data`, `handle`, `parts`: what C keeps of a relay. `making`.
+//! - `held_data`, `handle`: what C keeps of a relay. `making`.
 //! - `lanes`, `octets`: its calls. `numbers`, `places`: numbers and the caller's room.
 #![tactic(auto)]
 
@@ -13,7 +13,6 @@ mod lanes;
 mod making;
 mod numbers;
 mod octets;
-mod parts;
 mod places;
 
 pub use held_data::CimbalotyData;

@@ -1,6 +1,5 @@
 //! A session with its callers and listeners.
 use crate::desks::open_once;
-use crate::holding::beside;
 use crate::lines::Host;
 use crate::printing::{mark, poll, print_act, print_came, print_refused, say, wait};
 use crate::setup::Setup;
@@ -9,6 +8,7 @@ use at_text::UrcKind;
 use ctl_run::Stop;
 use modem_desk::{Caller, DriverEnd, Listener};
 use modem_driver::{Act, Ask, Event, Outcome, Session, SessionError, SessionFault, Turn, Urc};
+use results::beside;
 use serial_line::SerialLine;
 
 /// The most turns in a row.

@@ -1,5 +1,4 @@
 //! A session and a simulated modem at the two ends of one line, in one thread.
-use crate::holding::beside;
 use crate::lines::{Begins, Host, Player};
 use crate::near::Near;
 use crate::setup::Setup;
@@ -9,6 +8,7 @@ use ctl_run::Stop;
 use modem_bench::Cause;
 use modem_driver::Turn;
 use modem_sim::{Sim, SimTurn};
+use results::beside;
 use serial_line::{LineError, ThreadLine};
 
 /// The most turns of each in a row.

@@ -1,5 +1,4 @@
 //! A session and a simulated modem, each at one of two lines in memory, in one thread and in rounds.
-use crate::holding::beside;
 use crate::lines::{Begins, Host, Player};
 use crate::near::Near;
 use crate::setup::Setup;
@@ -7,6 +6,7 @@ use crate::sims::made;
 use ctl_run::Stop;
 use modem_bench::{Cause, Rest, run_in_rounds};
 use modem_sim::Sim;
+use results::beside;
 use serial_line::{CutLine, LineError};
 use std::alloc::Global;
 

@@ -3,7 +3,7 @@ ghost use Rattle.std.specs.Prelude.{◌≡◌, ◌≢◌, None, Some, Option};
 ghost use Rattle.at_text.specs.Rules.{Rules};
 ghost use Rattle.modem_c.specs.HeldDialects.{held_coded, holds};
 
-use crate::parts::Parts;
+use box_parts::Parts;
 use at_text::Dialect;
 use std::alloc::Global;
 use std::marker::Model;

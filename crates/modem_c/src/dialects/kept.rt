@@ -2,7 +2,7 @@
 ghost use Rattle.std.specs.Prelude.{◌≡◌, ◌≢◌, ◌↔◌, true, None, Some, IfSome};
 
 use crate::dialects::handle::Handle;
-use crate::parts::Parts;
+use box_parts::Parts;
 use at_text::Dialect;
 use std::alloc::Global;
 use std::mem::replace;

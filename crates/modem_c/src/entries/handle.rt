@@ -4,7 +4,7 @@ ghost use Rattle.modem_c.specs.Entries.{EntryState};
 ghost use Rattle.modem_c.specs.HeldEntries.{held_coded, holds};
 
 use crate::entries::entering::Entering;
-use crate::parts::Parts;
+use box_parts::Parts;
 use std::alloc::Global;
 use std::marker::Model;
 use std::ptr::null_mut;

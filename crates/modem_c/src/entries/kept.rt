@@ -3,7 +3,7 @@ ghost use Rattle.std.specs.Prelude.{◌≡◌, ◌≢◌, ◌↔◌, true, None,
 
 use crate::entries::entering::Entering;
 use crate::entries::handle::Handle;
-use crate::parts::Parts;
+use box_parts::Parts;
 use std::alloc::Global;
 use std::mem::replace;
 

@@ -1,13 +1,14 @@
-// A box with its pointer and its allocator in sight.
+//! A box in parts.
 ghost use Rattle.std.specs.Prelude.{◌≡◌};
 ghost use Rattle.std.specs.Box.Ownership.{box_owns};
 
 use std::alloc::Allocator;
 use std::marker::Model;
 
-pub(crate) struct Parts<T, A: Allocator> {
-    pub(crate) ptr: *mut T,
-    pub(crate) alloc: A,
+/// The pointer of a box, and the allocator that its memory is of. It owns what the box owned.
+pub struct Parts<T, A: Allocator> {
+    pub ptr: *mut T,
+    pub alloc: A,
     pub ghost value: { T },
 }
 
@@ -16,7 +17,8 @@ impl<T, A: Allocator> Model for Parts<T, A> {
 }
 
 impl<T, A: Allocator> Parts<T, A> {
-    pub(crate) fn of(b: Box<T, A>) -> Parts<T, A>
+    /// The parts of a box.
+    pub fn of(b: Box<T, A>) -> Parts<T, A>
     where
         T: Drop,
         ensures { result.value ≡ b.value }
@@ -25,7 +27,8 @@ impl<T, A: Allocator> Parts<T, A> {
         Parts { ptr, alloc }
     }
 
-    pub(crate) fn into_box(self) -> Box<T, A>
+    /// The box of these parts.
+    pub fn into_box(self) -> Box<T, A>
         ensures { result.value ≡ self.value }
     {
         let Parts { ptr, alloc } = self;
