@@ -31,7 +31,9 @@ def refusals(build):
         (["--events", "at5", "t", "d"], "events at5: there are only 4 connections"),
         (["--events", "ati", "t", "d"], "--events ati: the name"),
         (["--data", "0", "t", "d"], "--data 0: the number of a connection"),
-        (["--dial", "5", "t", "d"], "data 5: there is no such connection"),
+        (["--dial", "5", "t", "d"], "connection 5: there is no such connection"),
+        (["--sms", "62", "t", "d"], "sms 62: the number of a connection"),
+        (["--carrier", "2", "--sms", "2", "t", "d"], "connection 2: it has a carrier, and carries no data"),
         (["--connections", "9", *(word for n in range(1, 10) for word in ("--data", str(n))), "t", "d"], "at most 8 connections carry data"),
         (["--mode", "8", "t", "d"], "--mode 8: permissions in octal"),
         (["--group", "no-such-group", "t", "d"], "--group no-such-group: the name or number of a group"),
@@ -91,7 +93,7 @@ def help_and_version(build):
     page = (TOP / "daemon" / "cimbalotyd.8").read_text().replace("\\-", "-")
     words = [line.split()[0] for line in out.splitlines() if line.startswith("  --")]
     missing = [word for word in words if word.rstrip(",") not in page]
-    check(f"{build.name}: --help and --version", status == 0 and not said and len(words) == 22 and not missing and version[0] == 0
+    check(f"{build.name}: --help and --version", status == 0 and not said and len(words) == 24 and not missing and version[0] == 0
           and version[1] == "cimbalotyd 0.1.0\n", f"{len(words)} words, not in the man page: {missing}, {version[1].strip()}")
 
 
