@@ -1,7 +1,7 @@
 -- A modem at plain command lines, before the multiplexer (V.250, 5; 27.007, 5.7).
 use Rattle.std.specs.Prelude.{ℕ, ◌&&◌, Bool, true, false, List, [], ◌∷◌, ◌++◌, fold, Option, Some, None, if◌then◌else◌, codes}
 use Rattle.at_text.specs.Lines.{cut, is_line_end}
-use Rattle.modem_sim.specs.CommandLines.{is_letter_a, is_letter_t}
+use Rattle.modem_sim.specs.CommandLines.{begins_with_at, is_letter_a, is_letter_t}
 use Rattle.modem_sim.specs.declared.state.ModemState.{ModemState}
 use Rattle.modem_sim.specs.Pieces.{framed, pieces_octets, reply}
 use Rattle.modem_sim.specs.Steps.{echoes, step}
@@ -9,13 +9,7 @@ use Rattle.ctl_sim.specs.Entry.{mux_entry}
 
 -- ## Command lines
 
--- octets begin with AT, its letters in either case (5.2.1)
-abbrev pub begins_with_at : List ℕ → Bool
-begins_with_at [] = false
-begins_with_at (a ∷ []) = false
-begins_with_at (a ∷ t ∷ rest) = is_letter_a a && is_letter_t t
-
--- with octets behind them they may
+-- octets begin with AT, its letters in either case, or may with octets behind them (5.2.1)
 abbrev pub may_begin : List ℕ → Bool
 may_begin [] = true
 may_begin (a ∷ []) = is_letter_a a

@@ -1,13 +1,13 @@
 //! A modem at plain command lines.
 ghost use Rattle.std.specs.Prelude.{◌≡◌, ◌≤◌, ◌<◌, ◌++◌, ◌∷◌, [], None, length, take, option_map, IfOk, OnOk};
 ghost use Rattle.at_text.specs.Lines.{cut, is_line_end};
-ghost use Rattle.ctl_sim.specs.Plain.{begins_with_at, ended_by, entered_by_ended, from_at, may_begin, modem_by, modem_by_ended, plain_after, plain_begun, plain_octet, repeated_as, run_by, said_entering, said_to, said_to_ended};
+ghost use Rattle.ctl_sim.specs.Plain.{ended_by, entered_by_ended, from_at, may_begin, modem_by, modem_by_ended, plain_after, plain_begun, plain_octet, repeated_as, run_by, said_entering, said_to, said_to_ended};
 ghost use Rattle.modem_sim.specs.CommandLines.{is_letter_a, is_letter_t};
 ghost use Rattle.modem_sim.specs.Pieces.{framed};
 ghost use Rattle.ctl_sim.specs.Entry.{mux_entry, octets_of};
 
 use crate::entry::mux_entry;
-use modem_sim::{Modem, reply};
+use modem_sim::{Modem, begins_with_at, reply};
 use mux_frame::N1;
 use std::alloc::{AllocError, Global};
 use std::marker::Model;
@@ -60,17 +60,7 @@ fn is_letter_t(octet: u8) -> bool
     octet == b'T' || octet == b't'
 }
 
-/// Whether octets begin with `AT`, its letters in either case.
-fn begins_with_at(octets: &[u8]) -> bool
-    ensures { result ≡ begins_with_at octets.now }
-{
-    match octets {
-        [a, t, ..] => is_letter_a(*a) && is_letter_t(*t),
-        _ => false,
-    }
-}
-
-/// Whether they do with octets behind them.
+/// Whether octets begin with `AT`, its letters in either case, or may with octets behind them.
 fn may_begin(octets: &[u8]) -> bool
     ensures { result ≡ may_begin octets.now }
 {
@@ -150,7 +140,7 @@ fn answer(
             Ok(Some(entered))
         }
         None => match reply(modem, false, line, out) {
-            Ok(()) => Ok(None),
+            Ok(_) => Ok(None),
             Err(_) => Err(AllocError),
         },
     }

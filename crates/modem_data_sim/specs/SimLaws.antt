@@ -1,10 +1,13 @@
 -- A simulated modem on a line with its relay.
-use Rattle.std.specs.Prelude.{◌≡◌, ℕ, ◌≤◌, List, [], ◌++◌}
+use Rattle.std.specs.Prelude.{◌≡◌, ℕ, ◌≤◌, true, false, List, [], ◌++◌}
 use Rattle.mux_frame.specs.Frames.{Frame}
 use Rattle.mux_station.specs.declared.role.Role.TheVariants.{Responder}
 use Rattle.modem_sim.specs.Acts.{Act, End}
 use Rattle.modem_sim.specs.Histories.{got, sent}
 use Rattle.modem_sim.specs.Sims.{FitsSim, SimMachine, SimState}
+use Rattle.modem_sim.specs.Steps.{repeats}
+use Rattle.modem_sim.specs.declared.state.ModemState.{ModemState}
+use Rattle.modem_data.specs.Switching.{is_connect}
 use Rattle.modem_data.specs.Hops.{Relay, Hop}
 use Rattle.modem_data_endpoint.specs.Beside.{TellsBehind}
 use Rattle.modem_data_line.specs.DataLines.{Before, DataLineState, LineFits}
@@ -23,3 +26,7 @@ TellsSim {X} received sent =
     (n1 : ℕ) (ds : List ℕ) (before : Before) (e : End) (s : SimState (DataLineState X)) (past : List Act) (hops : List Hop) → n1 ≤ 32767 → e.n1 ≡ n1
     → FitsSim (λ (v : DataLineState X). v.received) (λ (v : DataLineState X). v.sent) (record { received = []; sent = [] }) e s past
     → LineFits received sent Responder n1 ds before s.line hops → StandsBehind n1 s.machine s.line.relay hops past
+
+-- No line is a CONNECT that a modem with words repeats, where it isn't to repeat all.
+abbrev pub RepeatsNone : Type 0
+RepeatsNone = (m : ModemState) (line : List ℕ) → repeats false m line ≡ true → is_connect line ≡ false

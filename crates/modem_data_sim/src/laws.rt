@@ -1,5 +1,5 @@
 //! What a simulated modem on such a line comes to.
-ghost use Rattle.modem_data_sim.specs.SimLaws.{TellsSim};
+ghost use Rattle.modem_data_sim.specs.SimLaws.{RepeatsNone, TellsSim};
 
 use mux_frame::laws::deframed;
 use serial_line::SerialLine;
@@ -13,3 +13,9 @@ pub fn modems<L: SerialLine>()
 {
     deframed();
 }
+
+/// A modem with words repeats no CONNECT that comes to it. So a lane at its end begins by an answer, not by its client's line come back.
+#[tactic(auto, using(crate::proofs::SimLaws::repeats_none))]
+pub fn repeated()
+    ensures { RepeatsNone }
+{}

@@ -6,7 +6,7 @@ use Rattle.modem_sim.specs.declared.channel.Wanted.{Wanted}
 use Rattle.modem_sim.specs.Acts.{Act, End, wire, is_open_at_modem}
 use Rattle.modem_history.specs.Connections.{unfinished_on}
 use Rattle.modem_sim.specs.Pieces.{framed, pieces_octets}
-use Rattle.modem_sim.specs.Outboxes.{outbox, hold_on, is_holding}
+use Rattle.modem_sim.specs.Outboxes.{outbox, hold_on, in_call, is_holding}
 
 -- a hold: the connection on which a command is waited for, and whether one has come there, which ends it
 pub record Waited : Type 0 where
@@ -18,16 +18,17 @@ abbrev pub waited_of : Wanted → Waited
 waited_of w = record { dlci = w.dlci.number; over = w.over }
 
 -- What is kept of a connection: the line that hasn't ended; the octets said that the station wasn't handed; those that
--- a hold holds back, kept apart also once it is over, until they are moved; and the hold.
+-- a hold holds back, kept apart also once it is over, until they are moved; the hold; and whether it is in a call.
 pub record Box : Type 0 where
   pub run : List ℕ
   pub unsent : List ℕ
   pub held : List ℕ
   pub hold : Option Waited
+  pub through : Bool
 
 -- what is kept of a connection that has just opened
 abbrev pub fresh_box : Box
-fresh_box = record { run = []; unsent = []; held = []; hold = None }
+fresh_box = record { run = []; unsent = []; held = []; hold = None; through = false }
 
 -- what a hold that lasts waits for
 abbrev pub lasting : Option Waited → Option ℕ
@@ -46,6 +47,7 @@ pub record BoxFits (e : End) (d : ℕ) (past : List Act) (b : Box) : Type 0 wher
   pub held_is : is_holding (hold_on d past) ≡ true → pieces_octets (outbox e d past).held ≡ b.held
   -- without a hold nothing is kept apart
   pub apart : b.hold ≡ None → b.held ≡ []
+  pub call_is : in_call e d past ≡ b.through
 
 abbrev pub FitsOpen : End → ℕ → List Act → Box → Type 0
 FitsOpen e d past b = is_open_at_modem d past ≡ true → BoxFits e d past b
@@ -64,15 +66,16 @@ abbrev pub said_with : Option Waited → Box → List ℕ → Box
 said_with None b octets = record b { unsent = b.unsent ++ octets }
 said_with (Some w) b octets = record b { held = b.held ++ octets }
 
--- what a frame brings to its connection: the line that is unfinished after it, and what is said to the lines
--- that ended
+-- what a frame brings to its connection: the line that is unfinished after it, what is said to the lines that ended, and whether
+-- one of them put a call through
 pub record Brought : Type 0 where
   pub run : List ℕ
   pub said : List ℕ
+  pub calls : Bool
 
 -- the box after a frame's octets: the replies to the lines that ended stand behind what was said before
 abbrev pub box_taken : Brought → Box → Box
-box_taken x b = record (said_with b.hold b x.said) { run = x.run }
+box_taken x b = record (said_with b.hold b x.said) { run = x.run; through = b.through || x.calls }
 
 -- what a frame makes of a box: it starts afresh where the connection opens, and another connection's isn't
 -- touched

@@ -16,6 +16,12 @@ is_letter_a c = c == 65 || c == 97
 abbrev pub is_letter_t : ℕ → Bool
 is_letter_t c = c == 84 || c == 116
 
+-- octets begin with AT, its letters in either case (5.2.1)
+abbrev pub begins_with_at : List ℕ → Bool
+begins_with_at [] = false
+begins_with_at (a ∷ []) = false
+begins_with_at (a ∷ t ∷ rest) = is_letter_a a && is_letter_t t
+
 -- the letter D, in either case
 abbrev pub is_letter_d : ℕ → Bool
 is_letter_d c = c == 68 || c == 100

@@ -1,5 +1,5 @@
 -- What a simulated modem's end keeps, and the pasts that it fits.
-use Rattle.std.specs.Prelude.{◌≡◌, ◌≢◌, ℕ, ◌+◌, ◌-◌, ◌^◌, ◌<◌, ◌≤◌, ◌==◌, ◌&&◌, ◌||◌, Bool, true, false, List, [], ◌∷◌, ◌++◌, None, Some, length, map, filter, min, slice_index_or, slice_set, if◌then◌else◌}
+use Rattle.std.specs.Prelude.{◌≡◌, ◌≢◌, ℕ, ◌+◌, ◌-◌, ◌^◌, ◌<◌, ◌≤◌, ◌==◌, ◌&&◌, ◌||◌, not, Bool, true, false, List, [], ◌∷◌, ◌++◌, None, Some, length, map, filter, min, slice_index_or, slice_set, if◌then◌else◌}
 use Rattle.std.specs.List.{list_all}
 use Rattle.mux_frame.specs.Frames.{Frame}
 use Rattle.mux_station.specs.Acts as station
@@ -16,6 +16,7 @@ use Rattle.mux_station.specs.Messages.{cld, brings_command}
 use Rattle.at_text.specs.Lines.{lines, kept_run}
 use Rattle.modem_sim.specs.Laws.{after_lines}
 use Rattle.modem_sim.specs.Pieces.{pieces_octets, replies}
+use Rattle.modem_sim.specs.Outboxes.{any_call}
 use Rattle.modem_sim.specs.declared.script.Step.{Step}
 use Rattle.modem_sim.specs.declared.script.StepAct.{StepAct}
 use Rattle.modem_sim.specs.declared.script.StepAct.TheVariants.{Announce, Hold, CloseDown}
@@ -121,6 +122,7 @@ abbrev pub brought : Core → Frame → Brought
 brought c f = record {
   run = kept_run ((box_at c f.dlci).run ++ octets_in c f);
   said = pieces_octets (replies c.echo c.modem (lines_in c f));
+  calls = any_call c.modem (lines_in c f);
 }
 
 -- the frame opens its connection: a SABM on 0, or while 0 is open
@@ -226,17 +228,23 @@ pub data AtStation (old new : stations.Station) (act : StepAct) : Type 0 where
 abbrev pub are_open_in : stations.Station → StepAct → Bool
 are_open_in v act = list_all (λ d. is_opened (stations.channel_at v d).state) (named_by act)
 
+-- it announces nothing in a call
+abbrev pub are_free_in : List Box → StepAct → Bool
+are_free_in boxes (Announce d line) = not (slice_index_or boxes d.number fresh_box).through
+are_free_in boxes _ = true
+
 -- the station refuses what a step asks of it
 pub record Refuses (v : stations.Station) (act : StepAct) : Type 0 where
   pub call : station.Call
   pub asked : call_of act ≡ Some call
   pub refused : sending.refused (stations.setting_of v) (stations.seen_in v) call ≢ None
 
--- why a step isn't done yet: more lines have to come, a connection that it names isn't open, or the station
+-- why a step isn't done yet: more lines have to come, a connection that it names isn't open, or is in a call, or the station
 -- refuses what it asks
 pub data Waits (c : Core) (step : Step) : Type 0 where
   for_lines : c.come < step.after → step.after < 2 ^ 64 → Waits c step
   for_openings : are_open_in c.station step.act ≡ false → Waits c step
+  for_calls : are_free_in c.boxes step.act ≡ false → Waits c step
   for_room : Refuses c.station step.act → Waits c step
 
 -- no step can be done: none is left, or the next one isn't passed over and waits
@@ -261,6 +269,7 @@ pub record SaysNext (c : Core) : Type 0 where
   pub is_done : acts step.act ≡ true
   pub come : step.after ≤ c.come
   pub open_are : are_open_in c.station step.act ≡ true
+  pub free : are_free_in c.boxes step.act ≡ true
   pub asks_nothing : call_of step.act ≡ None
 
 -- on an open connection a hold is over, and what it held back is still kept apart

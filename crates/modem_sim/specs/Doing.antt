@@ -9,6 +9,7 @@ use Rattle.modem_sim.specs.declared.script.StepAct.{StepAct}
 use Rattle.modem_sim.specs.declared.script.StepAct.TheVariants.{Announce, Flow, Hold, Disconnect, CloseDown}
 use Rattle.modem_sim.specs.Acts.{Act, Wire, Did, End, is_open_at_modem}
 use Rattle.modem_sim.specs.Heard.{heard}
+use Rattle.modem_sim.specs.Outboxes.{in_call}
 
 -- a text that can be a line: 1 to 512 octets, no CR and no LF among them
 abbrev pub is_line : List ℕ → Bool
@@ -29,6 +30,11 @@ named_by (Flow d go) = d.number ∷ []
 named_by (Hold d e) = d.number ∷ e.number ∷ []
 named_by (Disconnect d) = d.number ∷ []
 named_by CloseDown = 0 ∷ []
+
+-- a step may be done while connections are in calls as they are: no line is announced among the data of one (27.007, 10.1.12)
+abbrev pub is_free : End → List Act → StepAct → Bool
+is_free e past (Announce d line) = not (in_call e d.number past)
+is_free e past _ = true
 
 -- what a step asks of the station
 abbrev pub call_of : StepAct → Option station.Call
@@ -53,8 +59,8 @@ done (Wire a ∷ past) = done past
 abbrev pub left : End → List Act → List Step
 left e past = drop (length (done past)) (filter (λ (s : Step). acts s.act) e.steps)
 
--- the step may be done now: it is the first that is left, as many lines have come as it waits for, and what it names is
--- open
+-- the step may be done now: it is the first that is left, as many lines have come as it waits for, what it names is open, and it
+-- announces nothing in a call
 pub record IsDue (e : End) (past : List Act) (act : StepAct) : Type 0 where
   pub next : Step
   pub later : List Step
@@ -62,6 +68,7 @@ pub record IsDue (e : End) (past : List Act) (act : StepAct) : Type 0 where
   pub is_its : next.act ≡ act
   pub come : nat_le next.after (length (heard past)) ≡ true
   pub open_are : list_all (λ d. is_open_at_modem d past) (named_by act) ≡ true
+  pub free : is_free e past act ≡ true
 
 -- the act closes down: a CLD is asked for, or comes while 0 is open (27.010, 5.4.6.3.3)
 abbrev pub closes_down : List Act → station.Act → Bool

@@ -18,6 +18,7 @@ pub mod Outboxes
 pub mod Doing
 pub mod Histories
 pub mod HistoryRows
+pub mod CallRows
 pub mod Replied
 pub mod Boxes
 pub mod Cores

@@ -1,12 +1,14 @@
 -- What a simulated modem has to write on a connection since it opened, and what of it is held back.
-use Rattle.std.specs.Prelude.{ℕ, ◌==◌, ◌&&◌, not, Bool, true, false, List, [], ◌∷◌, ◌++◌, Option, Some, None, is_none, if◌then◌else◌}
+use Rattle.std.specs.Prelude.{ℕ, ◌==◌, ◌&&◌, ◌||◌, not, Bool, true, false, List, [], ◌∷◌, ◌++◌, Option, Some, None, is_none, if◌then◌else◌}
 use Rattle.mux_frame.specs.Frames.{Frame}
 use Rattle.mux_station.specs.declared.role.Role.TheVariants.{Responder}
 use Rattle.mux_station.specs.Acts as station
 use Rattle.mux_station.specs.Opening.{opens_now, belongs}
 use Rattle.modem_sim.specs.declared.script.StepAct.TheVariants.{Announce, Hold}
 use Rattle.modem_sim.specs.Acts.{Act, Wire, Did, End, wire}
+use Rattle.modem_sim.specs.declared.state.ModemState.{ModemState}
 use Rattle.modem_sim.specs.Heard.{modem_after, texts_with}
+use Rattle.modem_sim.specs.Steps.{any_through, step}
 use Rattle.modem_sim.specs.Pieces.{Piece, Announced, replies}
 
 abbrev pub is_empty : List (List ℕ) → Bool
@@ -33,6 +35,26 @@ hold_on d [] = None
 hold_on d (Did (Hold x e) ∷ past) = if x.number == d then Some e.number else hold_on d past
 hold_on d (Did _ ∷ past) = hold_on d past
 hold_on d (Wire a ∷ past) = if stays d past a then lasts past a (hold_on d past) else None
+
+-- ## Calls (27.007, 10.1.12)
+
+-- one of these lines puts a call through
+abbrev pub any_call : ModemState → List (List ℕ) → Bool
+any_call m [] = false
+any_call m (line ∷ lines) = any_through (step m line).answer || any_call (step m line).state lines
+
+-- d is in a call then, or goes on to be
+abbrev pub calls_after : End → ℕ → List Act → station.Act → Bool → Bool
+calls_after e d past (station.Got f) was = was || ((f.dlci == d) && any_call (modem_after e past) (texts_with past f))
+calls_after e d past _ was = was
+
+-- d is in a call: since it opened a line on it put one through
+abbrev pub in_call : End → ℕ → List Act → Bool
+in_call e d [] = false
+in_call e d (Did step ∷ past) = in_call e d past
+in_call e d (Wire a ∷ past) = if stays d past a then calls_after e d past a (in_call e d past) else false
+
+-- ## What is said
 
 -- what is said, piece by piece in the order in which it goes out, and what is held back
 pub record Outbox : Type 0 where

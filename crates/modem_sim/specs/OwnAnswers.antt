@@ -42,3 +42,11 @@ said_now lines = flat_map now_of lines
 -- what of them is left
 abbrev pub said_later : List OwnLine → List OwnLine
 said_later lines = flat_map later_of lines
+
+-- where a line's answer ends by a CONNECT nothing is said behind it: each line that waits does so on, and one command line fewer has to come
+abbrev pub waits_on : OwnLine → OwnLine
+waits_on l = record l { after = l.after - 1 }
+
+-- a line that is due behind the next answer
+abbrev pub due_line : AnswerLine → OwnLine
+due_line line = record { after = 0; line = line }

@@ -3,7 +3,7 @@ use Rattle.std.specs.Prelude.{ℕ, Bool, List, [], ◌∷◌, ◌++◌, map, if�
 use Rattle.std.specs.List.{flat_map}
 use Rattle.at_text.specs.declared.answer.AnswerLine.{AnswerLine}
 use Rattle.modem_sim.specs.declared.state.ModemState.{ModemState}
-use Rattle.modem_sim.specs.Steps.{echoes, step}
+use Rattle.modem_sim.specs.Steps.{repeats, step}
 
 pub data Piece : Type 0 where
   -- a command, repeated
@@ -36,7 +36,7 @@ echoed echo line = if echo then Echo line ∷ [] else []
 
 -- what a modem writes for a command line: the line repeated, where that is on, and the answer
 abbrev pub reply : Bool → ModemState → List ℕ → List Piece
-reply echo m line = echoed (echoes echo m) line ++ answers (step m line).answer
+reply echo m line = echoed (repeats echo m line) line ++ answers (step m line).answer
 
 -- what a modem writes for command lines, one after the other
 abbrev pub replies : Bool → ModemState → List (List ℕ) → List Piece

@@ -1,8 +1,9 @@
 -- What a modem answers to a command line, and its state afterwards, by three tables: what a command is refused with,
 -- the state after it, what it tells. The law that an answer is read back shares them (V.250, 5.2 and 5.7; 27.007, 7.2,
 -- 7.3, 8.3, 8.5, 9.1, 9.2, 10.1.1, 10.1.9).
-use Rattle.std.specs.Prelude.{ℕ, ◌-◌, ◌==◌, ◌||◌, nat_le, nat_lt, Bool, true, false, List, [], ◌∷◌, ◌++◌, length, map, filter, fold, Option, Some, None, is_some, unwrap_or, if◌then◌else◌, codes}
+use Rattle.std.specs.Prelude.{ℕ, ◌-◌, ◌==◌, ◌&&◌, ◌||◌, nat_le, nat_lt, Bool, true, false, List, [], ◌∷◌, ◌++◌, length, map, filter, fold, Option, Some, None, is_some, unwrap_or, if◌then◌else◌, codes}
 use Rattle.std.specs.Fmt.{decimal}
+use Rattle.std.specs.List.{list_any}
 use Rattle.std.specs.Str.{bytes_eq}
 use Rattle.at_text.specs.declared.answer.AnswerLine.{AnswerLine}
 use Rattle.at_cmds.specs.declared.command.Command.{Command}
@@ -24,10 +25,10 @@ use Rattle.modem_sim.specs.declared.words.Domain.TheVariants.{Packet, Evolved}
 use Rattle.modem_sim.specs.declared.words.Form.TheVariants.{Operators}
 use Rattle.modem_sim.specs.declared.words.Word.{Word}
 use Rattle.modem_sim.specs.declared.words.Word.TheVariants.{Reset, Echo, Identity, Manufacturer, Product, Revision, Serial, Subscriber, Capabilities, Functionality, FunctionalityQuery, FunctionalityForms, RegForms, Report, ReportQuery, ReportForms, OperFormat, ContextForms, Activate, ActivityQuery, ActivityForms, Addresses, AddressForms, Dial, SetCharset, CharsetQuery, CharsetForms, LockForms, LockQuery, Unlock, Forms, ErrorsQuery, MultiplexerQuery}
-use Rattle.modem_sim.specs.CommandLines.{commands_in}
+use Rattle.modem_sim.specs.CommandLines.{begins_with_at, commands_in}
 use Rattle.modem_sim.specs.Contexts.{active_after, is_active, is_defined, names, with_context}
 use Rattle.modem_sim.specs.SettingTexts.{activity_text, address_text, charset_text, context_forms, form_texts, lock_text, named_oper_text, numbers_text}
-use Rattle.modem_sim.specs.OwnAnswers.{own_lines, said_later, said_now}
+use Rattle.modem_sim.specs.OwnAnswers.{due_line, own_lines, said_later, said_now, waits_on}
 use Rattle.modem_sim.specs.Reading.{is_attention, command_of}
 use Rattle.modem_sim.specs.StateTexts.{attached_text, cell_text, context_text, oper_text, pin_text, reg_text, signal_text, whole_context_text}
 use Rattle.modem_sim.specs.Words.{word_of}
@@ -454,17 +455,42 @@ announced_as false true s = all_reports s true
 abbrev pub announced : ModemState → ModemState → List (List ℕ)
 announced before s = announced_as (is_registered before.lock before.oper) (is_registered s.lock s.oper) s
 
--- the answer to a line whose commands came to this
-abbrev pub worded_answer : ModemState → Ran → List AnswerLine
-worded_answer s r = r.told ++ line_of (final_text r.ended) ∷ map line_of (announced s r.state)
+-- a call is put through by its CONNECT: what stands behind that on its connection is data (27.007, 10.1.12)
+abbrev pub puts_through : List ℕ → Bool
+puts_through code = bytes_eq code (codes "CONNECT")
+
+-- the code with which a line ended puts a call through
+abbrev pub is_through : Option (List ℕ) → Bool
+is_through None = false
+is_through (Some code) = puts_through code
+
+-- the reports that stand behind an answer; behind a CONNECT they are held, and are due with the next answer
+abbrev pub reports_now : (through : Bool) → List (List ℕ) → List AnswerLine
+reports_now true texts = []
+reports_now false texts = map line_of texts
+
+abbrev pub reports_held : (through : Bool) → List (List ℕ) → List OwnLine
+reports_held true texts = map due_line (map line_of texts)
+reports_held false texts = []
+
+-- the state after a line whose commands came to this, and the answer to it
+abbrev pub answered_by : (through : Bool) → ModemState → Ran → Step
+answered_by through s r = record {
+  state = record r.state { late = reports_held through (announced s r.state) ++ r.state.late };
+  answer = r.told ++ line_of (final_text r.ended) ∷ reports_now through (announced s r.state);
+}
 
 -- a line without AT isn't for the modem, and isn't answered
 abbrev pub worded_by : ModemState → Option (List (List ℕ)) → Step
 worded_by s None = record { state = s; answer = [] }
-worded_by s (Some commands) = record {
-  state = (fold ran_next (nothing_ran s) commands).state;
-  answer = worded_answer s (fold ran_next (nothing_ran s) commands);
-}
+worded_by s (Some commands) =
+    let r = fold ran_next (nothing_ran s) commands in
+    answered_by (is_through r.ended) s r
+
+-- the commands of a line put a call through
+abbrev pub through_by : ModemState → Option (List (List ℕ)) → Bool
+through_by s None = false
+through_by s (Some commands) = is_through (fold ran_next (nothing_ran s) commands).ended
 
 -- a line of so many octets is too long, of which no more are kept
 abbrev pub is_too_long : List ℕ → Bool
@@ -480,22 +506,47 @@ abbrev pub worded_step : ModemState → List ℕ → Step
 worded_step s line =
     if is_too_long line then refused_by s (line_commands line) else worded_by s (line_commands line)
 
+-- the line puts a call through
+abbrev pub line_through : ModemState → List ℕ → Bool
+line_through s line = if is_too_long line then false else through_by s (line_commands line)
+
+-- of lines that waited for a command line those that are due are said behind its answer, but behind no CONNECT: there they wait on
+abbrev pub late_said : (through : Bool) → List OwnLine → List AnswerLine
+late_said true late = []
+late_said false late = said_now late
+
+abbrev pub late_after : (through : Bool) → List OwnLine → List OwnLine
+late_after true late = map waits_on late
+late_after false late = said_later late
+
 -- what a modem with words says of its own, now and later, to a line that isn't too long
 abbrev pub own_answer : ModemState → List ℕ → Option (List OwnLine)
 own_answer s line = if is_too_long line then None else own_lines s.own line
 
+-- a line of them is a CONNECT
+abbrev pub any_through : List AnswerLine → Bool
+any_through lines = list_any (λ (l : AnswerLine). puts_through l.text) lines
+
 -- an answer of its own is all that is said, and nothing is done; behind it come the lines of earlier ones that waited for this line
 abbrev pub own_said : List OwnLine → ModemState → Step
-own_said lines s = record { state = record s { late = said_later (s.late ++ lines) }; answer = said_now lines ++ said_now s.late }
+own_said lines s =
+    let through = any_through (said_now lines) in
+    record {
+      state = record s { late = late_after through s.late ++ said_later lines };
+      answer = said_now lines ++ late_said through s.late;
+    }
 
 -- lines that waited for this one come behind its answer
-abbrev pub with_late : List OwnLine → Step → Step
-with_late late t = record { state = record t.state { late = said_later late }; answer = t.answer ++ said_now late }
+abbrev pub with_late : (through : Bool) → Step → Step
+with_late through t = record {
+  state = record t.state { late = late_after through t.state.late };
+  answer = t.answer ++ late_said through t.state.late;
+}
 
 -- where it has no answer of its own, the tables are looked into
 abbrev pub own_step : Option (List OwnLine) → ModemState → List ℕ → Step
 own_step (Some lines) s line = own_said lines s
-own_step None s line = with_late s.late (worded_step s line)
+own_step None s line = with_late (line_through s line) (worded_step s line)
 
 -- ## Both
 
@@ -515,3 +566,8 @@ echoes_as (Some w) = w.echo
 abbrev pub echoes : Bool → ModemState → Bool
 echoes true s = true
 echoes false s = echoes_as s.words
+
+-- whether it repeats a line: a modem with words only one that begins with AT, and so no CONNECT that comes to it
+abbrev pub repeats : Bool → ModemState → List ℕ → Bool
+repeats true s line = true
+repeats false s line = echoes_as s.words && begins_with_at line

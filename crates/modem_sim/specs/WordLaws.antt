@@ -1,5 +1,5 @@
 -- Laws of a modem with words.
-use Rattle.std.specs.Prelude.{◌≡◌, ◌≢◌, ℕ, Bool, true, false, List, [], ◌∷◌, ◌++◌, fold, map, Some, None, is_some}
+use Rattle.std.specs.Prelude.{◌≡◌, ◌≢◌, ℕ, Bool, true, false, List, [], ◌∷◌, ◌++◌, codes, fold, map, Some, None, is_some}
 use Rattle.modem_sim.specs.declared.modem.ModemStart.{ModemStart}
 use Rattle.modem_sim.specs.declared.own_answers.OwnAnswer.{OwnAnswer}
 use Rattle.modem_sim.specs.declared.state.Lock.TheVariants.{Ready}
@@ -9,7 +9,8 @@ use Rattle.modem_sim.specs.Contexts.{is_active, is_defined}
 use Rattle.modem_sim.specs.Laws.{after_lines}
 use Rattle.modem_sim.specs.Reading.{command_of}
 use Rattle.modem_sim.specs.declared.words.Word.TheVariants.{Dial}
-use Rattle.modem_sim.specs.Steps.{announced, dialled, is_too_long, line_commands, line_of, own_answer, ran_next, Ran, started_with_words, step}
+use Rattle.modem_sim.specs.OwnAnswers.{due_line, waits_on}
+use Rattle.modem_sim.specs.Steps.{announced, dialled, is_too_long, line_commands, line_of, nothing_ran, own_answer, ran_next, Ran, started_with_words, step}
 use Rattle.modem_sim.specs.Words.{word_of}
 use Rattle.at_cmds.specs.declared.command.Command.TheVariants.{ContextQuery}
 
@@ -45,6 +46,19 @@ AnswersCalls =
     (s : ModemState) (w : Words) (line text : List ℕ) (cid : ℕ) → s.words ≡ Some w → s.lock ≡ Ready → is_too_long line ≡ false
     → own_answer s line ≡ None → s.late ≡ [] → line_commands line ≡ Some (text ∷ []) → IsCall text cid
     → step s line ≡ record { state = s; answer = line_of (dialled cid s) ∷ [] }
+
+-- What is said and what waits behind a line whose commands came to this and a CONNECT.
+pub record IsHeldBehind (s : ModemState) (line : List ℕ) (r : Ran) : Type 0 where
+  pub answer : (step s line).answer ≡ r.told ++ line_of (codes "CONNECT") ∷ []
+  pub waiting : (step s line).state.late ≡ map waits_on (map due_line (map line_of (announced s r.state)) ++ r.state.late)
+
+-- Where a call is put through, nothing is said behind its CONNECT, since that would be data (27.007, 10.1.12). The reports that the line
+-- makes, and lines that waited for it, come behind the next answer.
+abbrev pub HoldsBehindCalls : Type 0
+HoldsBehindCalls =
+    (s : ModemState) (w : Words) (line : List ℕ) (commands : List (List ℕ)) → s.words ≡ Some w → is_too_long line ≡ false
+    → own_answer s line ≡ None → line_commands line ≡ Some commands → (fold ran_next (nothing_ran s) commands).ended ≡ Some (codes "CONNECT")
+    → IsHeldBehind s line (fold ran_next (nothing_ran s) commands)
 
 -- Nothing is done of what stands behind a call in its line (27.007, 10.1.12).
 abbrev pub EndsAtCalls : Type 0

@@ -367,3 +367,31 @@ OwnLater =
     ∷ (codes "OK" ∷ codes "+QGPSURC: 1" ∷ [])
     ∷ ok
     ∷ []
+
+-- A change of registration that a call's line makes is reported behind the next answer, and so are lines that waited for a command line:
+-- behind the CONNECT they would be data.
+abbrev pub ReportsAreHeld : Type 0
+ReportsAreHeld =
+    answers_to
+    (record (started_with_words unlocked false) {
+      own =
+          record (to_line (codes "AT+QGPS=1") []) {
+            lines = later_line 0 (codes "OK") ∷ later_line 1 (codes "+QIND: 1") ∷ later_line 3 (codes "+QIND: 3") ∷ [];
+          }
+          ∷ to_line (codes "ATD*98#") (codes "CONNECT" ∷ []) ∷ [];
+    })
+    (codes "AT+CREG=1;+CGDCONT=1,\"IP\",\"a\";+COPS=2" ∷ codes "AT+QGPS=1" ∷ codes "AT+COPS=0;+CGACT=1,1;D*99#" ∷ codes "ATD*98#" ∷ codes "AT"
+    ∷ codes "AT" ∷ [])
+    ≡ (codes "OK" ∷ codes "+CREG: 0" ∷ [])
+    ∷ ok
+    ∷ (codes "CONNECT" ∷ [])
+    ∷ (codes "CONNECT" ∷ [])
+    ∷ (codes "OK" ∷ codes "+CREG: 1" ∷ codes "+QIND: 1" ∷ codes "+QIND: 3" ∷ [])
+    ∷ ok
+    ∷ []
+
+-- only lines that begin with AT are repeated, so no CONNECT that comes
+abbrev pub RepeatsCommands : Type 0
+RepeatsCommands =
+    pieces_octets (replies false (started_with_words unlocked true) (codes "CONNECT" ∷ codes "CONNECT AT" ∷ codes "at" ∷ []))
+    ≡ framed (codes "OK") ++ codes "at" ++ 0xd ∷ framed (codes "OK")

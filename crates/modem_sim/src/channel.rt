@@ -2,6 +2,7 @@
 ghost use Rattle.std.specs.Prelude.{◌≡◌, ◌≤◌, ◌++◌, ℕ, List, length, map, take, drop, min, true, false, OnOk, OnErr, IfOk, IsErrOf};
 ghost use Rattle.at_text.specs.Lines.{lines, kept_run};
 ghost use Rattle.modem_sim.specs.Boxes.{fresh_box, box_taken, box_heard, box_announced, box_holding, is_released, queue_of, released};
+ghost use Rattle.modem_sim.specs.Outboxes.{any_call};
 ghost use Rattle.modem_sim.specs.Pieces.{pieces_octets, replies};
 ghost use Rattle.modem_sim.specs.Laws.{after_lines};
 
@@ -29,6 +30,8 @@ pub(crate) struct Channel {
     /// What a hold holds back; once the hold is over it is moved behind the rest.
     held: Vec<u8>,
     hold: Option<Wanted>,
+    /// Whether it is in a call.
+    through: bool,
 }
 
 impl Model for Channel {
@@ -43,6 +46,7 @@ impl Model for Channel {
       unsent = c.unsent.items;
       held = c.held.items;
       hold = option_map waited_of c.hold;
+      through = c.through;
     } };
 
     ghost invariant = { λ c. kept_run c.reader ≡ c.reader };
@@ -55,6 +59,8 @@ pub(crate) struct Answered {
     pub(crate) said: Vec<u8>,
     /// How many lines ended.
     pub(crate) ended: usize,
+    /// Whether one of them put a call through.
+    pub(crate) calls: bool,
 }
 
 impl Channel {
@@ -66,6 +72,7 @@ impl Channel {
             unsent: Vec::new(alloc),
             held: Vec::new(alloc),
             hold: None,
+            through: false,
         }
     }
 
@@ -77,6 +84,7 @@ impl Channel {
         self.unsent.clear();
         self.held.clear();
         self.hold = None;
+        self.through = false;
     }
 
     /// The replies to the lines that end in these octets, behind what was said before, and how many lines those are. The
@@ -94,6 +102,7 @@ impl Channel {
             ≡ queue_of self.now
             ++ pieces_octets (replies echo modem.old (lines (self.now.run ++ octets.now)))) }
         ensures ended { IfOk result (λ a. a.ended ≡ length (lines (self.now.run ++ octets.now))) }
+        ensures calls { IfOk result (λ a. a.calls ≡ any_call modem.old (lines (self.now.run ++ octets.now))) }
         ensures state { OnOk result (modem.new ≡ after_lines modem.old (lines (self.now.run ++ octets.now))) }
         ensures no_memory { OnErr result (IsErrOf result SimError.NoMemory) }
     {
@@ -102,11 +111,13 @@ impl Channel {
             Some(_) => self.held.clone()?,
             None => self.unsent.clone()?,
         };
-        let ended = reply_to(modem, &mut reader, echo, octets, &mut said)?;
+        let mut calls = false;
+        let ended = reply_to(modem, &mut reader, echo, octets, &mut said, &mut calls)?;
         Ok(Answered {
             reader,
             said,
             ended,
+            calls,
         })
     }
 
@@ -114,14 +125,27 @@ impl Channel {
     pub(crate) fn take(&mut self, answered: Answered)
         requires { kept_run answered.reader ≡ answered.reader }
         ensures { (octets : List ℕ) → answered.said.items ≡ queue_of self.old ++ octets
-            → self.new ≡ box_taken (record { run = answered.reader; said = octets }) self.old }
+            → self.new ≡ box_taken (record { run = answered.reader; said = octets; calls = answered.calls }) self.old }
     {
-        let Answered { reader, said, .. } = answered;
+        let Answered {
+            reader,
+            said,
+            calls,
+            ..
+        } = answered;
         self.reader = reader;
+        self.through = self.through || calls;
         match self.hold {
             Some(_) => self.held = said,
             None => self.unsent = said,
         }
+    }
+
+    /// Whether it is in a call.
+    pub(crate) fn is_in_call(&self) -> bool
+        ensures { result ≡ self.now.through }
+    {
+        self.through
     }
 
     /// Whether a hold is over, and what it held back isn't moved yet.

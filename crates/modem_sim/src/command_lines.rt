@@ -1,6 +1,6 @@
 //! The commands of one line (V.250, 5.2.1, 5.3.1, 5.4.1, 6.3.1).
 ghost use Rattle.std.specs.Prelude.{◌≡◌, IfOk, OnOk, option_map};
-ghost use Rattle.modem_sim.specs.CommandLines.{begins_at, commands_in, commands_read, goes_on_at, is_before_at, is_letter_a, is_letter_d, is_letter_t, is_sign, nothing_read, place_after, place_behind, read_octet};
+ghost use Rattle.modem_sim.specs.CommandLines.{begins_at, begins_with_at, commands_in, commands_read, goes_on_at, is_before_at, is_letter_a, is_letter_d, is_letter_t, is_sign, nothing_read, place_after, place_behind, read_octet};
 ghost use Rattle.at_text.specs.Octets.{is_digit};
 
 use at_text::Text;
@@ -34,6 +34,30 @@ fn is_sign(octet: u8) -> bool
     ensures { result ≡ is_sign octet }
 {
     octet != b' ' && octet != b';'
+}
+
+/// Whether it is an A.
+fn is_letter_a(octet: u8) -> bool
+    ensures { result ≡ is_letter_a octet }
+{
+    octet == b'A' || octet == b'a'
+}
+
+/// Whether it is a T.
+fn is_letter_t(octet: u8) -> bool
+    ensures { result ≡ is_letter_t octet }
+{
+    octet == b'T' || octet == b't'
+}
+
+/// Whether octets begin with `AT`, its letters in either case.
+pub fn begins_with_at(octets: &[u8]) -> bool
+    ensures { result ≡ begins_with_at octets.now }
+{
+    match octets {
+        [a, t, ..] => is_letter_a(*a) && is_letter_t(*t),
+        _ => false,
+    }
 }
 
 impl Place {

@@ -4,7 +4,7 @@ ghost use Rattle.std.specs.List.{list_any};
 ghost use Rattle.at_text.specs.Lines.{is_line_end};
 ghost use Rattle.modem_sim.specs.Acts.{is_step_act};
 ghost use Rattle.modem_sim.specs.Doing.{acts, call_of, is_line};
-ghost use Rattle.modem_sim.specs.Cores.{AtStation, Goes, HasNoneToDo, HasPassed, Refuses, SaysNext, are_open_in, boxes_done, closes_by};
+ghost use Rattle.modem_sim.specs.Cores.{AtStation, Goes, HasNoneToDo, HasPassed, Refuses, SaysNext, are_free_in, are_open_in, boxes_done, closes_by};
 
 use crate::channel::Channel;
 use crate::script::StepAct;
@@ -73,6 +73,9 @@ impl SimCore {
         if step.after > self.come || !are_open(&self.station, &step.act) {
             return Ok(false);
         }
+        if !are_free(&self.channels, &step.act) {
+            return Ok(false);
+        }
         let closes = closes_by(&step.act);
         if !carry_out(&step.act, &mut self.station, &mut self.channels)? {
             return Ok(false);
@@ -98,6 +101,20 @@ impl SimCore {
             done = true;
         }
         Ok(done)
+    }
+}
+
+/// Whether a step announces nothing in a call.
+fn are_free(channels: &Vec<Channel>, act: &StepAct) -> bool
+    ensures { result ≡ are_free_in channels.now.items act.now }
+{
+    match act {
+        StepAct::Announce(dlci, _) => match channels.get(usize::from(dlci.number())) {
+            Some(channel) => !channel.is_in_call(),
+            None => true,
+        },
+        StepAct::Flow(_, _) | StepAct::Hold(_, _) | StepAct::Disconnect(_) | StepAct::CloseDown =>
+            true,
     }
 }
 

@@ -8,13 +8,14 @@ ghost use Rattle.modem_sim.specs.Laws.{IsStart, AnswersWellAlways, SetsOne, AreI
 ghost use Rattle.modem_sim.specs.SettingLaws.{KeepsAttached, KeepsContext, KeepsErrors, KeepsOper, KeepsReports};
 ghost use Rattle.modem_sim.specs.PinLaws.{FollowsNetworkAlways, IsReadyAlways, KeepsPin};
 ghost use Rattle.modem_sim.specs.Rows.{PinEntered, ThreeWrongPins, ErrorInWords, NetworkLeft};
-ghost use Rattle.modem_sim.specs.WordLaws.{AnswersAsStandard, AnswersCalls, EndsAtCalls, KeepsActive};
-ghost use Rattle.modem_sim.specs.WordRows.{BareLines, CallsAnswered, CallsEndLines, CallsMisspelt, CallsRefused, ChangeAnnounced, ClientAsks, ClientBegins, ContextsActivated, ContextsRefused, DialledLine, DividedLine, EchoOff, OperatorNamed, OwnAnswered, OwnLater, PinAnnounced, PinLocks, PukEntered, QuotedLine, RadioOff, TenWrongPuks, ValuesAsked};
+ghost use Rattle.modem_sim.specs.WordLaws.{AnswersAsStandard, AnswersCalls, EndsAtCalls, HoldsBehindCalls, KeepsActive};
+ghost use Rattle.modem_sim.specs.WordRows.{BareLines, CallsAnswered, CallsEndLines, CallsMisspelt, CallsRefused, ChangeAnnounced, ClientAsks, ClientBegins, ContextsActivated, ContextsRefused, DialledLine, DividedLine, EchoOff, OperatorNamed, OwnAnswered, OwnLater, PinAnnounced, PinLocks, PukEntered, QuotedLine, RadioOff, RepeatsCommands, ReportsAreHeld, TenWrongPuks, ValuesAsked};
 ghost use Rattle.modem_sim.specs.Acts.{Act, End};
 ghost use Rattle.modem_sim.specs.Histories.{SimLawful, LeavesInPieces, SaysReplies, DoesInOrder};
 ghost use Rattle.modem_sim.specs.Replied.{AnswersInLines, SendsReplies};
 ghost use Rattle.modem_sim.specs.Sims.{IsOver, SimMachine, SimMachineFits, Simulates, is_ended};
 ghost use Rattle.modem_sim.specs.TurnRows.{CallsNothing, EndRows, MovedRows, RightIdle, WantRows, WrongCalls, WrongCounts, WrongFailures, WrongGivings, WrongIdle, WrongTurns};
+ghost use Rattle.modem_sim.specs.CallRows.{CallsKeepQuiet};
 ghost use Rattle.modem_sim.specs.HistoryRows.{GoodRows, WrongAnswers, WrongSteps, WrongOtherwise};
 
 /// The step reads a line as the one command whose text it is, and as no command where it is the text of none.
@@ -75,18 +76,19 @@ pub fn words()
 {}
 
 /// A modem with words whose SIM is ready answers a packet call by one result code: CONNECT where the context is active, else NO CARRIER. The
-/// call leaves it as it was. Nothing is done of what stands behind a call in its line. After all lines each context that is active is defined,
+/// call leaves it as it was. Nothing is done of what stands behind a call in its line, and nothing is said behind its CONNECT. After all lines each context that is active is defined,
 /// and the modem is attached while one is.
-#[tactic(auto, using(crate::proofs::law_proofs::CalledModems::answers_calls, crate::proofs::law_proofs::CalledModems::ends_at_calls, crate::proofs::law_proofs::ActiveModems::keeps_active))]
+#[tactic(auto, using(crate::proofs::law_proofs::CalledModems::answers_calls, crate::proofs::law_proofs::CalledModems::ends_at_calls, crate::proofs::law_proofs::CalledModems::holds_behind_calls, crate::proofs::law_proofs::ActiveModems::keeps_active))]
 pub fn calls()
     ensures answers { AnswersCalls }
     ensures ends { EndsAtCalls }
+    ensures held { HoldsBehindCalls }
     ensures active { KeepsActive }
 {}
 
 /// Worked examples of a modem with words: how lines are divided into commands, what clients send as they begin, changes that are
 /// announced, the operator in other forms, and commands repeated.
-#[tactic(auto, using(crate::proofs::rows::WordRowFacts::divided_line, crate::proofs::rows::WordRowFacts::quoted_line, crate::proofs::rows::WordRowFacts::bare_lines, crate::proofs::rows::WordRowFacts::client_begins, crate::proofs::rows::WordRowFacts::change_announced, crate::proofs::rows::WordRowFacts::pin_announced, crate::proofs::rows::WordRowFacts::operator_named, crate::proofs::rows::WordRowFacts::echo_off))]
+#[tactic(auto, using(crate::proofs::rows::WordRowFacts::divided_line, crate::proofs::rows::WordRowFacts::quoted_line, crate::proofs::rows::WordRowFacts::bare_lines, crate::proofs::rows::WordRowFacts::client_begins, crate::proofs::rows::WordRowFacts::change_announced, crate::proofs::rows::WordRowFacts::pin_announced, crate::proofs::rows::WordRowFacts::operator_named, crate::proofs::rows::WordRowFacts::echo_off, crate::proofs::rows::WordRowFacts::repeats_commands))]
 pub fn worked_words()
     ensures divided { DividedLine }
     ensures quoted { QuotedLine }
@@ -96,16 +98,20 @@ pub fn worked_words()
     ensures pin { PinAnnounced }
     ensures oper { OperatorNamed }
     ensures echo { EchoOff }
+    ensures repeated { RepeatsCommands }
 {}
 
 /// Worked examples of packet calls to a modem with words: how a line with a call is divided, contexts that are active and others, forms that
-/// are none, what stands behind a call in its line, and a SIM that isn't ready.
-#[tactic(auto, using(crate::proofs::rows::WordRowFacts::dialled_line, crate::proofs::rows::WordRowFacts::calls_answered, crate::proofs::rows::WordRowFacts::calls_misspelt, crate::proofs::rows::WordRowFacts::calls_end_lines, crate::proofs::rows::WordRowFacts::calls_refused))]
+/// are none, what stands behind a call in its line, reports that are held behind a CONNECT, lines that
+/// a script doesn't announce then, and a SIM that isn't ready.
+#[tactic(auto, using(crate::proofs::rows::WordRowFacts::dialled_line, crate::proofs::rows::WordRowFacts::calls_answered, crate::proofs::rows::WordRowFacts::calls_misspelt, crate::proofs::rows::WordRowFacts::calls_end_lines, crate::proofs::rows::WordRowFacts::reports_are_held, crate::proofs::rows::CallRowFacts::calls_keep_quiet, crate::proofs::rows::WordRowFacts::calls_refused))]
 pub fn worked_calls()
     ensures divided { DialledLine }
     ensures answered { CallsAnswered }
     ensures misspelt { CallsMisspelt }
     ensures ends { CallsEndLines }
+    ensures held { ReportsAreHeld }
+    ensures quiet { CallsKeepQuiet }
     ensures refused { CallsRefused }
 {}
 

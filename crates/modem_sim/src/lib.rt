@@ -5,13 +5,14 @@
 //! # Layout
 //!
 //! - `modem`, `state`, `contexts`, `answers`: the standard's commands. `wording`, `words`, `command_lines`, `activity`, `values`: the second
-//!   table. `own_answers`: answers of one's own, before both.
+//!   table. `announcing`: reports. `own_answers`: answers of one's own, before both tables.
 //! - `sim`, `polling`, `error`: a modem at its line. `sim_machine`, `going`: its turns. `sim_core`, `channel`, `replying`, `handing`: its end
 //!   without the line. `script`, `doing`: what it does of its own accord.
 //! - `laws`.
 #![tactic(auto)]
 
 mod activity;
+mod announcing;
 mod answers;
 mod channel;
 mod command_lines;
@@ -34,7 +35,7 @@ mod values;
 mod wording;
 mod words;
 
-pub use command_lines::commands_in;
+pub use command_lines::{begins_with_at, commands_in};
 pub use doing::is_line;
 pub use error::SimError;
 pub use modem::{Modem, ModemStart};

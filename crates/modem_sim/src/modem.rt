@@ -1,13 +1,15 @@
 //! The modem.
 ghost use Rattle.std.specs.Prelude.{◌≡◌, IfOk, OnOk, OnErr, IsErrOf};
-ghost use Rattle.modem_sim.specs.Steps.{with_late, worded_step};
+ghost use Rattle.modem_sim.specs.Steps.{line_through, repeats, with_late, worded_step};
 
+use crate::announcing::any_through;
 use crate::answers::{answer_of, error_answer, told};
+use crate::command_lines::begins_with_at;
 use crate::contexts::{ActiveContexts, PdpContexts};
 use crate::error::SimError;
 use crate::own_answers::{OwnAnswers, OwnLines};
 use crate::state::{Lock, ModemState, PUK_TRIES, Words};
-use crate::wording::{TOO_LONG, worded};
+use crate::wording::{Effect, TOO_LONG, worded};
 use crate::words::Charset;
 use at_cmds::{Command, OperChoice, Pin};
 use at_text::AnswerLine;
@@ -50,13 +52,16 @@ fn looked_up(
     before: &ModemState,
     line: &[u8],
 ) -> Result<(ModemState, Vec<AnswerLine>), SimError>
-    ensures state { IfOk result (λ r. r.0 ≡ (with_late before.now.late (worded_step before.now line.now)).state) }
-    ensures answer { IfOk result (λ r. r.1.items ≡ (with_late before.now.late (worded_step before.now line.now)).answer) }
+    ensures state { IfOk result (λ r. r.0 ≡ (with_late (line_through before.now line.now) (worded_step before.now line.now)).state) }
+    ensures answer { IfOk result (λ r. r.1.items ≡ (with_late (line_through before.now line.now) (worded_step before.now line.now)).answer) }
     ensures no_memory { OnErr result (IsErrOf result SimError.NoMemory) }
 {
-    let (state, mut answer) = worded(alloc, before, line)?;
-    before.late.push_now(&mut answer)?;
-    let late = before.late.later()?;
+    let Effect {
+        state,
+        mut answer,
+        is_through,
+    } = worded(alloc, before, line)?;
+    let late = state.late.say(is_through, &mut answer)?;
     Ok((ModemState { late, ..state }, answer))
 }
 
@@ -131,7 +136,8 @@ impl Modem {
     /// Gives the modem these answers of its own, in place of those it had. Only a modem with words uses them. To a command
     /// line it says the first of them that takes the line, and does nothing else. It looks into its tables for a line that
     /// none takes. A line of 512 octets or more is refused all the same. Lines of an answer can wait for more command lines.
-    /// They are said behind the answer to the last of these, on the connection of that one.
+    /// They are said behind the answer to the last of these, on the connection of that one, but behind no `CONNECT`: then behind the
+    /// next answer.
     pub fn answer_by(&mut self, own: OwnAnswers)
         ensures { self.new ≡ record self.old { own = own } }
     {
@@ -151,6 +157,14 @@ impl Modem {
         }
     }
 
+    /// Whether it repeats a line: as `echoes` says, but where a modem with words was told to, only a line that begins with `AT`, as at
+    /// plain lines. So no `CONNECT` that comes is repeated, behind which data would be looked for.
+    pub fn repeats(&self, always: bool, line: &[u8]) -> bool
+        ensures { result ≡ repeats always self.now line.now }
+    {
+        always || (self.echoes(false) && begins_with_at(line))
+    }
+
     /// A copy of the modem.
     pub fn copy(&self) -> Result<Modem, AllocError>
         ensures { IfOk result (λ copy. copy ≡ self.now) }
@@ -165,8 +179,9 @@ impl Modem {
     /// Carries out a command line, given without its CR, and answers it in lines, the last a final code, or the `CONNECT` of a
     /// packet call, behind which it takes command lines as before: it has no data of its own. A modem with words announces a change
     /// of registration behind that. To a line without `AT` it answers nothing. Where an answer of its own takes the line, it says
-    /// that one and does nothing else. Last it says the lines of its earlier answers that waited for this line. Refused with
-    /// 1 NoMemory, which leaves the modem as it was.
+    /// that one and does nothing else. Last it says the lines of its earlier answers that waited for this line. Behind a `CONNECT` it
+    /// says nothing, since that would be data: reports and lines that are due then come behind the next answer, whichever connection
+    /// that goes to. Refused with 1 NoMemory, which leaves the modem as it was.
     #[tactic(auto, using(crate::proofs::modem_steps::StandardModems::step_standard, crate::proofs::modem_steps::StandardModems::step_with_words))]
     pub fn execute(&mut self, line: &[u8]) -> Result<Vec<AnswerLine>, SimError>
         ensures answer { IfOk result (λ answer. answer.items ≡ (step self.old line.now).answer) }
@@ -198,9 +213,9 @@ impl Modem {
     {
         let mut answer = Vec::new(self.alloc);
         lines.push_now(&mut answer)?;
-        self.state.late.push_now(&mut answer)?;
-        let all = self.state.late.joined(&lines)?;
-        self.state.late = all.later()?;
+        let is_through = any_through(&answer);
+        let left = self.state.late.say(is_through, &mut answer)?;
+        self.state.late = left.joined(&lines.later()?)?;
         Ok(answer)
     }
 

@@ -1,6 +1,7 @@
 //! Answers of one's own, which a modem with words gives before it looks into its tables.
-ghost use Rattle.std.specs.Prelude.{◌≡◌, ◌++◌, IfOk, OnOk, option_map};
-ghost use Rattle.modem_sim.specs.OwnAnswers.{begins_as, is_same, later_of, now_of, own_lines, said_later, said_now, takes};
+ghost use Rattle.std.specs.Prelude.{◌≡◌, ◌++◌, IfOk, OnOk, map, option_map};
+ghost use Rattle.modem_sim.specs.OwnAnswers.{begins_as, due_line, is_same, later_of, now_of, own_lines, said_later, said_now, takes, waits_on};
+ghost use Rattle.modem_sim.specs.Steps.{late_after, late_said};
 
 use at_text::{AnswerLine, Text};
 use std::alloc::{AllocError, Global};
@@ -23,8 +24,8 @@ fn begins_as(command: &[u8], line: &[u8]) -> bool
 /// A line of an answer of one's own.
 #[derive(Drop)]
 pub struct OwnLine {
-    /// How many more command lines have to come. The line is said behind the answer to the last of them; with 0 it is part of
-    /// the answer itself.
+    /// How many more command lines have to come. The line is said behind the answer to the last of them, or where that is a `CONNECT`
+    /// behind the next; with 0 it is part of the answer itself.
     pub after: u64,
     /// The line.
     pub line: AnswerLine,
@@ -63,6 +64,32 @@ impl OwnLine {
         }
         Ok(())
     }
+}
+
+/// Keeps each, and counts one command line that came, behind whose answer nothing is said.
+fn push_waiting(lines: &[OwnLine], out: &mut Vec<OwnLine>) -> Result<(), AllocError>
+    ensures { OnOk result (out.new.items ≡ out.old.items ++ map waits_on lines.now) }
+{
+    for line in lines {
+        out.push(OwnLine {
+            after: line.after.saturating_sub(1),
+            line: line.line.copy()?,
+        })?;
+    }
+    Ok(())
+}
+
+/// Keeps lines that are due behind the next answer.
+fn push_due(lines: &[AnswerLine], out: &mut Vec<OwnLine>) -> Result<(), AllocError>
+    ensures { OnOk result (out.new.items ≡ out.old.items ++ map due_line lines.now) }
+{
+    for line in lines {
+        out.push(OwnLine {
+            after: 0,
+            line: line.copy()?,
+        })?;
+    }
+    Ok(())
 }
 
 fn push_copies(lines: &[OwnLine], out: &mut Vec<OwnLine>) -> Result<(), AllocError>
@@ -151,6 +178,35 @@ impl OwnLines {
     {
         let mut lines = Vec::new(*self.lines.allocator());
         push_left(self.lines.as_slice(), &mut lines)?;
+        Ok(OwnLines { lines })
+    }
+
+    /// These lines behind others that are due.
+    pub(crate) fn behind(&self, due: &[AnswerLine]) -> Result<OwnLines, AllocError>
+        ensures { IfOk result (λ all. all ≡ map due_line due.now ++ self.now) }
+    {
+        let mut lines = Vec::new(*self.lines.allocator());
+        push_due(due, &mut lines)?;
+        push_copies(self.lines.as_slice(), &mut lines)?;
+        Ok(OwnLines { lines })
+    }
+
+    /// A command line came: says those that are due behind its answer, and gives those that are left. Where it put a call through, none is
+    /// said, and all are left.
+    pub(crate) fn say(
+        &self,
+        is_through: bool,
+        said: &mut Vec<AnswerLine>,
+    ) -> Result<OwnLines, AllocError>
+        ensures left { IfOk result (λ left. left ≡ late_after is_through self.now) }
+        ensures said { OnOk result (said.new.items ≡ said.old.items ++ late_said is_through self.now) }
+    {
+        if !is_through {
+            self.push_now(said)?;
+            return self.later();
+        }
+        let mut lines = Vec::new(*self.lines.allocator());
+        push_waiting(self.lines.as_slice(), &mut lines)?;
         Ok(OwnLines { lines })
     }
 }

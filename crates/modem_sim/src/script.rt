@@ -14,7 +14,7 @@ pub struct Script {
 
 /// A step of a script. It is due once `after` command lines have come, on all connections together. Steps are done in their
 /// order, each once it is due, the connections that it names are open and the station has room. CloseDown waits for connection
-/// 0 to be open.
+/// 0 to be open. An Announce waits while its connection is in a call, whose data it would be: until that is opened anew.
 ///
 /// Some steps are passed over: an Announce, Hold or Disconnect that names connection 0, and an Announce of a line that has no
 /// octet, more than 512, or a CR or LF.

@@ -217,7 +217,7 @@ impl SimCore {
             → answered.said.items ≡ queue_of (box_at self.old dlci.number) ++ octets
             → self.new
             ≡ kept_in self.old dlci.number modem
-            (box_turned opens true (record { run = answered.reader; said = octets })
+            (box_turned opens true (record { run = answered.reader; said = octets; calls = answered.calls })
             (box_at self.old dlci.number)) answered.ended closes }
         ensures steps { self.new.steps ≡ self.old.steps }
         ensures n1 { self.new.station.n1 ≡ self.old.station.n1 }

@@ -1,12 +1,13 @@
 //! What a line does to a modem with words.
-ghost use Rattle.std.specs.Prelude.{◌≡◌, ◌∷◌, ◌++◌, [], codes, fold, map, None, Some, IfOk, OnOk, OnErr, IsErrOf, option_map};
+ghost use Rattle.std.specs.Prelude.{◌≡◌, ◌∷◌, ◌++◌, [], codes, false, fold, map, None, Some, IfOk, OnOk, OnErr, IsErrOf, option_map};
 ghost use Rattle.std.specs.Fmt.{decimal};
 ghost use Rattle.at_cmds.specs.Forms.{in_quotes};
 ghost use Rattle.modem_sim.specs.Reading.{command_of};
 ghost use Rattle.modem_sim.specs.SettingTexts.{context_forms, lock_text, named_oper_text, oper_name};
-ghost use Rattle.modem_sim.specs.Steps.{all_reports, announced, domain_name, line_commands, line_of, nothing_ran, ran_command, ran_next, ran_other, ran_word, refusal_as, registration_text, report_texts, setting_told, status_text, told_as, word_code, word_refusal, word_told, worded_step};
+ghost use Rattle.modem_sim.specs.Steps.{domain_name, line_commands, line_of, line_through, nothing_ran, ran_command, ran_next, ran_other, ran_word, refusal_as, registration_text, setting_told, status_text, through_by, told_as, word_code, word_refusal, word_told, worded_by, worded_step};
 
 use crate::activity::{numbers_line, push_activity, push_contexts_named, push_whole_contexts};
+use crate::announcing::{puts_through, report};
 use crate::answers::{error_text, push_line, push_quoted, push_told};
 use crate::command_lines::commands_in;
 use crate::error::SimError;
@@ -103,7 +104,7 @@ fn named_oper(alloc: Global, format: u8, oper: &OperChoice) -> Result<Vec<u8>, A
 }
 
 /// The status of a registration, with the cell where reports have it.
-fn status_text(reports: u8, registered: bool) -> &'static str
+pub(crate) fn status_text(reports: u8, registered: bool) -> &'static str
     ensures { result.now ≡ status_text reports registered }
 {
     match (registered, reports) {
@@ -380,7 +381,17 @@ impl Run {
 }
 
 impl Run {
-    ghost use Rattle.modem_sim.specs.Steps.{final_text};
+    ghost use Rattle.modem_sim.specs.Steps.{final_text, is_through};
+
+    /// Whether the line put a call through.
+    fn is_through(&self) -> bool
+        ensures { result ≡ is_through self.now.ended }
+    {
+        match &self.ended {
+            Some(code) => puts_through(code.as_slice()),
+            None => false,
+        }
+    }
 
     /// The state, and the lines with the result code behind them.
     fn finish(self, alloc: Global) -> Result<(ModemState, Vec<AnswerLine>), AllocError>
@@ -413,84 +424,64 @@ fn run_all(alloc: Global, state: ModemState, commands: &[Text]) -> Result<Run, S
     Ok(run)
 }
 
-/// Writes a report of a registration behind other lines, where reports are on.
-fn push_report(
-    alloc: Global,
-    name: &str,
-    reports: u8,
-    registered: bool,
-    answer: &mut Vec<AnswerLine>,
-) -> Result<(), AllocError>
-    ensures { OnOk result
-        (answer.new.items ≡ answer.old.items ++ map line_of (report_texts name.now reports registered)) }
-{
-    if reports == 0 {
-        return Ok(());
-    }
-    let mut text = Vec::from_slice(alloc, name.as_bytes())?;
-    text.extend_from_slice(status_text(reports, registered).as_bytes())?;
-    push_line(answer, text)
-}
-
-/// Writes all reports that are on.
-fn push_reports(
-    alloc: Global,
-    state: &ModemState,
-    registered: bool,
-    answer: &mut Vec<AnswerLine>,
-) -> Result<(), AllocError>
-    ensures { OnOk result
-        (answer.new.items ≡ answer.old.items ++ map line_of (all_reports state.now registered)) }
-{
-    push_report(alloc, "+CREG: ", state.reports, registered, answer)?;
-    if let Some(words) = state.words {
-        push_report(alloc, "+CGREG: ", words.packet_reports, registered, answer)?;
-        push_report(alloc, "+CEREG: ", words.evolved_reports, registered, answer)?;
-    }
-    Ok(())
-}
-
-/// Writes what announces a change of registration, if there was one.
-fn push_announced(
-    alloc: Global,
-    before: &ModemState,
-    state: &ModemState,
-    answer: &mut Vec<AnswerLine>,
-) -> Result<(), AllocError>
-    ensures { OnOk result
-        (answer.new.items ≡ answer.old.items ++ map line_of (announced before.now state.now)) }
-{
-    match (before.is_registered(), state.is_registered()) {
-        (true, false) => push_reports(alloc, state, false, answer),
-        (false, true) => push_reports(alloc, state, true, answer),
-        (true, true) | (false, false) => Ok(()),
-    }
-}
-
 /// So many octets are kept of a line; one that is as long is taken for longer.
 pub(crate) const TOO_LONG: usize = 512;
 
-/// What a line does to a modem with words: its state afterwards, and the answer.
-pub(crate) fn worded(
-    alloc: Global,
-    before: &ModemState,
-    line: &[u8],
-) -> Result<(ModemState, Vec<AnswerLine>), SimError>
-    ensures state { IfOk result (λ r. r.0 ≡ (worded_step before.now line.now).state) }
-    ensures answer { IfOk result (λ r. r.1.items ≡ (worded_step before.now line.now).answer) }
+/// What a line comes to.
+#[derive(Drop)]
+pub(crate) struct Effect {
+    /// The state afterwards.
+    pub(crate) state: ModemState,
+    pub(crate) answer: Vec<AnswerLine>,
+    /// Whether it put a call through.
+    pub(crate) is_through: bool,
+}
+
+/// What is done of a line that has no commands, or of which nothing is done.
+fn undone(state: ModemState, answer: Vec<AnswerLine>) -> Effect
+    ensures state { result.state ≡ state }
+    ensures answer { result.answer ≡ answer }
+    ensures is_through { result.is_through ≡ false }
+{
+    Effect {
+        state,
+        answer,
+        is_through: false,
+    }
+}
+
+/// What the commands of a line come to, the reports that they make included.
+fn answered(alloc: Global, before: &ModemState, commands: &[Text]) -> Result<Effect, SimError>
+    ensures state { IfOk result (λ r. r.state ≡ (worded_by before.now (Some commands.now)).state) }
+    ensures answer { IfOk result (λ r. r.answer.items ≡ (worded_by before.now (Some commands.now)).answer) }
+    ensures through { IfOk result (λ r. r.is_through ≡ through_by before.now (Some commands.now)) }
     ensures no_memory { OnErr result (IsErrOf result SimError.NoMemory) }
 {
-    let state = before.copy()?;
+    let run = run_all(alloc, before.copy()?, commands)?;
+    let is_through = run.is_through();
+    let (mut state, mut answer) = run.finish(alloc)?;
+    report(alloc, before, is_through, &mut state, &mut answer)?;
+    Ok(Effect {
+        state,
+        answer,
+        is_through,
+    })
+}
+
+/// What a line does to a modem with words: its state afterwards, the answer, and whether it put a call through.
+pub(crate) fn worded(alloc: Global, before: &ModemState, line: &[u8]) -> Result<Effect, SimError>
+    ensures state { IfOk result (λ r. r.state ≡ (worded_step before.now line.now).state) }
+    ensures answer { IfOk result (λ r. r.answer.items ≡ (worded_step before.now line.now).answer) }
+    ensures through { IfOk result (λ r. r.is_through ≡ line_through before.now line.now) }
+    ensures no_memory { OnErr result (IsErrOf result SimError.NoMemory) }
+{
     let Some(commands) = line_commands(alloc, line)? else {
-        return Ok((state, Vec::new(alloc)));
+        return Ok(undone(before.copy()?, Vec::new(alloc)));
     };
     if line.len() >= TOO_LONG {
         let mut answer = Vec::new(alloc);
         push_text(alloc, "ERROR", &mut answer)?;
-        return Ok((state, answer));
+        return Ok(undone(before.copy()?, answer));
     }
-    let run = run_all(alloc, state, &commands)?;
-    let (state, mut answer) = run.finish(alloc)?;
-    push_announced(alloc, before, &state, &mut answer)?;
-    Ok((state, answer))
+    answered(alloc, before, &commands)
 }

@@ -17,10 +17,10 @@ use Rattle.modem_sim.specs.Laws.{after_lines}
 use Rattle.modem_sim.specs.Acts.{Act, Wire, End, wire, is_open_at_modem}
 use Rattle.modem_sim.specs.Heard.{heard, texts_of, texts_with, modem_after}
 use Rattle.modem_sim.specs.Pieces.{Piece, pieces_octets, replies}
-use Rattle.modem_sim.specs.Outboxes.{Outbox, empty_box, outbox, said_after, dropped, say, replies_by, hold_on, lasts, is_empty, is_holding}
+use Rattle.modem_sim.specs.Outboxes.{Outbox, any_call, calls_after, empty_box, in_call, outbox, said_after, dropped, say, replies_by, hold_on, lasts, is_empty, is_holding}
 use Rattle.modem_sim.specs.Boxes.{Box, Waited, BoxFits, FitsOpen, Brought, lasting, said_with, box_turned, hold_heard, box_heard}
 use Rattle.modem_sim.proofs.law_proofs.Histories.{spelled-append}
-use Rattle.modem_sim.proofs.connections.OctetReplies.{after_lines-append, kept_again}
+use Rattle.modem_sim.proofs.connections.OctetReplies.{after_lines-append, kept_again, or_none}
 
 -- ## The modem and the count of lines
 
@@ -121,6 +121,7 @@ held_before past a (Some e) is = refl
 pub record IsBrought (e : End) (past : List Act) (f : Frame) (x : Brought) : Type 0 where
   pub run_is : is_open_at_modem f.dlci past ≡ true → x.run ≡ kept_run (unfinished_on Responder f.dlci (wire past) ++ (if is_data_frame f then f.info else []))
   pub said_is : x.said ≡ pieces_octets (replies e.echo (modem_after e past) (texts_with past f))
+  pub calls_is : x.calls ≡ any_call (modem_after e past) (texts_with past f)
 
 taken_hold : (x : Brought) (w : Option Waited) (b : Box) → (said_with w b x.said).hold ≡ b.hold
 taken_hold x None b = refl
@@ -240,6 +241,16 @@ goes_said e past d f x b o h rest false true is before lasts_so apart said back 
     moved
 goes_said e past d f x b o h rest false false is before lasts_so apart said back = cc
 
+turned_call : (here : Bool) (x : Brought) (b : Box) (calls : Bool) → x.calls ≡ calls → (b.through || (here && calls)) ≡ (box_turned false here x b).through
+turned_call true x b calls is = ap (λ y. b.through || y) (sym is)
+turned_call false x b calls is = or_none b.through
+
+goes_call : (here : Bool) (x : Brought) (b : Box) (was calls : Bool) (opens there : Bool) → (opens || there) ≡ true → (there ≡ true → was ≡ b.through) → x.calls ≡ calls → (if there && not opens then was || (here && calls) else false) ≡ (box_turned opens here x b).through
+goes_call here x b was calls true true is before called = refl
+goes_call here x b was calls true false is before called = refl
+goes_call here x b was calls false true is before called = ap (λ y. y || (here && calls)) (before refl) ∙ turned_call here x b calls called
+goes_call here x b was calls false false is before called = cc
+
 back_at : (past : List Act) (a : station.Act) (h : Option ℕ) (opens there : Bool) → (opens || there) ≡ true → is_holding (if there && not opens then lasts past a h else None) ≡ true → there ≡ true → is_holding h ≡ true
 back_at past a h true true is holds really = cc
 back_at past a h true false is holds really = cc
@@ -276,6 +287,7 @@ box_goes_on e past f x d b brought fits there_open =
       apart = λ none.
           goes_apart x b opens there here there_open (λ is. (before is).apart)
           (hold_none f.dlci (length (texts_with past f)) (box_turned opens here x b).hold none);
+      call_is = goes_call here x b (in_call e d past) (any_call (modem_after e past) (texts_with past f)) opens there there_open (λ is. (before is).call_is) brought.calls_is;
     }
 
 -- ## Acts other than frames that come
@@ -287,6 +299,7 @@ pub record IsStill (d : ℕ) (past : List Act) (a : station.Act) : Type 0 where
   pub ends_none : heard (Wire a ∷ past) ≡ heard past
   pub lasts_on : (h : Option ℕ) → lasts past a h ≡ h
   pub says_none : (e : End) (o : Outbox) → said_after e d past a o ≡ o
+  pub calls_none : (e : End) (was : Bool) → calls_after e d past a was ≡ was
 
 lasts_sent : (past : List Act) (f : Frame) (h : Option ℕ) → lasts past (station.Sent f) h ≡ h
 lasts_sent past f None = refl
@@ -301,13 +314,13 @@ lasts_called past c None = refl
 lasts_called past c (Some e) = refl
 
 pub sent_still : (d : ℕ) (past : List Act) (f : Frame) → IsStill d past (station.Sent f)
-sent_still d past f = record { opens_none = refl; brings_none = λ rest. refl; ends_none = refl; lasts_on = lasts_sent past f; says_none = λ e o. refl }
+sent_still d past f = record { opens_none = refl; brings_none = λ rest. refl; ends_none = refl; lasts_on = lasts_sent past f; says_none = λ e o. refl; calls_none = λ e was. refl }
 
 pub given_still : (d : ℕ) (past : List Act) → IsStill d past station.Given
-given_still d past = record { opens_none = refl; brings_none = λ rest. refl; ends_none = refl; lasts_on = lasts_given past; says_none = λ e o. refl }
+given_still d past = record { opens_none = refl; brings_none = λ rest. refl; ends_none = refl; lasts_on = lasts_given past; says_none = λ e o. refl; calls_none = λ e was. refl }
 
 pub called_still : (d : ℕ) (past : List Act) (c : station.Call) → IsStill d past (station.Called c)
-called_still d past c = record { opens_none = refl; brings_none = λ rest. refl; ends_none = refl; lasts_on = lasts_called past c; says_none = λ e o. refl }
+called_still d past c = record { opens_none = refl; brings_none = λ rest. refl; ends_none = refl; lasts_on = lasts_called past c; says_none = λ e o. refl; calls_none = λ e was. refl }
 
 still_run : (d : ℕ) (a : station.Act) (rest : List station.Act) (opens there : Bool) → (opens || there) ≡ true → opens ≡ false → info_got d (a ∷ rest) ≡ info_got d rest → kept_run (info_got d (since_after opens there a rest)) ≡ kept_run (info_got d rest)
 still_run d a rest true there is none brings = cc
@@ -323,6 +336,11 @@ still_box : (e : End) (d : ℕ) (past : List Act) (a : station.Act) (o : Outbox)
 still_box e d past a o true there is none says = cc
 still_box e d past a o false true is none says = says
 still_box e d past a o false false is none says = cc
+
+still_call : (was now opens there : Bool) → (opens || there) ≡ true → opens ≡ false → now ≡ was → (if there && not opens then now else false) ≡ was
+still_call was now true there is none same = cc
+still_call was now false true is none same = same
+still_call was now false false is none same = cc
 
 pub still_offered : (d : ℕ) (a : station.Act) (rest : List station.Act) (opens there : Bool) → (opens || there) ≡ true → opens ≡ false → joined_octets (octets_offered d) (since_after opens there a rest) ≡ joined_octets (octets_offered d) rest ++ octets_offered d a
 still_offered d a rest true there is none = cc
@@ -352,4 +370,5 @@ box_still e past a d b unsent still offers fits there_open =
           ∙ ap (λ x. x ++ (unsent ++ b.held)) (sym (still_offered d a rest opens there there_open still.opens_none));
       held_is = λ holds. ap (λ o. pieces_octets o.held) box ∙ fit.held_is (sym (ap is_holding hold) ∙ holds);
       apart = fit.apart;
+      call_is = still_call (in_call e d past) (calls_after e d past a (in_call e d past)) opens there there_open still.opens_none (still.calls_none e (in_call e d past)) ∙ fit.call_is;
     }

@@ -8,7 +8,7 @@ use Rattle.mux_station.specs.Acts as station
 use Rattle.mux_station.specs.Opening.{opens_now, belongs}
 use Rattle.modem_sim.specs.declared.script.StepAct.TheVariants.{Announce, Flow, Hold, Disconnect, CloseDown}
 use Rattle.modem_sim.specs.declared.state.ModemState.{ModemState}
-use Rattle.modem_sim.specs.Steps.{echoes, step}
+use Rattle.modem_sim.specs.Steps.{repeats, step}
 use Rattle.modem_sim.specs.Acts.{Act, Wire, Did, End, wire, is_open_at_modem}
 use Rattle.modem_sim.specs.Heard.{modem_after, texts_with}
 use Rattle.modem_sim.specs.Pieces.{Piece, Echo, Answer, Announced, answers, echoed, reply, replies, asked_for}
@@ -30,7 +30,7 @@ asked_echoed true line ls = ap (λ x. Echo line ∷ x) (asked_answers ls)
 asked_echoed false line ls = asked_answers ls
 
 asked_reply : (echo : Bool) (m : ModemState) (line : List ℕ) → asked_for (reply echo m line) ≡ reply echo m line
-asked_reply echo m line = asked_echoed (echoes echo m) line (step m line).answer
+asked_reply echo m line = asked_echoed (repeats echo m line) line (step m line).answer
 
 -- replies are asked for
 asked_replies : (echo : Bool) (m : ModemState) (ls : List (List ℕ)) → asked_for (replies echo m ls) ≡ replies echo m ls

@@ -29,6 +29,7 @@ use Rattle.at_text.specs.Lines.{lines, kept_run}
 use Rattle.modem_history.specs.Connections.{unfinished_on}
 use Rattle.modem_sim.specs.declared.state.ModemState.{ModemState}
 use Rattle.modem_sim.specs.Laws.{after_lines}
+use Rattle.modem_sim.specs.Outboxes.{any_call}
 use Rattle.modem_sim.specs.Pieces.{pieces_octets, replies}
 use Rattle.modem_sim.proofs.connections.OctetReplies.{no_lines, kept_again}
 use Rattle.modem_sim.specs.Acts.{Act, Wire, End, setting, wire, is_open_at_modem}
@@ -183,6 +184,7 @@ is_brought e w c past f small kept fits = record {
       ap (λ ls. pieces_octets (replies c.echo c.modem ls)) (lines_are e w c past f small kept fits)
       ∙ ap (λ (o : Bool). pieces_octets (replies o c.modem (texts_with past f))) fits.echo_is
       ∙ ap (λ m. pieces_octets (replies e.echo m (texts_with past f))) (sym fits.modem_is);
+  calls_is = ap (any_call c.modem) (lines_are e w c past f small kept fits) ∙ ap (λ m. any_call m (texts_with past f)) (sym fits.modem_is);
 }
 
 -- a frame opens no other connection
@@ -333,8 +335,8 @@ closing_noted r v f n is = ap (λ m. is_opened (v.state 0) && (is_on Uih 0 f && 
     by_kind false s m = refl
 
 -- what an end does that takes a frame
-pub kept_takes : (old mid new : Core) (f : Frame) (m : ModemState) (reader said : List ℕ) (opens closes : Bool) (ended : ℕ) → mid ≡ record old { station = mid.station } → fitting.StationHandles old.station mid.station (station.Got f) → opens ≡ opens_in old f → closes ≡ closes_in old f → m ≡ after_lines old.modem (lines_in old f) → ended ≡ length (lines_in old f) → reader ≡ kept_run ((box_at old f.dlci).run ++ octets_in old f) → said ≡ queue_of (box_at old f.dlci) ++ pieces_octets (replies old.echo old.modem (lines_in old f)) → ((octets : List ℕ) → said ≡ queue_of (box_at mid f.dlci) ++ octets → new ≡ kept_in mid f.dlci m (box_turned opens true (record { run = reader; said = octets }) (box_at mid f.dlci)) ended closes) → Takes old new f
-kept_takes old mid new f m reader said opens closes ended same handles opened closed modem count run tells keeps =
+pub kept_takes : (old mid new : Core) (f : Frame) (m : ModemState) (reader said : List ℕ) (calls opens closes : Bool) (ended : ℕ) → mid ≡ record old { station = mid.station } → fitting.StationHandles old.station mid.station (station.Got f) → opens ≡ opens_in old f → closes ≡ closes_in old f → m ≡ after_lines old.modem (lines_in old f) → ended ≡ length (lines_in old f) → reader ≡ kept_run ((box_at old f.dlci).run ++ octets_in old f) → said ≡ queue_of (box_at old f.dlci) ++ pieces_octets (replies old.echo old.modem (lines_in old f)) → calls ≡ any_call old.modem (lines_in old f) → ((octets : List ℕ) → said ≡ queue_of (box_at mid f.dlci) ++ octets → new ≡ kept_in mid f.dlci m (box_turned opens true (record { run = reader; said = octets; calls = calls }) (box_at mid f.dlci)) ended closes) → Takes old new f
+kept_takes old mid new f m reader said calls opens closes ended same handles opened closed modem count run tells called keeps =
     let octets = pieces_octets (replies old.echo old.modem (lines_in old f)) in
     let boxes : mid.boxes ≡ old.boxes = ap (λ (c : Core). c.boxes) same in
     let box : box_at mid f.dlci ≡ box_at old f.dlci = ap (λ (c : Core). box_at c f.dlci) same in
@@ -345,10 +347,11 @@ kept_takes old mid new f m reader said opens closes ended same handles opened cl
       modem_is = ap (λ (c : Core). c.modem) is ∙ modem;
       echo_is = ap (λ (c : Core). c.echo) is ∙ ap (λ (c : Core). c.echo) same;
       boxes_are = ap (λ (c : Core). c.boxes) is
-          ∙ ap (λ bs. map (box_heard f.dlci ended) (slice_set bs f.dlci (box_turned opens true (record { run = reader; said = octets }) (box_at mid f.dlci)))) boxes
-          ∙ ap (λ b. map (box_heard f.dlci ended) (slice_set old.boxes f.dlci (box_turned opens true (record { run = reader; said = octets }) b))) box
-          ∙ ap (λ o. map (box_heard f.dlci ended) (slice_set old.boxes f.dlci (box_turned o true (record { run = reader; said = octets }) (box_at old f.dlci)))) opened
-          ∙ ap (λ r. map (box_heard f.dlci ended) (slice_set old.boxes f.dlci (box_turned (opens_in old f) true (record { run = r; said = octets }) (box_at old f.dlci)))) run
+          ∙ ap (λ bs. map (box_heard f.dlci ended) (slice_set bs f.dlci (box_turned opens true (record { run = reader; said = octets; calls = calls }) (box_at mid f.dlci)))) boxes
+          ∙ ap (λ b. map (box_heard f.dlci ended) (slice_set old.boxes f.dlci (box_turned opens true (record { run = reader; said = octets; calls = calls }) b))) box
+          ∙ ap (λ o. map (box_heard f.dlci ended) (slice_set old.boxes f.dlci (box_turned o true (record { run = reader; said = octets; calls = calls }) (box_at old f.dlci)))) opened
+          ∙ ap (λ r. map (box_heard f.dlci ended) (slice_set old.boxes f.dlci (box_turned (opens_in old f) true (record { run = r; said = octets; calls = calls }) (box_at old f.dlci)))) run
+          ∙ ap (λ y. map (box_heard f.dlci ended) (slice_set old.boxes f.dlci (box_turned (opens_in old f) true (record { run = (brought old f).run; said = octets; calls = y }) (box_at old f.dlci)))) called
           ∙ ap (λ n. map (box_heard f.dlci n) (slice_set old.boxes f.dlci (box_turned (opens_in old f) true (brought old f) (box_at old f.dlci)))) count;
       come_is = ap (λ (c : Core). c.come) is ∙ ap (λ (c : Core). counted (c.come + ended)) same ∙ ap (λ n. counted (old.come + n)) count;
       steps_are = ap (λ (c : Core). c.steps) is ∙ ap (λ (c : Core). c.steps) same;
@@ -364,19 +367,20 @@ any_default (x ∷ boxes) zero a b inside = refl
 any_default (x ∷ boxes) (suc i) a b inside = any_default boxes i a b (omega arith)
 
 -- what was learnt on the way makes an end that goes on
-pub got_goes_on : (old mid new : Core) (copy m' : ModemState) (f : Frame) (b : Box) (octets reader said : List ℕ) (opens closes : Bool) (ended : ℕ) → length old.boxes ≡ 62 → f.dlci < 62 → mid ≡ record old { station = mid.station } → b ≡ slice_index_or old.boxes f.dlci b → octets ≡ octets_in old f → opens ≡ opens_in old f → closes ≡ closes_in old f → copy ≡ old.modem → kept_run b.run ≡ b.run → m' ≡ after_lines copy (lines (b.run ++ octets)) → ended ≡ length (lines (b.run ++ octets)) → reader ≡ kept_run (b.run ++ octets) → said ≡ queue_of b ++ pieces_octets (replies old.echo copy (lines (b.run ++ octets))) → fitting.StationHandles old.station mid.station (station.Got f) → ((o : List ℕ) → said ≡ queue_of (box_at mid f.dlci) ++ o → new ≡ kept_in mid f.dlci m' (box_turned opens true (record { run = reader; said = o }) (box_at mid f.dlci)) ended closes) → EndGoesOn old new f
-got_goes_on old mid new copy m' f b octets reader said opens closes ended all small same here octets_are opened closed copied kept modem count run tells handles keeps =
+pub got_goes_on : (old mid new : Core) (copy m' : ModemState) (f : Frame) (b : Box) (octets reader said : List ℕ) (calls opens closes : Bool) (ended : ℕ) → length old.boxes ≡ 62 → f.dlci < 62 → mid ≡ record old { station = mid.station } → b ≡ slice_index_or old.boxes f.dlci b → octets ≡ octets_in old f → opens ≡ opens_in old f → closes ≡ closes_in old f → copy ≡ old.modem → kept_run b.run ≡ b.run → m' ≡ after_lines copy (lines (b.run ++ octets)) → ended ≡ length (lines (b.run ++ octets)) → reader ≡ kept_run (b.run ++ octets) → said ≡ queue_of b ++ pieces_octets (replies old.echo copy (lines (b.run ++ octets))) → calls ≡ any_call copy (lines (b.run ++ octets)) → fitting.StationHandles old.station mid.station (station.Got f) → ((o : List ℕ) → said ≡ queue_of (box_at mid f.dlci) ++ o → new ≡ kept_in mid f.dlci m' (box_turned opens true (record { run = reader; said = o; calls = calls }) (box_at mid f.dlci)) ended closes) → EndGoesOn old new f
+got_goes_on old mid new copy m' f b octets reader said calls opens closes ended all small same here octets_are opened closed copied kept modem count run tells called handles keeps =
     let box : b ≡ box_at old f.dlci = here ∙ any_default old.boxes f.dlci b fresh_box (omega arith) in
     let text : b.run ++ octets ≡ (box_at old f.dlci).run ++ octets_in old f = ap (λ x. x.run ++ octets) box ∙ ap (λ x. (box_at old f.dlci).run ++ x) octets_are in
     let ls = ap lines text in
     takes_goes_on old new f small all (sym (ap (λ x. kept_run x.run) box) ∙ kept ∙ ap (λ (x : Box). x.run) box)
-    (kept_takes old mid new f m' reader said opens closes ended same handles opened closed
+    (kept_takes old mid new f m' reader said calls opens closes ended same handles opened closed
     (modem ∙ ap (λ x. after_lines x (lines (b.run ++ octets))) copied ∙ ap (after_lines old.modem) ls)
     (count ∙ ap length ls)
     (run ∙ ap kept_run text)
     (tells ∙ ap (λ x. queue_of x ++ pieces_octets (replies old.echo copy (lines (b.run ++ octets)))) box
     ∙ ap (λ x. queue_of (box_at old f.dlci) ++ pieces_octets (replies old.echo x (lines (b.run ++ octets)))) copied
     ∙ ap (λ x. queue_of (box_at old f.dlci) ++ pieces_octets (replies old.echo old.modem x)) ls)
+    (called ∙ ap (λ x. any_call x (lines (b.run ++ octets))) copied ∙ ap (any_call old.modem) ls)
     keeps)
 
 pub is_handled : {A E : Type 0} (r : Result A E) (P : Type 0) → OnOk r P → is_ok r ≡ true → P

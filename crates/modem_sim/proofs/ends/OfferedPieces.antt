@@ -139,6 +139,7 @@ released_at e d past b true over fit =
       all_is = fit.all_is ∙ ap (λ x. offered Responder d (wire past) ++ x) (sym (append-nil (b.unsent ++ b.held)));
       held_is = λ holds. held_none (hold_on d past) none holds;
       apart = λ is. refl;
+      call_is = fit.call_is;
     }
   where
     held_none : {A : Type 0} (h : Option ℕ) → h ≡ None → is_holding h ≡ true → A

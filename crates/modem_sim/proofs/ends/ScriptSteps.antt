@@ -1,5 +1,5 @@
 -- The steps of a script are done.
-use Rattle.std.specs.Prelude.{◌≡◌, ℕ, zero, suc, ◌+◌, ◌<◌, ◌≤◌, nat_le, nat_lt, ◌==◌, ◌&&◌, ◌||◌, Result, Ok, Err, OnOk, OnErr, is_ok, Bool, true, false, List, [], ◌∷◌, ◌++◌, length, drop, Option, None, Some, slice_index_or, slice_set, refl, if◌then◌else◌}
+use Rattle.std.specs.Prelude.{◌≡◌, ℕ, zero, suc, ◌+◌, ◌<◌, ◌≤◌, nat_le, nat_lt, ◌==◌, ◌&&◌, ◌||◌, not, Result, Ok, Err, OnOk, OnErr, is_ok, Bool, true, false, List, [], ◌∷◌, ◌++◌, length, drop, Option, None, Some, slice_index_or, slice_set, refl, if◌then◌else◌}
 use Rattle.std.specs.List.{list_all}
 use Rattle.std.specs.Result.{result_err}
 use Rattle.std.proofs.Common.{lit<, arith, sym, ap, ◌∙◌, subst, append_assoc, append-nil, length-append, get_or}
@@ -24,11 +24,11 @@ use Rattle.modem_sim.specs.Heard.{heard}
 use Rattle.modem_sim.specs.Pieces.{Announced, framed, pieces_octets}
 use Rattle.modem_sim.specs.Outboxes.{Outbox, outbox, hold_on, is_holding}
 use Rattle.modem_sim.specs.Boxes.{Box, BoxFits, FitsOpen, fresh_box, is_released, released, box_announced, box_holding}
-use Rattle.modem_sim.specs.Doing.{acts, call_of, done, left, named_by, closes_down}
+use Rattle.modem_sim.specs.Doing.{acts, call_of, done, is_free, left, named_by, closes_down}
 use Rattle.modem_sim.specs.Histories.{Allows, MayDo, IsAsked}
-use Rattle.modem_sim.specs.Cores.{AtStation, HasNoneToDo, HasPassed, asks_nothing, asks, Refuses, Core, Wired, GoesFrom, Goes, Fits, after_wire_act, are_open_in, boxes_done, closes_by, counted, that_act}
+use Rattle.modem_sim.specs.Cores.{AtStation, HasNoneToDo, HasPassed, asks_nothing, asks, Refuses, Core, Wired, GoesFrom, Goes, Fits, after_wire_act, are_free_in, are_open_in, boxes_done, closes_by, counted, that_act}
 use Rattle.modem_sim.proofs.law_proofs.Histories.{spelled-append}
-use Rattle.modem_sim.proofs.connections.BoxesAfterFrame.{box_still, called_still}
+use Rattle.modem_sim.proofs.connections.BoxesAfterFrame.{box_still, called_still, was_open}
 use Rattle.modem_sim.proofs.ends.EndAfterFrame.{box_here, later-sent_after, only_sent, opened_is}
 use Rattle.modem_sim.proofs.ends.OfferedPieces.{Stands, both_all, called_goes, released_fits, said_is, same_held, stays}
 
@@ -63,6 +63,7 @@ announced_at e past d x line b true is there fits =
           ∙ append_assoc given (r.unsent ++ framed line) r.held;
       held_is = λ holds. ap (λ (h : Bool). pieces_octets (with_line o line h).held) is ∙ fit.held_is holds;
       apart = fit.apart;
+      call_is = fit.call_is;
     }
 announced_at e past d x line b false is there fits =
     let fit = fits there in
@@ -73,6 +74,7 @@ announced_at e past d x line b false is there fits =
       all_is = ap (λ (h : Bool). pieces_octets (with_line o line h).said ++ pieces_octets (with_line o line h).held) is ∙ fit.all_is;
       held_is = λ holds. ap (λ (h : Bool). pieces_octets (with_line o line h).held) is ∙ fit.held_is holds;
       apart = fit.apart;
+      call_is = fit.call_is;
     }
 
 holding_at : (e : End) (past : List Act) (d : ℕ) (x y : Dlci) (b : Box) (here : Bool) → (x.number == d) ≡ here → is_open_at_modem d past ≡ true → FitsOpen e d past b → BoxFits e d (Did (Hold x y) ∷ past) (if here then box_holding y.number b else b)
@@ -84,6 +86,7 @@ holding_at e past d x y b true is there fits =
       all_is = fit.all_is;
       held_is = λ holds. same_held e d past (released b) (not_over b) fit;
       apart = λ none. cc;
+      call_is = fit.call_is;
     }
 holding_at e past d x y b false is there fits =
     let fit = fits there in
@@ -94,6 +97,7 @@ holding_at e past d x y b false is there fits =
       all_is = fit.all_is;
       held_is = λ holds. fit.held_is (sym (ap is_holding same) ∙ holds);
       apart = fit.apart;
+      call_is = fit.call_is;
     }
 
 -- the box of a place, among which one was put
@@ -111,14 +115,14 @@ step_fits e past (Announce x line) boxes all fits d small there =
     let At : Box → Type 0 = λ b. BoxFits e d (Did (Announce x line) ∷ past) b in
     subst At (put_at boxes x.number d (box_announced line) (x.number == d) refl inside)
     (announced_at e past d x line (slice_index_or boxes d fresh_box) (x.number == d) refl there (fits d small))
-step_fits e past (Flow x go) boxes all fits d small there = let fit = fits d small there in record { run_is = fit.run_is; hold_is = fit.hold_is; all_is = fit.all_is; held_is = fit.held_is; apart = fit.apart }
+step_fits e past (Flow x go) boxes all fits d small there = let fit = fits d small there in record { run_is = fit.run_is; hold_is = fit.hold_is; all_is = fit.all_is; held_is = fit.held_is; apart = fit.apart; call_is = fit.call_is }
 step_fits e past (Hold x y) boxes all fits d small there =
     let inside : x.number < length boxes = let low = x.in_range in omega arith in
     let At : Box → Type 0 = λ b. BoxFits e d (Did (Hold x y) ∷ past) b in
     subst At (put_at boxes x.number d (box_holding y.number) (x.number == d) refl inside)
     (holding_at e past d x y (slice_index_or boxes d fresh_box) (x.number == d) refl there (fits d small))
-step_fits e past (Disconnect x) boxes all fits d small there = let fit = fits d small there in record { run_is = fit.run_is; hold_is = fit.hold_is; all_is = fit.all_is; held_is = fit.held_is; apart = fit.apart }
-step_fits e past CloseDown boxes all fits d small there = let fit = fits d small there in record { run_is = fit.run_is; hold_is = fit.hold_is; all_is = fit.all_is; held_is = fit.held_is; apart = fit.apart }
+step_fits e past (Disconnect x) boxes all fits d small there = let fit = fits d small there in record { run_is = fit.run_is; hold_is = fit.hold_is; all_is = fit.all_is; held_is = fit.held_is; apart = fit.apart; call_is = fit.call_is }
+step_fits e past CloseDown boxes all fits d small there = let fit = fits d small there in record { run_is = fit.run_is; hold_is = fit.hold_is; all_is = fit.all_is; held_is = fit.held_is; apart = fit.apart; call_is = fit.call_is }
 
 -- ## The step
 
@@ -218,6 +222,15 @@ all_small (Hold x y) = let low = x.in_range in let low_too = y.in_range in grind
 all_small (Disconnect x) = let low = x.in_range in grind (arith, nat_tests)
 all_small CloseDown = refl
 
+-- whether a line may be announced is what is kept of its connection
+pub are_free : (e : End) (w : Wired) (c : Core) (past : List Act) (act : StepAct) → Fits e w c past → list_all (λ d. is_open_at_modem d past) (named_by act) ≡ true → is_free e past act ≡ are_free_in c.boxes act
+are_free e w c past (Announce x line) fits there =
+    ap (λ (b : Bool). not b) (fits.boxes_are x.number x.in_range (was_open (is_open_at_modem x.number past) true there)).call_is
+are_free e w c past (Flow x go) fits there = refl
+are_free e w c past (Hold x y) fits there = refl
+are_free e w c past (Disconnect x) fits there = refl
+are_free e w c past CloseDown fits there = refl
+
 pub first_acts : (step : Step) (later : List Step) → acts step.act ≡ true → that_act (step ∷ later) ≡ step ∷ that_act later
 first_acts step later is = ap (λ (b : Bool). if b then step ∷ that_act later else that_act later) is
 
@@ -248,10 +261,11 @@ asked_only act (station.Probe octets) is = refl
 asked_only act station.Stop is = refl
 asked_only act (station.Flow d go) is = refl
 
-pub does_goes : (old new : Core) (step : Step) (later : List Step) → length old.boxes ≡ 62 → old.steps ≡ step ∷ later → acts step.act ≡ true → nat_le step.after old.come ≡ true → are_open_in old.station step.act ≡ true → AtStation old.station new.station step.act → new ≡ record old { station = new.station; boxes = boxes_done step.act old.boxes; closed = closes_by step.act || old.closed; steps = later } → Goes is_step_act old new
-does_goes old new step later all steps acting come open_are at_station same e w past fits =
+pub does_goes : (old new : Core) (step : Step) (later : List Step) → length old.boxes ≡ 62 → old.steps ≡ step ∷ later → acts step.act ≡ true → nat_le step.after old.come ≡ true → are_open_in old.station step.act ≡ true → are_free_in old.boxes step.act ≡ true → AtStation old.station new.station step.act → new ≡ record old { station = new.station; boxes = boxes_done step.act old.boxes; closed = closes_by step.act || old.closed; steps = later } → Goes is_step_act old new
+does_goes old new step later all steps acting come open_are free at_station same e w past fits =
     let act = step.act in
     let first = fits.left_is ∙ ap that_act steps ∙ first_acts step later acting in
+    let opened = they_are_open e w old past (named_by act) (all_small act) fits ∙ open_are in
     let may : MayDo e past act = record {
       free = fits.free;
       due = record {
@@ -260,7 +274,8 @@ does_goes old new step later all steps acting come open_are at_station same e w 
         is_first = first;
         is_its = refl;
         come = enough (length (heard past)) step.after old.come fits.come_is come;
-        open_are = they_are_open e w old past (named_by act) (all_small act) fits ∙ open_are;
+        open_are = opened;
+        free = are_free e w old past act fits opened ∙ free;
       };
     } in
     let boxes_are = step_fits e past act old.boxes all fits.boxes_are in

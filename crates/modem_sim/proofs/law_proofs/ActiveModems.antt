@@ -248,7 +248,9 @@ commands_there (text ∷ texts) r kept = commands_there texts (ran_next r text) 
 
 line_there : (s : ModemState) (read : Option (List (List ℕ))) → Keeps s → Keeps (worded_by s read).state
 line_there s None kept = kept
-line_there s (Some texts) kept = commands_there texts (nothing_ran s) kept
+line_there s (Some texts) kept =
+    let done = commands_there texts (nothing_ran s) kept in
+    record { words = done.words; there = record { defined = done.there.defined; attached = done.there.attached } }
 
 too_long_there : (s : ModemState) (read : Option (List (List ℕ))) → Keeps s → Keeps (refused_by s read).state
 too_long_there s None kept = kept

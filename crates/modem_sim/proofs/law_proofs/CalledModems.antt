@@ -1,16 +1,15 @@
 -- What a modem with words does at a packet call, and with the rest of its line.
-use Rattle.std.specs.Prelude.{◌≡◌, ℕ, Bool, true, false, List, [], ◌∷◌, fold, map, Option, Some, None, if◌then◌else◌, refl}
-use Rattle.std.proofs.Common.{ap, sym, ◌∙◌}
+use Rattle.std.specs.Prelude.{◌≡◌, ℕ, Bool, true, false, List, [], ◌∷◌, ◌++◌, codes, fold, map, Option, Some, None, refl}
+use Rattle.std.proofs.Common.{ap, append-nil, sym, ◌∙◌}
 use Rattle.std.proofs.lemmas.List.Sums.{fold-append}
-use Rattle.modem_sim.specs.declared.own_answers.OwnLine.{OwnLine}
 use Rattle.modem_sim.specs.declared.state.Lock.TheVariants.{Ready}
 use Rattle.modem_sim.specs.declared.state.ModemState.{ModemState}
 use Rattle.modem_sim.specs.declared.state.Words.{Words}
 use Rattle.modem_sim.specs.declared.words.Word.TheVariants.{Dial}
 use Rattle.modem_sim.specs.Reading.{command_of}
-use Rattle.modem_sim.specs.Steps.{announced_as, dialled, is_registered, line_commands, line_of, lock_error, nothing_ran, ran_next, ran_other, ran_text, ran_unless, ran_word, refused_by, with_late, worded_answer, worded_by, worded_step, Ran, Step}
-use Rattle.modem_sim.specs.WordLaws.{AnswersCalls, EndsAtCalls, IsCall}
-use Rattle.modem_sim.proofs.modem_steps.StandardModems.{step_worded}
+use Rattle.modem_sim.specs.Steps.{announced_as, answered_by, dialled, is_registered, line_of, lock_error, nothing_ran, ran_next, ran_other, is_through, puts_through, ran_text, ran_unless, ran_word, reports_held, step, with_late, Ran, Step}
+use Rattle.modem_sim.specs.WordLaws.{AnswersCalls, EndsAtCalls, HoldsBehindCalls, IsCall}
+use Rattle.modem_sim.proofs.law_proofs.WordedModems.{late_by, none_late, whole_line}
 
 -- ## The rest of the line
 
@@ -69,19 +68,32 @@ none_announced : (registered : Bool) (s : ModemState) → announced_as registere
 none_announced true s = refl
 none_announced false s = refl
 
--- where no line waits, none comes behind an answer
-none_late : (s : ModemState) (code : List ℕ) (late : List OwnLine) → late ≡ s.late → late ≡ [] → with_late late (record { state = s; answer = line_of code ∷ [] }) ≡ record { state = s; answer = line_of code ∷ [] }
-none_late s code [] is none = ap (λ l. record { state = record s { late = l }; answer = line_of code ∷ [] }) is
-none_late s code (line ∷ more) is none = cc
+-- a call that changes nothing is all that is said, put through or not
+called_alone : (b : Bool) (s : ModemState) (cid : ℕ) → s.late ≡ [] → with_late b (answered_by b s (called s cid)) ≡ record { state = s; answer = line_of (dialled cid s) ∷ [] }
+called_alone true s cid none =
+    let state_by : List (List ℕ) → ModemState = λ texts. record s { late = reports_held true texts ++ s.late } in
+    ap (λ texts. with_late true (record { state = state_by texts; answer = line_of (dialled cid s) ∷ [] })) (none_announced (is_registered s.lock s.oper) s)
+    ∙ none_late true (record { state = s; answer = line_of (dialled cid s) ∷ [] }) none
+called_alone false s cid none =
+    ap (λ texts. with_late false (record { state = s; answer = line_of (dialled cid s) ∷ map line_of texts })) (none_announced (is_registered s.lock s.oper) s)
+    ∙ none_late false (record { state = s; answer = line_of (dialled cid s) ∷ [] }) none
 
 pub answers_calls : AnswersCalls
 answers_calls s w line text cid some ready short own none divided is =
-    let kept : worded_step s line ≡ worded_by s (line_commands line) = ap (λ (b : Bool). if b then refused_by s (line_commands line) else worded_by s (line_commands line)) short in
-    let done : worded_by s (line_commands line) ≡ worded_by s (Some (text ∷ [])) = ap (worded_by s) divided in
-    let by : Ran → Step = λ r. record { state = r.state; answer = worded_answer s r } in
-    let ran : worded_by s (Some (text ∷ [])) ≡ by (called s cid) = ap by (call_ran s w text cid some ready is) in
-    let alone : by (called s cid) ≡ record { state = s; answer = line_of (dialled cid s) ∷ [] } =
-    ap (λ texts. record { state = s; answer = line_of (dialled cid s) ∷ map line_of texts }) (none_announced (is_registered s.lock s.oper) s) in
-    step_worded s line w some own
-    ∙ ap (with_late s.late) (kept ∙ done ∙ ran ∙ alone)
-    ∙ none_late s (dialled cid s) s.late refl none
+    let by : Ran → Step = λ r. with_late (is_through r.ended) (answered_by (is_through r.ended) s r) in
+    whole_line s line w some short own
+    ∙ ap (late_by s) divided
+    ∙ ap by (call_ran s w text cid some ready is)
+    ∙ called_alone (puts_through (dialled cid s)) s cid none
+
+-- ## Behind a CONNECT
+
+pub holds_behind_calls : HoldsBehindCalls
+holds_behind_calls s w line commands some short own divided through =
+    let r : Ran = fold ran_next (nothing_ran s) commands in
+    let by : Option (List ℕ) → Step = λ o. with_late (is_through o) (answered_by (is_through o) s (record r { ended = o })) in
+    let whole : step s line ≡ by (Some (codes "CONNECT")) = whole_line s line w some short own ∙ ap (late_by s) divided ∙ ap by through in
+    record {
+      answer = ap (λ t. t.answer) whole ∙ append-nil (r.told ++ line_of (codes "CONNECT") ∷ []);
+      waiting = ap (λ t. t.state.late) whole;
+    }

@@ -1,17 +1,18 @@
 -- A modem with words does with the commands of the first table what one without them does.
-use Rattle.std.specs.Prelude.{◌≡◌, ◌≢◌, ℕ, ◌==◌, Bool, true, false, List, [], ◌∷◌, ◌++◌, map, Option, Some, None, is_some, if◌then◌else◌, refl, codes}
-use Rattle.std.specs.Fmt.{digits}
+use Rattle.std.specs.Prelude.{◌≡◌, ◌≢◌, ℕ, ◌==◌, Bool, true, false, List, [], ◌∷◌, ◌++◌, map, Option, Some, None, is_some, unwrap_or, if◌then◌else◌, refl, codes}
+use Rattle.std.specs.Fmt.{decimal, digits}
 use Rattle.std.proofs.Common.{ap, sym, ◌∙◌, append_assoc, append-nil}
 use Rattle.at_text.specs.declared.answer.AnswerLine.{AnswerLine}
 use Rattle.at_cmds.specs.declared.command.Command.{Command}
 use Rattle.at_cmds.specs.declared.command.Command.TheVariants.{PinQuery, PinEnter, RegReport, RegQuery, Signal, OperQuery, OperChoose, ContextSet, ContextQuery, AttachSet, AttachQuery, ErrorMode, Multiplex}
 use Rattle.at_cmds.specs.declared.command.OperChoice.{OperChoice}
 use Rattle.at_cmds.specs.declared.command.OperChoice.TheVariants.{Automatic, Deregister, Manual}
-use Rattle.modem_sim.specs.declared.own_answers.OwnLine.{OwnLine}
 use Rattle.modem_sim.specs.declared.state.ModemState.{ModemState}
 use Rattle.modem_sim.specs.declared.state.Words.{Words}
+use Rattle.at_cmds.specs.Cme.{cme_text}
+use Rattle.modem_sim.specs.OwnAnswers.{said_later, said_now, waits_on}
 use Rattle.modem_sim.specs.Reading.{is_attention, command_of}
-use Rattle.modem_sim.specs.Steps.{after_command, after_refusal, announced, divided_by, is_too_long, line_commands, line_of, nothing_ran, own_answer, obeyed, obeyed_unless, ran_command, ran_text, lock_error, radio_error, refusal_as, refusal_of, refused_by, settled, standard_step, step, Step, told_as, told_texts, with_late, worded_answer, worded_by, worded_step}
+use Rattle.modem_sim.specs.Steps.{after_command, after_refusal, announced, answered_by, divided_by, is_through, is_too_long, line_commands, line_of, nothing_ran, own_answer, obeyed, obeyed_unless, puts_through, Ran, ran_command, ran_text, lock_error, radio_error, refusal_as, refusal_of, refused_by, settled, standard_step, step, Step, told_as, told_texts, through_by, with_late, worded_by}
 use Rattle.modem_sim.specs.StateTexts.{oper_text}
 use Rattle.modem_sim.specs.SettingTexts.{named_oper_text}
 use Rattle.modem_sim.specs.WordLaws.{AnswersAsStandard, IsAsStandard, bare}
@@ -125,7 +126,18 @@ record IsSame (s : ModemState) (worded plain : Step) : Type 0 where
   state : bare worded.state ≡ plain.state
 
 abbrev worded_of : Option ℕ → ModemState → Command → Step
-worded_of o s c = record { state = (ran_command o (nothing_ran s) c).state; answer = worded_answer s (ran_command o (nothing_ran s) c) }
+worded_of o s c = answered_by false s (ran_command o (nothing_ran s) c)
+
+-- no error puts a call through
+error_stays : (bare numbered : Bool) (number : ℕ)
+    → puts_through (if bare then codes "ERROR" else if numbered then codes "+CME ERROR: " ++ decimal number else codes "+CME ERROR: " ++ unwrap_or (cme_text number) []) ≡ false
+error_stays true numbered number = refl
+error_stays false true number = refl
+error_stays false false number = refl
+
+none_through : (o : Option ℕ) (s : ModemState) (c : Command) → is_through (ran_command o (nothing_ran s) c).ended ≡ false
+none_through None s c = refl
+none_through (Some number) s c = error_stays (s.errors == 0) (s.errors == 1) number
 
 same_at : (o : Option ℕ) (w : Words) (s : ModemState) (c : Command) → s.words ≡ Some w → w.oper_format ≡ 2 → c ≢ ContextQuery → IsSame s (worded_of o s c) (obeyed_unless o (bare s) c)
 same_at None w s c some is other =
@@ -180,22 +192,38 @@ worded_late None s c = settled_late (after_command s c).attached (after_command 
 worded_late (Some number) s c = refused_late s c
 
 -- where no line waits, none comes behind an answer
-none_late : (t : Step) (late : List OwnLine) → late ≡ [] → t.state.late ≡ late → with_late late t ≡ t
-none_late t late none kept =
-    let state_is : record t.state { late = [] } ≡ t.state = ap (λ l. record t.state { late = l }) (sym (kept ∙ none)) in
+pub none_late : (through : Bool) (t : Step) → t.state.late ≡ [] → with_late through t ≡ t
+none_late true t none =
+    let state_is : record t.state { late = map waits_on t.state.late } ≡ t.state = ap (λ l. record t.state { late = map waits_on l }) none ∙ ap (λ l. record t.state { late = l }) (sym none) in
     let answer_is : t.answer ++ [] ≡ t.answer = append-nil t.answer in
-    ap (λ l. with_late l t) none ∙ (λ i. record { state = state_is i; answer = answer_is i })
+    λ i. record { state = state_is i; answer = answer_is i }
+none_late false t none =
+    let state_is : record t.state { late = said_later t.state.late } ≡ t.state = ap (λ l. record t.state { late = said_later l }) none ∙ ap (λ l. record t.state { late = l }) (sym none) in
+    let answer_is : t.answer ++ said_now t.state.late ≡ t.answer = ap (λ l. t.answer ++ said_now l) none ∙ append-nil t.answer in
+    λ i. record { state = state_is i; answer = answer_is i }
+
+-- what a line comes to whose commands are these
+abbrev pub late_by : ModemState → Option (List (List ℕ)) → Step
+late_by s commands = with_late (through_by s commands) (worded_by s commands)
+
+-- a line that isn't too long, and has no answer of its own
+pub whole_line : (s : ModemState) (line : List ℕ) (w : Words) → s.words ≡ Some w → is_too_long line ≡ false → own_answer s line ≡ None → step s line ≡ late_by s (line_commands line)
+whole_line s line w some short own =
+    let lines : Option (List (List ℕ)) = line_commands line in
+    step_worded s line w some own
+    ∙ ap (λ (b : Bool). with_late (if b then false else through_by s lines) (if b then refused_by s lines else worded_by s lines)) short
 
 -- a line that is a command
 pub one_command : (s : ModemState) (w : Words) (line : List ℕ) (c : Command) → s.words ≡ Some w → is_too_long line ≡ false → own_answer s line ≡ None → s.late ≡ [] → command_of line ≡ Some c → step s line ≡ worded_of (refusal_as s.words s c) s c
 unfolding line_commands
 one_command s w line c some short own none read =
-    let by : Option Command → Step = λ o. record { state = (ran_text o (nothing_ran s) line).state; answer = worded_answer s (ran_text o (nothing_ran s) line) } in
-    let kept : worded_step s line ≡ worded_by s (line_commands line) = ap (λ (b : Bool). if b then refused_by s (line_commands line) else worded_by s (line_commands line)) short in
-    let divided : worded_step s line ≡ worded_by s (Some (line ∷ [])) = kept ∙ ap (λ o. worded_by s (divided_by o line)) read in
-    let done : worded_by s (Some (line ∷ [])) ≡ worded_of (refusal_as s.words s c) s c = ap by read in
-    step_worded s line w some own ∙ ap (with_late s.late) (divided ∙ done)
-    ∙ none_late (worded_of (refusal_as s.words s c) s c) s.late none (worded_late (refusal_as s.words s c) s c)
+    let o : Option ℕ = refusal_as s.words s c in
+    let by : Ran → Step = λ r. with_late (is_through r.ended) (answered_by (is_through r.ended) s r) in
+    whole_line s line w some short own
+    ∙ ap (λ x. late_by s (divided_by x line)) read
+    ∙ ap (λ x. by (ran_text x (nothing_ran s) line)) read
+    ∙ ap (λ b. with_late b (answered_by b s (ran_command o (nothing_ran s) c))) (none_through o s c)
+    ∙ none_late false (worded_of o s c) (worded_late o s c ∙ none)
 
 bare_command : (s : ModemState) (line : List ℕ) (c : Command) → command_of line ≡ Some c → step (bare s) line ≡ obeyed_unless (refusal_of s c) (bare s) c
 bare_command s line c read =

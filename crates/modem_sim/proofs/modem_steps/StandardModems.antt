@@ -1,5 +1,5 @@
 -- A modem without words stays one, and does what the first table says.
-use Rattle.std.specs.Prelude.{◌≡◌, ℕ, Bool, true, false, List, [], ◌∷◌, Option, Some, None, if◌then◌else◌, refl}
+use Rattle.std.specs.Prelude.{◌≡◌, ℕ, ◌&&◌, Bool, true, false, List, [], ◌∷◌, Option, Some, None, if◌then◌else◌, refl}
 use Rattle.std.proofs.Common.{ap, ◌∙◌}
 use Rattle.at_cmds.specs.declared.command.Command.{Command}
 use Rattle.at_cmds.specs.declared.command.Command.TheVariants.{PinQuery, PinEnter, RegReport, RegQuery, Signal, OperQuery, OperChoose, ContextSet, ContextQuery, AttachSet, AttachQuery, ErrorMode, Multiplex}
@@ -8,8 +8,9 @@ use Rattle.modem_sim.specs.declared.modem.ModemStart.{ModemStart}
 use Rattle.modem_sim.specs.declared.own_answers.OwnLine.{OwnLine}
 use Rattle.modem_sim.specs.declared.state.ModemState.{ModemState}
 use Rattle.modem_sim.specs.declared.state.Words.{Words}
+use Rattle.modem_sim.specs.CommandLines.{begins_with_at}
 use Rattle.modem_sim.specs.Reading.{is_attention, command_of}
-use Rattle.modem_sim.specs.Steps.{after_command, after_refusal, echoes, echoes_as, obeyed_unless, own_answer, own_said, own_step, refusal_of, standard_step, started, step, step_as, step_by, with_late, worded_step, Step}
+use Rattle.modem_sim.specs.Steps.{after_command, after_refusal, echoes_as, line_through, obeyed_unless, own_answer, own_said, own_step, refusal_of, repeats, standard_step, started, step, step_as, step_by, with_late, worded_step, Step}
 use Rattle.modem_sim.specs.Laws.{after_lines, reached}
 
 pub carried_words : (s : ModemState) (c : Command) → (after_command s c).words ≡ s.words
@@ -71,11 +72,11 @@ step_with_words s line w some = ap (λ x. step_as x s line) some
 pub own_step_some : (own : Option (List OwnLine)) (s : ModemState) (line : List ℕ) (lines : List OwnLine) → own ≡ Some lines → own_step own s line ≡ own_said lines s
 own_step_some own s line lines some = ap (λ o. own_step o s line) some
 
-pub own_step_none : (own : Option (List OwnLine)) (s : ModemState) (line : List ℕ) → own ≡ None → own_step own s line ≡ with_late s.late (worded_step s line)
+pub own_step_none : (own : Option (List OwnLine)) (s : ModemState) (line : List ℕ) → own ≡ None → own_step own s line ≡ with_late (line_through s line) (worded_step s line)
 own_step_none own s line none = ap (λ o. own_step o s line) none
 
 -- with words, and no answer of its own
-pub step_worded : (s : ModemState) (line : List ℕ) (w : Words) → s.words ≡ Some w → own_answer s line ≡ None → step s line ≡ with_late s.late (worded_step s line)
+pub step_worded : (s : ModemState) (line : List ℕ) (w : Words) → s.words ≡ Some w → own_answer s line ≡ None → step s line ≡ with_late (line_through s line) (worded_step s line)
 step_worded s line w some none = step_with_words s line w some ∙ own_step_none (own_answer s line) s line none
 
 pub step_words : (s : ModemState) (line : List ℕ) → s.words ≡ None → (step s line).state.words ≡ None
@@ -88,6 +89,6 @@ lines_words s (line ∷ lines) none = lines_words (step s line).state lines (ste
 pub no_words : (start : ModemStart) (lines : List (List ℕ)) → (reached start lines).words ≡ None
 no_words start lines = lines_words (started start) lines refl
 
--- it repeats commands where it is to always
-pub echoes_standard : (start : ModemStart) (lines : List (List ℕ)) → echoes false (reached start lines) ≡ false
-echoes_standard start lines = ap echoes_as (no_words start lines)
+-- it repeats lines where it is to always
+pub repeats_standard : (start : ModemStart) (lines : List (List ℕ)) (line : List ℕ) → repeats false (reached start lines) line ≡ false
+repeats_standard start lines line = ap (λ w. echoes_as w && begins_with_at line) (no_words start lines)

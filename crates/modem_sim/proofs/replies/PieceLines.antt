@@ -31,7 +31,7 @@ use Rattle.modem_sim.proofs.modem_steps.ReachedStates.{reached_kept}
 use Rattle.modem_sim.proofs.connections.OctetReplies.{after_lines-append}
 use Rattle.modem_sim.proofs.connections.ControlChannel.{does_act}
 use Rattle.modem_sim.proofs.replies.AnswerTexts.{kept_told}
-use Rattle.modem_sim.proofs.modem_steps.StandardModems.{echoes_standard}
+use Rattle.modem_sim.proofs.modem_steps.StandardModems.{repeats_standard}
 
 -- ## Pieces that are lines
 
@@ -152,7 +152,7 @@ answers_sound (l ∷ ls) all =
 reply_sound : (start : ModemStart) → IsStart start → (echo : Bool) (before : List (List ℕ)) (line : List ℕ) → is_line line ≡ true → AreSound (reply echo (reached start before) line)
 reply_sound start is true before line own = (own, answers_sound (step (reached start before) line).answer (kept_told (reached start before) line (reached_kept start before is)))
 reply_sound start is false before line own =
-    subst (λ (b : Bool). AreSound (echoed b line ++ answers (step (reached start before) line).answer)) (sym (echoes_standard start before))
+    subst (λ (b : Bool). AreSound (echoed b line ++ answers (step (reached start before) line).answer)) (sym (repeats_standard start before line))
     (answers_sound (step (reached start before) line).answer (kept_told (reached start before) line (reached_kept start before is)))
 
 replies_sound : (start : ModemStart) → IsStart start → (echo : Bool) (before ls : List (List ℕ)) → AreLines ls → AreSound (replies echo (reached start before) ls)

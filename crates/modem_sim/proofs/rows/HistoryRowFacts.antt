@@ -26,7 +26,7 @@ use Rattle.modem_sim.specs.Outboxes.{outbox}
 use Rattle.modem_sim.specs.Heard.{heard}
 use Rattle.modem_sim.specs.Acts.{is_open_at_modem as is_open_on}
 use Rattle.modem_sim.specs.declared.script.StepAct.{StepAct}
-use Rattle.modem_sim.specs.Doing.{call_owed, left, named_by}
+use Rattle.modem_sim.specs.Doing.{call_owed, is_free, left, named_by}
 use Rattle.modem_sim.specs.Histories.{EachAllowed, IsStationOffer, MayDo, MayGive}
 use Rattle.modem_sim.specs.HistoryRows.{one, two, step_at, plain, simulated, cr, ready_one, ready_two, csq, repeated, two_connections, holding, held_back, asking, asked_of_station, IsGood, GoodRows}
 
@@ -150,10 +150,10 @@ two_good =
     (refl, (refl, (refl, (next_offer refl refl, (next_offer refl refl, (refl, (refl, ready_two_allowed plain)))))))
     refl refl refl
 
-pub due : {e : End} {past : List Act} {act : StepAct} (next : Step) (later : List Step) → call_owed past ≡ None → left e past ≡ next ∷ later → next.act ≡ act → nat_le next.after (length (heard past)) ≡ true → list_all (λ d. is_open_on d past) (named_by act) ≡ true → MayDo e past act
-due next later free is_first is_its come they_are_open = record {
+pub due : {e : End} {past : List Act} {act : StepAct} (next : Step) (later : List Step) → call_owed past ≡ None → left e past ≡ next ∷ later → next.act ≡ act → nat_le next.after (length (heard past)) ≡ true → list_all (λ d. is_open_on d past) (named_by act) ≡ true → is_free e past act ≡ true → MayDo e past act
+due next later free is_first is_its come they_are_open none_in_calls = record {
   free = free;
-  due = record { next = next; later = later; is_first = is_first; is_its = is_its; come = come; open_are = they_are_open };
+  due = record { next = next; later = later; is_first = is_first; is_its = is_its; come = come; open_are = they_are_open; free = none_in_calls };
 }
 
 pub held_good : IsGood holding held_back
@@ -185,8 +185,8 @@ held_good =
                 (
                   next_offer refl refl,
                   (
-                    due (step_at 1 (Announce one (codes "RING"))) [] refl refl refl refl refl,
-                    (refl, (due (step_at 0 (Hold one two)) (step_at 1 (Announce one (codes "RING")) ∷ []) refl refl refl refl refl, ready_two_allowed holding)),
+                    due (step_at 1 (Announce one (codes "RING"))) [] refl refl refl refl refl refl,
+                    (refl, (due (step_at 0 (Hold one two)) (step_at 1 (Announce one (codes "RING")) ∷ []) refl refl refl refl refl refl, ready_two_allowed holding)),
                   ),
                 ),
               ),
@@ -209,7 +209,7 @@ asked_good =
         (
           record { owed = refl; taken = refl },
           (
-            due (step_at 0 CloseDown) [] refl refl refl refl refl,
+            due (step_at 0 CloseDown) [] refl refl refl refl refl refl,
             (
               gave refl refl,
               (
@@ -217,7 +217,7 @@ asked_good =
                 (
                   record { owed = refl; taken = refl },
                   (
-                    due (step_at 0 (Disconnect one)) (step_at 0 CloseDown ∷ []) refl refl refl refl refl,
+                    due (step_at 0 (Disconnect one)) (step_at 0 CloseDown ∷ []) refl refl refl refl refl refl,
                     (
                       gave refl refl,
                       (
@@ -225,7 +225,7 @@ asked_good =
                         (
                           record { owed = refl; taken = refl },
                           (
-                            due (step_at 0 (Flow one false)) (step_at 0 (Disconnect one) ∷ step_at 0 CloseDown ∷ []) refl refl refl refl refl,
+                            due (step_at 0 (Flow one false)) (step_at 0 (Disconnect one) ∷ step_at 0 CloseDown ∷ []) refl refl refl refl refl refl,
                             ready_one_allowed asking,
                           ),
                         ),

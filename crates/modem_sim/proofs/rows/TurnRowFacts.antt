@@ -70,7 +70,7 @@ unanswered : (came went : List ℕ) → ¬ IsAtRest plain came went only_read (a
 unanswered came went rest = said_nothing rest.all_out
 
 pub due_now : IsDue (announcing 0 one) (after [] ready_one) (Announce one (codes "RING"))
-due_now = record { next = step_at 0 (Announce one (codes "RING")); later = []; is_first = refl; is_its = refl; come = refl; open_are = refl }
+due_now = record { next = step_at 0 (Announce one (codes "RING")); later = []; is_first = refl; is_its = refl; come = refl; open_are = refl; free = refl }
 
 not_done : (came went : List ℕ) → ¬ IsAtRest (announcing 0 one) came went only_read (after [] ready_one)
 not_done came went rest = none_some _ (rest.steps (Announce one (codes "RING")) due_now).asked

@@ -7,7 +7,7 @@ use Rattle.at_cmds.specs.Values.{command_in}
 use Rattle.modem_sim.specs.CommandLines.{commands_in}
 use Rattle.modem_sim.specs.Reading.{command_of}
 use Rattle.modem_sim.specs.Steps.{line_commands}
-use Rattle.modem_sim.specs.WordRows.{BareLines, CallsAnswered, CallsEndLines, CallsMisspelt, CallsRefused, ChangeAnnounced, ClientAsks, ClientBegins, ContextsActivated, ContextsRefused, DialledLine, DividedLine, EchoOff, OperatorNamed, OwnAnswered, OwnLater, PinAnnounced, PinLocks, PukEntered, QuotedLine, RadioOff, TenWrongPuks, ValuesAsked}
+use Rattle.modem_sim.specs.WordRows.{BareLines, CallsAnswered, CallsEndLines, CallsMisspelt, CallsRefused, ChangeAnnounced, ClientAsks, ClientBegins, ContextsActivated, ContextsRefused, DialledLine, DividedLine, EchoOff, OperatorNamed, OwnAnswered, OwnLater, PinAnnounced, PinLocks, PukEntered, QuotedLine, RadioOff, RepeatsCommands, ReportsAreHeld, TenWrongPuks, ValuesAsked}
 use Rattle.modem_sim.specs.Words.{word_of}
 
 pub divided_line : DividedLine
@@ -69,6 +69,14 @@ calls_misspelt = refl
 pub calls_end_lines : CallsEndLines
 unfolding command_of command_in numeral_in unquoted parameters digits commands_in line_commands word_of
 calls_end_lines = refl
+
+pub reports_are_held : ReportsAreHeld
+unfolding command_of command_in numeral_in unquoted parameters digits commands_in line_commands word_of
+reports_are_held = refl
+
+pub repeats_commands : RepeatsCommands
+unfolding command_of command_in numeral_in unquoted parameters digits commands_in line_commands word_of
+repeats_commands = refl
 
 pub calls_refused : CallsRefused
 unfolding command_of command_in numeral_in unquoted parameters digits commands_in line_commands word_of

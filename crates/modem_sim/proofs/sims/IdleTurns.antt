@@ -34,12 +34,12 @@ use Rattle.modem_sim.specs.Pieces.{pieces_octets}
 use Rattle.modem_sim.specs.Outboxes.{outbox}
 use Rattle.modem_sim.specs.Doing.{call_of, named_by}
 use Rattle.modem_sim.specs.Histories.{got}
-use Rattle.modem_sim.specs.Cores.{Core, Fits, HasNoneToDo, IsHandedOn, Waits, box_at, Wired, are_open_in, counted, for_lines, for_openings, for_room, none_left, that_act, waits}
+use Rattle.modem_sim.specs.Cores.{are_free_in, for_calls, Core, Fits, HasNoneToDo, IsHandedOn, Waits, box_at, Wired, are_open_in, counted, for_lines, for_openings, for_room, none_left, that_act, waits}
 use Rattle.modem_sim.specs.Sims.{SimMachine, SimMachineFits, SimState}
 use Rattle.modem_sim.specs.Turns.{Exchange, IsAtRest, IsIdle, IsLeft, StepIsRefused, NoneCanBeDone, WantsMemory, at_rest, frame_at_hand, has_room_for, hold_is_over, line_is_full, step_is_due}
 use Rattle.modem_sim.specs.Stills.{HasNoneToTake, LeavesUndone, StoodStill, leaves_frame, leaves_octets, leaves_step}
 use Rattle.modem_sim.proofs.ends.EndAfterFrame.{opened_is}
-use Rattle.modem_sim.proofs.ends.ScriptSteps.{all_small, calls_small, first_acts, they_are_open}
+use Rattle.modem_sim.proofs.ends.ScriptSteps.{are_free, all_small, calls_small, first_acts, they_are_open}
 use Rattle.modem_sim.proofs.ends.HandedOctets.{ring_is, role_is, same_ring}
 use Rattle.modem_sim.proofs.ends.OfferedPieces.{said_is}
 use Rattle.modem_sim.proofs.ends.QueueRoom.{empty_fits}
@@ -79,6 +79,8 @@ none_can_be_done e w c past (waits step later is acting why) fits act due = by_w
         absurd (not_both (are_open_in c.station act)
         (sym (they_are_open e w c past (named_by act) (all_small act) fits) ∙ due.open_are)
         (ap (are_open_in c.station) (sym same_act) ∙ shut))
+    by_why (for_calls busy) =
+        absurd (not_both (are_free_in c.boxes act) (sym (are_free e w c past act fits due.open_are) ∙ due.free) (ap (are_free_in c.boxes) (sym same_act) ∙ busy))
     by_why (for_room refuses) =
         let asked : call_of act ≡ Some refuses.call = ap call_of (sym same_act) ∙ refuses.asked in
         let By : sending.StationSetting → Type 0 = λ s. sending.refused s (sending.station_view s (wire past)) refuses.call ≢ None in
@@ -162,6 +164,7 @@ is_left e came went k past (leaves_step s) fits =
       is_its = refl;
       come = late_enough (length (heard past)) s.step.after k.core.come core.come_is s.come;
       open_are = they_are_open e fits.wired k.core past (named_by s.step.act) (all_small s.step.act) core ∙ s.open_are;
+      free = are_free e fits.wired k.core past s.step.act core (they_are_open e fits.wired k.core past (named_by s.step.act) (all_small s.step.act) core ∙ s.open_are) ∙ s.free;
     })
     s.asks_nothing
 is_left e came went k past (leaves_octets h) fits =

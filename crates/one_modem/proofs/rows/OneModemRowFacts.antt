@@ -166,7 +166,7 @@ there =
 allowed : EachAllowed ringing (modem_past (after [] two_commands))
 unfolding command_of command_in numeral_in unquoted parameters digits
 allowed =
-    (refl, (next_offer refl refl, (refl, (refl, (next_offer refl refl, (due (step_at 1 (Announce sim.one (codes "RING"))) [] refl refl refl refl refl, (refl, (next_offer refl refl, (refl, (refl, (gave refl refl, (refl, (refl, ready_one_allowed ringing)))))))))))))
+    (refl, (next_offer refl refl, (refl, (refl, (next_offer refl refl, (due (step_at 1 (Announce sim.one (codes "RING"))) [] refl refl refl refl refl refl, (refl, (next_offer refl refl, (refl, (refl, (gave refl refl, (refl, (refl, ready_one_allowed ringing)))))))))))))
 
 -- ## The premise
 

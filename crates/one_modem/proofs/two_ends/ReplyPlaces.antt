@@ -32,7 +32,7 @@ use Rattle.modem_sim.specs.Replied.{all_of, is_answer_line, replied_on, text_of,
 use Rattle.modem_sim.proofs.replies.AnswerEnds.{reached_answers_well}
 use Rattle.modem_sim.proofs.connections.OctetReplies.{after_lines-append}
 use Rattle.modem_sim.proofs.replies.AnswerTexts.{answers_in_lines}
-use Rattle.modem_sim.proofs.modem_steps.StandardModems.{echoes_standard}
+use Rattle.modem_sim.proofs.modem_steps.StandardModems.{repeats_standard}
 use Rattle.one_modem.proofs.two_ends.FinalCodes.{AllEnd, Ends, ended_whole}
 
 -- ## Marks
@@ -155,7 +155,7 @@ solicited_reply start is before true line at =
     ∙ ap (λ z. line ∷ z) (ap (filter (is_solicited standard)) (written_texts ls) ∙ all_solicited ls (reached_answers_well start is before line).solicited)
 solicited_reply start is before false line at =
     let ls = (step (reached start before) line).answer in
-    ap (λ (b : Bool). filter (is_solicited standard) (map text_of (echoed b line ++ answers ls))) (echoes_standard start before)
+    ap (λ (b : Bool). filter (is_solicited standard) (map text_of (echoed b line ++ answers ls))) (repeats_standard start before line)
     ∙ ap (filter (is_solicited standard)) (written_texts ls) ∙ all_solicited ls (reached_answers_well start is before line).solicited
 
 no_codes : (ls : List AnswerLine) → list_any is_final (texts_in ls) ≡ list_any (λ (l : AnswerLine). is_final l.text) ls

@@ -3,7 +3,7 @@ use Rattle.std.proofs.lemmas.Bool.Decides.{nat_tests}
 use Rattle.modem_sim.proofs.ends.EndAfterFrame.{either_way}
 use Rattle.modem_sim.specs.Acts.{is_step_act}
 use Rattle.modem_sim.specs.declared.script.Step.{Step}
-use Rattle.modem_sim.specs.Cores.{Core, Goes, HasNoneToDo, HasPassed, SaysNext, Waits, boxes_done, for_lines, for_openings, for_room, waits}
+use Rattle.modem_sim.specs.Cores.{Core, Goes, HasNoneToDo, HasPassed, SaysNext, Waits, boxes_done, for_calls, for_lines, for_openings, for_room, waits}
 use Rattle.modem_sim.proofs.ends.ScriptSteps.{does_goes, passed_one, passes_goes, refused_any, step_at}
 use Rattle.modem_sim.proofs.sim_core.SimCore.do_next.Goals as goal
 use Rattle.modem_sim.proofs.sim_core.SimCore.do_next.Goals.{then-step-self-via-then-step-self, then-step-self-via-else-step-self+then-not-are_open}
@@ -35,7 +35,7 @@ returns-clause-goes c =
     let Goes_to : Core → Type 0 = λ o. Goes is_step_act o new in
     subst Goes_to c.self.view_is
     (does_goes old new step later c.self.invariant.0 first
-    (sym c.if-not-acts.ensures) (let late = c.if-step-self.false in grind (arith, nat_tests)) (sym c.if-not-are_open.ensures)
+    (sym c.if-not-acts.ensures) (let late = c.if-step-self.false in grind (arith, nat_tests)) (sym c.if-not-are_open.ensures) (sym c.if-not-are_free.ensures)
     (c.in_ok-carry_out.ensures.station c.if-not-branch.false)
     (ap (λ bs. record new { boxes = bs }) (c.in_ok-carry_out.ensures.boxes c.if-not-branch.false)
     ∙ ap (λ (b : Bool). record new { boxes = boxes_done step.act c.self.inside.channels.items; closed = b })
@@ -82,6 +82,24 @@ returns-then-step-self-clause-none c = λ _.
     ] in
     subst There c.self.view_is (waits step later first (sym c.if-not-acts.ensures) why)
 
+pub returns-then-not-are_free-clause-none : goal.returns-then-not-are_free-clause-none
+returns-then-not-are_free-clause-none c = λ _.
+    let old : Core = record {
+      station = c.self.inside.station;
+      modem = c.self.inside.modem;
+      echo = c.self.inside.echo;
+      boxes = c.self.inside.channels.items;
+      come = c.self.inside.come;
+      steps = drop c.self.inside.next c.self.inside.steps.items;
+      closed = c.self.inside.closed;
+    } in
+    let step = c.in-Some.step.now in
+    let later = drop (c.self.inside.next + 1) c.self.inside.steps.items in
+    let Steps : List Step → Type 0 = λ xs. drop c.self.inside.next xs ≡ step ∷ drop (c.self.inside.next + 1) xs in
+    let first = subst Steps c.deref.ensures.value (step_at c.deref.result.now c.self.inside.next step c.in-Some.ensures.lookup.3.0 c.in-Some.ensures.lookup.1) in
+    let There : Core → Type 0 = λ o. HasNoneToDo o in
+    subst There c.self.view_is (waits step later first (sym c.if-not-acts.ensures) (for_calls (sym c.are_free.ensures ∙ c.if-not-are_free.true)))
+
 pub returns-then-not-branch-clause-none : goal.returns-then-not-branch-clause-none
 returns-then-not-branch-clause-none c = λ _.
     let old : Core = record {
@@ -122,6 +140,7 @@ returns-in_err-carry_out-clause-says c =
       is_done = sym c.if-not-acts.ensures;
       come = let late = c.if-step-self.false in omega (arith, late);
       open_are = sym c.if-not-are_open.ensures;
+      free = sym c.if-not-are_free.ensures;
       asks_nothing = c.in_err-carry_out.ensures.says;
     } in
     let There : Core → Type 0 = λ o. SaysNext o in

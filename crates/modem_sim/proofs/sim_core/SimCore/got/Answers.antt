@@ -32,12 +32,12 @@ returns-clause-took c = λ _.
     ∙ closing_noted c.self.inside.station.role (seen_in c.self.inside.station) f c.in-Ok.noted c.in-Ok.ensures.noted in
     subst Goes view
     (got_goes_on old (record old { station = c.got.new.self }) c.keep.new.self c.in_ok-modem.modem c.answered.new.modem f c.index-channel.result.now
-    c.octets_in-octets.result.now c.in_ok-answered.answered.reader c.in_ok-answered.answered.said.items c.opens-opens.result c.closes_down-closes.result c.in_ok-answered.answered.ended
+    c.octets_in-octets.result.now c.in_ok-answered.answered.reader c.in_ok-answered.answered.said.items c.in_ok-answered.answered.calls c.opens-opens.result c.closes_down-closes.result c.in_ok-answered.answered.ended
     c.self.invariant.0 c.args.frame.dlci.in_range refl
     (c.index-channel.ensures ∙ ap (λ i. slice_index_or c.self.inside.channels.items i c.index-channel.result.now) place)
     (c.octets_in-octets.ensures ∙ ap (λ o. octets_in o f) (sym view))
     (c.opens-opens.ensures ∙ ap (λ o. opens_in o f) (sym view))
     closes
-    c.in_ok-modem.ensures c.in_ok-answered.ensures.run c.in_ok-answered.ensures.state c.in_ok-answered.ensures.ended c.in_ok-answered.ensures.kept c.in_ok-answered.ensures.said
+    c.in_ok-modem.ensures c.in_ok-answered.ensures.run c.in_ok-answered.ensures.state c.in_ok-answered.ensures.ended c.in_ok-answered.ensures.kept c.in_ok-answered.ensures.said c.in_ok-answered.ensures.calls
     c.in-Ok.ensures.past
     c.keep.ensures.kept)

@@ -1,0 +1,15 @@
+-- The worked calls hold.
+use Rattle.std.specs.Prelude.{refl}
+use Rattle.std.specs.Fmt.{digits}
+use Rattle.at_cmds.specs.Params.{parameters, unquoted}
+use Rattle.at_cmds.specs.Forms.{numeral_in}
+use Rattle.at_cmds.specs.Values.{command_in}
+use Rattle.modem_sim.specs.CallRows.{CallsKeepQuiet}
+use Rattle.modem_sim.specs.CommandLines.{commands_in}
+use Rattle.modem_sim.specs.Reading.{command_of}
+use Rattle.modem_sim.specs.Steps.{line_commands}
+use Rattle.modem_sim.specs.Words.{word_of}
+
+pub calls_keep_quiet : CallsKeepQuiet
+unfolding command_of command_in numeral_in unquoted parameters digits commands_in line_commands word_of
+calls_keep_quiet = (refl, refl, refl, refl, refl)
