@@ -19,9 +19,11 @@ use Rattle.ctl_drive.specs.Asking.{NamesRead}
 use Rattle.ctl_drive.specs.CapturedLine.{CapturedState, CapturesUnlessFailed, captured_line}
 use Rattle.ctl_drive.specs.DataDrive.{DroveData}
 use Rattle.ctl_drive.specs.DataDevice.{DroveFiles, DroveFilesCaptured, DroveFilesDevice, DroveFilesLine, EndsFilesByFault, EndsWith, IsFileOf, RanFiles, SaysFull, full_text, full_texts, opened_file, opened_files}
-use Rattle.ctl_drive.specs.FileEnds.{FileEnd, IsWritten, NamesEnds, SaysEnds, ends_texts}
+use Rattle.file_threads.specs.FileEnds.{FileEnd, IsWritten, SaysEnds, ends_texts}
+use Rattle.ctl_drive.specs.FileEnds.{NamesEnds}
 use Rattle.ctl_drive.specs.OnDevice.{SaysEnd, SaysFaultIf, capture_path, device_look, driven_status, end_status}
-use Rattle.ctl_drive.specs.Saying.{AreSaid, SaysFault, left_texts, path_for}
+use Rattle.file_threads.specs.Said.{AreSaid}
+use Rattle.ctl_drive.specs.Saying.{SaysFault, left_texts, path_for}
 use Rattle.ctl_drive.specs.declared.fault.DriveFault.{DriveFault}
 use Rattle.ctl_drive.specs.declared.running.Driven.{Driven}
 use Rattle.ctl_drive.specs.declared.settings.DataPath.{DataPath}
@@ -77,7 +79,7 @@ all_fresh data_paths files e =
   where
     each : (ps : List DataPath) → All (IsFresh (λ (l : StreamState). l.received) (λ (l : StreamState). l.sent)) (opened_files ps)
     each [] i f there = absurd (omega (arith, there))
-    each (p ∷ ps) zero f there = record { none_came = refl; none_went = refl; none_waits = refl; none_read = refl }
+    each (p ∷ ps) zero f there = record { before_is = refl; none_waits = refl; none_read = refl; none_renewed = refl; none_dropped = refl }
     each (p ∷ ps) (suc i) f there = each ps i f (omega (arith, there))
 
 -- ## What is said of lines and files

@@ -16,6 +16,5 @@ pub mod Ends
 pub mod Begins
 pub mod Captured
 pub mod OnDevice
-pub mod FileEnds
 pub mod DataDevice
 pub mod DeskRuns

@@ -13,7 +13,8 @@ use Rattle.ctl_drive.specs.CapturedLine.{CapturedState, CapturesUnlessFailed, Ha
 use Rattle.ctl_drive.specs.OnDevice.{DroveCaptured, DroveDevice, DroveLine, DroveWell, EndsByFault, RanDevice, SaysDriven, SaysEnd, SaysFaultIf, capture_path, device_look, driven_status, end_status}
 use Rattle.ctl_drive.specs.Asking.{NamesRead}
 use Rattle.ctl_drive.specs.Running.{Drove}
-use Rattle.ctl_drive.specs.Saying.{AreSaid, SaysFault, left_texts, path_for}
+use Rattle.file_threads.specs.Said.{AreSaid}
+use Rattle.ctl_drive.specs.Saying.{SaysFault, left_texts, path_for}
 use Rattle.ctl_drive.specs.declared.fault.DriveFault.{DriveFault}
 use Rattle.ctl_drive.specs.declared.running.Driven.{Driven}
 

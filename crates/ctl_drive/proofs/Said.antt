@@ -3,7 +3,8 @@ use Rattle.std.specs.Prelude.{◌≡◌, ℕ, ◌+◌, ◌==◌, Bool, true, fal
 use Rattle.std.proofs.Common.{ap, arith, sym, subst, inl, inr, ◌∙◌}
 use Rattle.ctl_text.specs.Writing.{IsBegun}
 use Rattle.ctl_text.specs.declared.line_fault.LineFault.{LineFault}
-use Rattle.ctl_drive.specs.Saying.{AreBadFrom, AreSaid, BadLine, IsBadFor, IsGood, Names, NamesBad, bad_text, bad_texts, is_any, left_text, left_texts}
+use Rattle.file_threads.specs.Said.{AreSaid}
+use Rattle.ctl_drive.specs.Saying.{AreBadFrom, BadLine, IsBadFor, IsGood, Names, NamesBad, bad_text, bad_texts, is_any, left_text, left_texts}
 
 texts_more : (bad : List BadLine) (line : BadLine) → bad_texts (bad ++ line ∷ []) ≡ bad_texts bad ++ bad_text line.place line.why ∷ []
 texts_more [] line = refl

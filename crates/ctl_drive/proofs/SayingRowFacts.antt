@@ -11,7 +11,8 @@ use Rattle.ctl_text.specs.Words.{IsCommand, IsNoCommand, number_text}
 use Rattle.ctl_text.specs.Writing.{IsBegun}
 use Rattle.ctl_text.specs.declared.line_fault.LineFault.{LineFault}
 use Rattle.ctl_text.specs.declared.line_fault.LineFault.TheVariants.{Carrier, Command}
-use Rattle.ctl_drive.specs.Saying.{AreBad, AreBadFrom, AreSaid, BadLine, IsBadFor, IsGood, bad_text}
+use Rattle.file_threads.specs.Said.{AreSaid}
+use Rattle.ctl_drive.specs.Saying.{AreBad, AreBadFrom, BadLine, IsBadFor, IsGood, bad_text}
 use Rattle.ctl_drive.specs.SayingRows.{AreNotTaken, AreRefused, AreTaken, AreWorked, bad_at, three_lines, two_texts}
 use Rattle.ctl_drive.proofs.OneNaming.{one_naming}
 

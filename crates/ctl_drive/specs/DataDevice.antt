@@ -12,9 +12,10 @@ use Rattle.data_files.specs.Moves.{HadTurns}
 use Rattle.ctl_drive.specs.Asking.{NamesRead}
 use Rattle.ctl_drive.specs.CapturedLine.{CapturedState, CapturesAll, captured_line}
 use Rattle.ctl_drive.specs.DataDrive.{DroveData}
-use Rattle.ctl_drive.specs.FileEnds.{FileEnd, IsWritten, SaysEnds, data_text, ends_texts}
+use Rattle.file_threads.specs.FileEnds.{FileEnd, IsWritten, SaysEnds, data_text, ends_texts}
 use Rattle.ctl_drive.specs.OnDevice.{device_look}
-use Rattle.ctl_drive.specs.Saying.{AreSaid, SaysFault, left_texts, path_for}
+use Rattle.file_threads.specs.Said.{AreSaid}
+use Rattle.ctl_drive.specs.Saying.{SaysFault, left_texts, path_for}
 use Rattle.ctl_drive.specs.declared.settings.DataPath.{DataPath}
 use Rattle.ctl_drive.specs.declared.fault.DriveFault.{DriveFault}
 use Rattle.ctl_drive.specs.declared.running.Driven.{Driven}
@@ -65,7 +66,7 @@ DroveFilesLine true look received sent gave took empty_reads stalled_writes rule
 
 -- a file beside a connection, between two rings, at which nothing has passed
 abbrev pub opened_file : DataPath → FileState StreamState
-opened_file p = new_file p.dlci.number p.begin Close (new_stream None None Ended)
+opened_file p = new_file (λ (l : StreamState). l.received) (λ (l : StreamState). l.sent) p.dlci.number p.begin Close (new_stream None None Ended)
 
 abbrev pub opened_files : List DataPath → List (FileState StreamState)
 opened_files data_paths = map (λ p. opened_file p) data_paths

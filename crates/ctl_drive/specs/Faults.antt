@@ -2,6 +2,8 @@
 use Rattle.std.specs.Prelude.{ℕ, List, Option, None, Some, codes}
 use Rattle.modem_driver.specs.declared.entering.EntryError.{EntryError}
 use Rattle.modem_driver.specs.declared.entering.EntryError.TheVariants as error
+use Rattle.file_threads.specs.declared.fault.FileFault.{FileFault}
+use Rattle.file_threads.specs.declared.fault.FileFault.TheVariants as file
 use Rattle.ctl_drive.specs.declared.fault.DriveFault.{DriveFault}
 use Rattle.ctl_drive.specs.declared.fault.DriveFault.TheVariants.{NotSetUp, Refused, NoAnswer}
 use Rattle.ctl_drive.specs.declared.fault.DriveFault.TheVariants as fault
@@ -13,6 +15,13 @@ abbrev pub entry_fault : EntryError → DriveFault
 entry_fault error.Refused = Refused
 entry_fault error.NoAnswer = NoAnswer
 entry_fault error.Line = NotSetUp
+
+-- a file, a device or its threads can't be had, for this reason
+abbrev pub file_fault : FileFault → DriveFault
+file_fault file.NoMemory = fault.NoMemory
+file_fault file.NoThread = fault.NoThread
+file_fault (file.NoDevice kind) = fault.NoDevice kind
+file_fault file.NotSetUp = fault.NotSetUp
 
 -- what is said of a drive that gave up
 abbrev pub give_up_words : GiveUp → List ℕ

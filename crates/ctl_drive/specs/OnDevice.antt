@@ -10,7 +10,8 @@ use Rattle.mux_capture.specs.Passing.{CaptureState}
 use Rattle.ctl_drive.specs.CapturedLine.{CapturedState, CapturesAll, captured_line}
 use Rattle.ctl_drive.specs.Asking.{NamesRead}
 use Rattle.ctl_drive.specs.Running.{Drove}
-use Rattle.ctl_drive.specs.Saying.{AreSaid, SaysFault, left_texts, path_for}
+use Rattle.file_threads.specs.Said.{AreSaid}
+use Rattle.ctl_drive.specs.Saying.{SaysFault, left_texts, path_for}
 use Rattle.ctl_drive.specs.declared.fault.DriveFault.{DriveFault}
 use Rattle.ctl_drive.specs.declared.running.Driven.{Driven}
 

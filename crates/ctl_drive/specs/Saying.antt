@@ -5,6 +5,7 @@ use Rattle.ctl_text.specs.LineFaults.{CommandFault, bad_line, reason_line}
 use Rattle.ctl_text.specs.Words.{IsCommand, IsNoCommand}
 use Rattle.ctl_text.specs.Writing.{IsBegun}
 use Rattle.ctl_text.specs.declared.line_fault.LineFault.{LineFault}
+use Rattle.file_threads.specs.Said.{AreSaid}
 use Rattle.ctl_drive.specs.Faults.{fault_head, fault_words}
 use Rattle.ctl_drive.specs.declared.fault.DriveFault.{DriveFault}
 use Rattle.ctl_drive.specs.declared.fault.DriveFault.TheVariants as fault
@@ -57,12 +58,6 @@ abbrev pub bad_texts : List BadLine → List (List ℕ)
 bad_texts bad = map (λ (line : BadLine). bad_text line.place line.why) bad
 
 -- ## What a writer was given
-
--- these texts, one behind the other: of each there stands as much as the writer took, and nothing else
-pub data AreSaid : (before after : Option (List ℕ)) → (texts : List (List ℕ)) → Type 0 where
-  said_none : (writer : Option (List ℕ)) → AreSaid writer writer []
-  said_next : (before between after : Option (List ℕ)) (text : List ℕ) (texts : List (List ℕ)) → IsBegun before between text
-      → AreSaid between after texts → AreSaid before after (text ∷ texts)
 
 -- each bad one of these lines was named, in order, and nothing else was said; and whether one of them is bad
 pub record NamesBad (lines : List (List ℕ)) (was_bad : Bool) (before after : Option (List ℕ)) : Type 0 where

@@ -3,7 +3,8 @@ use Rattle.std.specs.Prelude.{◌≡◌, List, ℕ, [], ◌∷◌, Some, codes}
 use Rattle.ctl_text.specs.Input.{input_lines}
 use Rattle.ctl_text.specs.declared.line_fault.LineFault.{LineFault}
 use Rattle.ctl_text.specs.declared.line_fault.LineFault.TheVariants.{Carrier, Command}
-use Rattle.ctl_drive.specs.Saying.{AreBad, AreSaid, BadLine, bad_text}
+use Rattle.file_threads.specs.Said.{AreSaid}
+use Rattle.ctl_drive.specs.Saying.{AreBad, BadLine, bad_text}
 
 abbrev pub bad_at : ℕ → LineFault → List BadLine → List BadLine
 bad_at place why more = record { place = place; why = why } ∷ more

@@ -1,12 +1,12 @@
 //! Why a drive ends with a fault.
 ghost use Rattle.std.specs.Prelude.{◌≡◌, option_map};
-ghost use Rattle.ctl_drive.specs.declared.fault.DriveFault.TheVariants.{NoMemory, NoThread};
-ghost use Rattle.ctl_drive.specs.Faults.{entry_fault, fault_head, fault_words, give_up_words};
+ghost use Rattle.ctl_drive.specs.declared.fault.DriveFault.TheVariants.{NoMemory};
+ghost use Rattle.ctl_drive.specs.Faults.{entry_fault, fault_head, fault_words, file_fault, give_up_words};
 
+use file_threads::FileFault;
 use modem_driver::EntryError;
 use std::alloc::{AllocError, AllocFailed};
 use std::io::ErrorKind;
-use std::thread::SpawnError;
 use std::{error, fmt};
 
 /// Why a drive gives up.
@@ -168,11 +168,16 @@ impl<T: Drop> From<AllocFailed<T>> for DriveFault {
     }
 }
 
-impl<F: Drop> From<SpawnError<F>> for DriveFault {
-    ghost from_gives = { λ _ fault. fault ≡ NoThread };
+impl From<FileFault> for DriveFault {
+    ghost from_gives = { λ why fault. fault ≡ file_fault why };
 
-    fn from(_error: SpawnError<F>) -> DriveFault {
-        DriveFault::NoThread
+    fn from(why: FileFault) -> DriveFault {
+        match why {
+            FileFault::NoMemory => DriveFault::NoMemory,
+            FileFault::NoThread => DriveFault::NoThread,
+            FileFault::NoDevice(kind) => DriveFault::NoDevice(kind),
+            FileFault::NotSetUp => DriveFault::NotSetUp,
+        }
     }
 }
 

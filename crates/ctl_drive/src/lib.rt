@@ -6,9 +6,8 @@
 //!
 //! # Layout
 //!
-//! - `on_device`, `device`, `settings`, `patience`: from a device's path to its status; its threads.
-//! - `data_device`, `data_drive`: one with files beside connections that carry data. `file_threads`, `file_ending`, `file_saying`: the
-//!   threads of these files, their end, and what is said of it.
+//! - `on_device`, `settings`, `patience`: from a device's path to its status, over its threads (`file_threads`).
+//! - `data_device`, `data_drive`, `starting_files`: one with files beside connections that carry data.
 //! - `running`, `driving`, `ending`, `fault`: a drive over any line. `users`, `plan`, `queues`, `turns`, `channels`,
 //!   `input`: what it asks.
 //! - `showing`, `pieces`, `saying`: what it prints. `captured_line`: what it captures.
@@ -19,13 +18,9 @@ mod captured_line;
 mod channels;
 mod data_device;
 mod data_drive;
-mod device;
 mod driving;
 mod ending;
 mod fault;
-mod file_ending;
-mod file_saying;
-mod file_threads;
 mod input;
 pub mod laws;
 mod on_device;
@@ -37,6 +32,7 @@ mod running;
 mod saying;
 mod settings;
 mod showing;
+mod starting_files;
 mod turns;
 mod users;
 

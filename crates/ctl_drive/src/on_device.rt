@@ -9,41 +9,22 @@ ghost use Rattle.ctl_drive.specs.Entry.{entry_for, given_text};
 ghost use Rattle.ctl_drive.specs.OnDevice.{DroveCaptured, DroveDevice, DroveLine, DroveWell, EndsByFault, RanDevice, capture_path};
 
 use crate::captured_line::CapturedLine;
-use crate::device::{DeviceThreads, StopBell, line_beside, read_beside};
 use crate::fault::DriveFault;
 use crate::running::{Driven, drive_over};
 use crate::saying::{Paths, say_end};
 use crate::settings::Settings;
 use bell::Bell;
 use device_line::{DeviceLine, RingReader};
+use file_threads::{DeviceThreads, StopBell, line_beside, open_device, read_beside};
 use mux_capture::Capture;
 use results::beside;
 use serial_line::{SerialLine, ZeroRead};
 use std::alloc::{AllocGlobal, Global};
-use std::fs::{File, OpenOptions};
+use std::fs::File;
 use std::io::{Read, Write};
 use std::rt::{Clock, Files};
 use std::sync::Wait;
 use std::thread::Threads;
-
-/// The device of this path, opened for reading and for writing. A regular file is refused with NotSetUp before it is opened for
-/// writing.
-pub fn open_device<R: Files<File = File>>(rt: &R, path: &str) -> Result<(File, File), DriveFault> {
-    let reader = match File::open(rt, path) {
-        Ok(reader) => reader,
-        Err(error) => return Err(DriveFault::NoDevice(error.kind())),
-    };
-    match reader.metadata() {
-        Ok(found) if found.is_file() => return Err(DriveFault::NotSetUp),
-        Ok(_) => {}
-        Err(error) => return Err(DriveFault::NoDevice(error.kind())),
-    }
-    let writer = match OpenOptions::new().write(true).open(rt, path) {
-        Ok(writer) => writer,
-        Err(error) => return Err(DriveFault::NoDevice(error.kind())),
-    };
-    Ok((reader, writer))
-}
 
 /// A capture into the file of this path, which reads frames by this N1. The file is made, or emptied where there is one.
 #[tactic(auto, using(crate::proofs::OnDevice::has_begun))]

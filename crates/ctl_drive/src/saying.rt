@@ -4,7 +4,8 @@ ghost use Rattle.std.specs.Fmt.{debug_str};
 ghost use Rattle.std.specs.String.{string_bytes};
 ghost use Rattle.ctl_text.specs.Writing.{IsBegun};
 ghost use Rattle.ctl_drive.specs.OnDevice.{SaysEnd, end_status};
-ghost use Rattle.ctl_drive.specs.Saying.{AreSaid, SaysFault, bad_text, left_texts, path_for};
+ghost use Rattle.file_threads.specs.Said.{AreSaid};
+ghost use Rattle.ctl_drive.specs.Saying.{SaysFault, bad_text, left_texts, path_for};
 
 use crate::fault::DriveFault;
 use crate::running::Driven;

@@ -1,14 +1,14 @@
 -- How a line with files begins.
 use Rattle.std.specs.Prelude.{◌≡◌, ℕ, ◌==◌, ◌<◌, ◌+◌, Bool, true, false, List, [], ◌∷◌, ◌++◌, All, length, take, if◌then◌else◌, refl, slice_index_or}
-use Rattle.std.proofs.Common.{ap, sym, ◌∙◌, subst}
+use Rattle.std.proofs.Common.{ap, ap₂, arith, sym, ◌∙◌, subst}
 use Rattle.std.proofs.lemmas.List.{append-nil, take_more}
 use Rattle.std.proofs.lemmas.List.Elements.{All-weaker}
 use Rattle.mux_station.specs.declared.role.Role.{Role}
-use Rattle.modem_data.specs.Passing.{Began, data_read, given}
+use Rattle.modem_data.specs.Passing.{Pass, Began, given, to_go}
 use Rattle.modem_data.specs.Hops.{BeginsAs, Hop, Hops, Passed, Relay, passes}
 use Rattle.modem_data_line.specs.DataLines.{Before, DataLineState, LineFits, new_data_line}
 use Rattle.modem_data_line.specs.LineLaws.{before_of}
-use Rattle.data_files.specs.Files.{BeginsFiled, FileFits, FileState, HasMoved, IsFresh, begun, dlcis}
+use Rattle.data_files.specs.Files.{BeginsFiled, FileFits, FileState, HasMoved, IsFresh, all_given, all_read, begun, dlcis, unsent_before}
 use Rattle.data_files.specs.Moves.{HasBegunTo}
 use Rattle.data_files.proofs.FileSteps.{lane_leads}
 
@@ -41,14 +41,38 @@ none_given : {Y : Type 0} (d : ℕ) (files : List (FileState Y)) (past : List Ho
 none_given d [] past e = e
 none_given d (f ∷ files) past e = none_given d files (Passed (Began f.dlci f.how f.until) ∷ past) (nil_if (f.dlci == d) (given d (passes past)) e)
 
-none_read : {Y : Type 0} (d : ℕ) (files : List (FileState Y)) (past : List Hop) → data_read d (passes past) ≡ [] → data_read d (passes (begun files past)) ≡ []
-none_read d [] past e = e
-none_read d (f ∷ files) past e = none_read d files (Passed (Began f.dlci f.how f.until) ∷ past) (nil_if (f.dlci == d) (data_read d (passes past)) e)
+all_none_given : {Y : Type 0} (d : ℕ) (files : List (FileState Y)) (past : List Hop) → all_given d (passes (begun files past)) ≡ all_given d (passes past)
+all_none_given d [] past = refl
+all_none_given d (f ∷ files) past = all_none_given d files (Passed (Began f.dlci f.how f.until) ∷ past)
+
+all_none_read : {Y : Type 0} (d : ℕ) (files : List (FileState Y)) (past : List Hop) → all_read d (passes (begun files past)) ≡ all_read d (passes past)
+all_none_read d [] past = refl
+all_none_read d (f ∷ files) past = all_none_read d files (Passed (Began f.dlci f.how f.until) ∷ past)
+
+zero_if : (b : Bool) (x y : ℕ) → x ≡ 0 → y ≡ 0 → (if b then x + y else x) ≡ 0
+zero_if true x y e q = omega (arith, e, q)
+zero_if false x y e q = e
+
+none_to_go : (d : ℕ) (past : List Pass) → given d past ≡ [] → to_go d past ≡ 0
+none_to_go d past e = let long : length (given d past) ≡ 0 = ap length e in omega (arith, long)
+
+none_unsent : {Y : Type 0} (d : ℕ) (files : List (FileState Y)) (past : List Hop) → given d (passes past) ≡ [] → unsent_before d (passes past) ≡ 0
+    → unsent_before d (passes (begun files past)) ≡ 0
+none_unsent d [] past e q = q
+none_unsent d (f ∷ files) past e q =
+    none_unsent d files (Passed (Began f.dlci f.how f.until) ∷ past) (nil_if (f.dlci == d) (given d (passes past)) e)
+    (zero_if (f.dlci == d) (unsent_before d (passes past)) (to_go d (passes past)) q (none_to_go d (passes past) e))
 
 fresh_fits : {Y : Type 0} (g t : Y → List ℕ) (files : List (FileState Y)) (f : FileState Y) → IsFresh g t f → FileFits g t (passes (begun files [])) f
 fresh_fits g t files f h = record {
-  given_are = h.none_came ∙ (sym h.none_waits ∙ ap (λ (xs : List ℕ). xs ++ f.ungiven) (sym (none_given f.dlci files [] refl)));
-  read_are = none_read f.dlci files [] refl ∙ (sym h.none_read ∙ ap (λ (xs : List ℕ). xs ++ f.unwritten) (sym h.none_went));
+  given_are =
+      sym (ap (λ (xs : List ℕ). f.before.received ++ xs) (ap₂ (λ (xs ys : List ℕ). xs ++ ys) (all_none_given f.dlci files []) h.none_waits)
+      ∙ (append-nil f.before.received ∙ ap (λ (b : Before). b.received) h.before_is));
+  read_are =
+      ap (λ (xs : List ℕ). f.before.sent ++ xs) (all_none_read f.dlci files [])
+      ∙ (append-nil f.before.sent ∙ (ap (λ (b : Before). b.sent) h.before_is ∙ sym (ap (λ (xs : List ℕ). t f.file ++ xs) h.none_read ∙ append-nil (t f.file))));
+  renewals_are = let none = h.none_renewed in omega (arith, none);
+  dropped_are = let none = h.none_dropped in let unsent = none_unsent f.dlci files [] refl refl in omega (arith, none, unsent);
 }
 
 first_fits : {X : Type 0} (r s : X → List ℕ) (role : Role) (n1 : ℕ) (ds : List ℕ) (line : X) (relay : Relay) → BeginsAs role n1 ds relay

@@ -6,14 +6,14 @@ use Rattle.std.proofs.lemmas.Bool.{and_from, eq-eqb}
 use Rattle.std.proofs.lemmas.List.{append_assoc, append-nil, length-append}
 use Rattle.mux_station.specs.declared.role.Role.{Role}
 use Rattle.serial_line.specs.Counts.{one_more, counted_if_none}
-use Rattle.modem_data.specs.Passing.{Pass, Gave, Read, given}
+use Rattle.modem_data.specs.Passing.{Pass, Gave, Read}
 use Rattle.serial_line.specs.declared.line.LineFault.{LineFault}
 use Rattle.modem_data.specs.declared.error.DataError.{DataError}
 use Rattle.modem_data.specs.Hops.{Hop, Hops, Passed, passes}
 use Rattle.modem_data_line.specs.DataLines.{Before, DataLineState, LineFits}
-use Rattle.data_files.specs.Files.{FileFits, FileState}
+use Rattle.data_files.specs.Files.{FileFits, FileState, all_given, all_read}
 use Rattle.data_files.specs.Moves.{FileMoves, GaveFirst, is_of_file}
-use Rattle.data_files.proofs.Hopping.{all_both, passes_both}
+use Rattle.data_files.proofs.Hopping.{all_both}
 
 pub same_dlci : (d : ℕ) → (d == d) ≡ true
 same_dlci d = eq-eqb d d refl
@@ -33,11 +33,11 @@ lane_leads r s v w a hops e role n1 ds b past h = subst (λ (x : DataLineState _
 -- ## One behind the other
 
 pub moves_none : {X Y : Type 0} (r s : X → List ℕ) (g t : Y → List ℕ) (v : DataLineState X) (f : FileState Y) → FileMoves r s g t v v f f
-moves_none r s g t v f = record { hops = []; only = refl; leads = λ role n1 ds b past h. h; dlci_is = refl; fits = λ past h. h }
+moves_none r s g t v f = record { hops = []; only = refl; leads = λ role n1 ds b past h. h; dlci_is = refl; fits = λ role n1 ds b past x h. h }
 
 pub moves_file : {X Y : Type 0} (r s : X → List ℕ) (g t : Y → List ℕ) (v : DataLineState X) (f h : FileState Y) → h.dlci ≡ f.dlci
     → ((past : List Pass) → FileFits g t past f → FileFits g t past h) → FileMoves r s g t v v f h
-moves_file r s g t v f h e fits = record { hops = []; only = refl; leads = λ role n1 ds b past k. k; dlci_is = e; fits = fits }
+moves_file r s g t v f h e fits = record { hops = []; only = refl; leads = λ role n1 ds b past k. k; dlci_is = e; fits = λ role n1 ds b past k x. fits (passes past) x }
 
 pub moves_then : {X Y : Type 0} (r s : X → List ℕ) (g t : Y → List ℕ) (u v w : DataLineState X) (f h k : FileState Y)
     → FileMoves r s g t u v f h → FileMoves r s g t v w h k → FileMoves r s g t u w f k
@@ -46,7 +46,7 @@ moves_then r s g t u v w f h k one two = record {
   only = all_both (is_of_file f.dlci) two.hops one.hops (subst (λ (d : ℕ). list_all (is_of_file d) two.hops ≡ true) one.dlci_is two.only) one.only;
   leads = λ role n1 ds b past x. subst (λ (hs : List Hop). LineFits r s role n1 ds b w hs) (sym (append_assoc two.hops one.hops past)) (two.leads role n1 ds b (one.hops ++ past) (one.leads role n1 ds b past x));
   dlci_is = two.dlci_is ∙ one.dlci_is;
-  fits = λ past x. subst (λ (ps : List Pass). FileFits g t ps k) (sym (ap (λ (ps : List Pass). ps ++ past) (passes_both two.hops one.hops) ∙ append_assoc (passes two.hops) (passes one.hops) past)) (two.fits (passes one.hops ++ past) (one.fits past x));
+  fits = λ role n1 ds b past x y. subst (λ (hs : List Hop). FileFits g t (passes hs) k) (sym (append_assoc two.hops one.hops past)) (two.fits role n1 ds b (one.hops ++ past) (one.leads role n1 ds b past x) (one.fits role n1 ds b past x y));
 }
 
 -- ## Octets are given
@@ -54,8 +54,11 @@ moves_then r s g t u v w f h k one two = record {
 gave_fits : {Y : Type 0} (g t : Y → List ℕ) (f : FileState Y) (octets rest : List ℕ) → f.ungiven ≡ octets ++ rest → (past : List Pass)
     → FileFits g t past f → FileFits g t (Gave f.dlci octets ∷ past) (record f { ungiven = rest })
 gave_fits g t f octets rest split past h = record {
-  given_are = rw (same_dlci f.dlci) (h.given_are ∙ (ap (λ (xs : List ℕ). given f.dlci past ++ xs) split ∙ sym (append_assoc (given f.dlci past) octets rest)));
+  given_are = rw (same_dlci f.dlci)
+      (h.given_are ∙ ap (λ (xs : List ℕ). f.before.received ++ xs) (ap (λ (xs : List ℕ). all_given f.dlci past ++ xs) split ∙ sym (append_assoc (all_given f.dlci past) octets rest)));
   read_are = h.read_are;
+  renewals_are = h.renewals_are;
+  dropped_are = h.dropped_are;
 }
 
 pub gives : {X Y : Type 0} (r s : X → List ℕ) (g t : Y → List ℕ) (v w : DataLineState X) (f : FileState Y) (rest : List ℕ)
@@ -65,7 +68,7 @@ gives r s g t v w f rest h beside = record {
   only = and_from (f.dlci == f.dlci) true (same_dlci f.dlci) refl;
   leads = lane_leads r s v w (Gave f.dlci h.octets) h.gave beside;
   dlci_is = refl;
-  fits = gave_fits g t f h.octets rest h.split;
+  fits = λ role n1 ds b past x y. gave_fits g t f h.octets rest h.split (passes past) y;
 }
 
 -- nothing changed
@@ -86,7 +89,10 @@ read_fits : {Y : Type 0} (g t : Y → List ℕ) (f : FileState Y) (octets : List
     → FileFits g t past f → FileFits g t (Read f.dlci octets ∷ past) (record f { unwritten = octets; is_over = over })
 read_fits g t f octets over none past h = record {
   given_are = h.given_are;
-  read_are = rw (same_dlci f.dlci) (ap (λ (xs : List ℕ). xs ++ octets) (h.read_are ∙ (ap (λ (xs : List ℕ). t f.file ++ xs) none ∙ append-nil (t f.file))));
+  read_are = rw (same_dlci f.dlci)
+      (sym (append_assoc f.before.sent (all_read f.dlci past) octets) ∙ ap (λ (xs : List ℕ). xs ++ octets) (h.read_are ∙ (ap (λ (xs : List ℕ). t f.file ++ xs) none ∙ append-nil (t f.file))));
+  renewals_are = h.renewals_are;
+  dropped_are = h.dropped_are;
 }
 
 pub takes : {X Y : Type 0} (r s : X → List ℕ) (g t : Y → List ℕ) (v w : DataLineState X) (f h : FileState Y)
@@ -97,16 +103,26 @@ takes r s g t v w f h none hops beside e = record {
   only = and_from (f.dlci == f.dlci) true (same_dlci f.dlci) refl;
   leads = lane_leads r s v w (Read f.dlci h.unwritten) hops beside;
   dlci_is = ap (λ (x : FileState _). x.dlci) e;
-  fits = λ past x. subst (λ (y : FileState _). FileFits g t (Read f.dlci h.unwritten ∷ past) y) (sym e) (read_fits g t f h.unwritten h.is_over none past x);
+  fits = λ role n1 ds b past k x. subst (λ (y : FileState _). FileFits g t (Read f.dlci h.unwritten ∷ passes past) y) (sym e) (read_fits g t f h.unwritten h.is_over none (passes past) x);
 }
+
+-- a call that was refused
+pub takes_none : {X Y : Type 0} (r s : X → List ℕ) (g t : Y → List ℕ) (v w : DataLineState X) (f : FileState Y) (rest : List ℕ) → w ≡ v → rest ≡ f.unwritten
+    → FileMoves r s g t v w f (record f { unwritten = rest })
+takes_none r s g t v w f rest e q = moves_same r s g t v w f (record f { unwritten = rest }) e (ap (λ (xs : List ℕ). record f { unwritten = xs }) q)
 
 -- ## The file itself
 
 pub came_of_file : {Y : Type 0} (g t : Y → List ℕ) (f h : FileState Y) → f.ungiven ≡ [] → g h.file ≡ g f.file ++ h.ungiven → t h.file ≡ t f.file
     → h ≡ record f { file = h.file; ungiven = h.ungiven; has_ended = h.has_ended } → (past : List Pass) → FileFits g t past f → FileFits g t past h
 came_of_file g t f h none came went e past x = subst (λ (y : FileState _). FileFits g t past y) (sym e) (record {
-  given_are = came ∙ ap (λ (xs : List ℕ). xs ++ h.ungiven) (x.given_are ∙ (ap (λ (xs : List ℕ). given f.dlci past ++ xs) none ∙ append-nil (given f.dlci past)));
+  given_are = came
+      ∙ ap (λ (xs : List ℕ). xs ++ h.ungiven)
+      (x.given_are ∙ ap (λ (xs : List ℕ). f.before.received ++ xs) (ap (λ (xs : List ℕ). all_given f.dlci past ++ xs) none ∙ append-nil (all_given f.dlci past)))
+      ∙ append_assoc f.before.received (all_given f.dlci past) h.ungiven;
   read_are = x.read_are ∙ ap (λ (xs : List ℕ). xs ++ f.unwritten) (sym went);
+  renewals_are = x.renewals_are;
+  dropped_are = x.dropped_are;
 })
 
 pub went_to_file : {Y : Type 0} (g t : Y → List ℕ) (f h : FileState Y) → g h.file ≡ g f.file → t h.file ++ h.unwritten ≡ t f.file ++ f.unwritten
@@ -114,6 +130,8 @@ pub went_to_file : {Y : Type 0} (g t : Y → List ℕ) (f h : FileState Y) → g
 went_to_file g t f h came split e past x = subst (λ (y : FileState _). FileFits g t past y) (sym e) (record {
   given_are = came ∙ x.given_are;
   read_are = x.read_are ∙ sym split;
+  renewals_are = x.renewals_are;
+  dropped_are = x.dropped_are;
 })
 
 -- ## It is asked

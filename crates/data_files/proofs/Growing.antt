@@ -1,6 +1,6 @@
 -- A file goes on, and has its turn.
 use Rattle.std.specs.Prelude.{◌≡◌, ◌≢◌, ◌==◌, ◌&&◌, ℕ, ◌+◌, ◌-◌, ◌<◌, ◌≤◌, nat_lt, Bool, true, false, List, [], ◌∷◌, ◌++◌, drop, length, min, Result, Ok, Err, IfOk, OnErr, OnOk, if◌then◌else◌, refl}
-use Rattle.std.proofs.Common.{ap, arith, inl, inr, sym, subst, ◌∙◌}
+use Rattle.std.proofs.Common.{ap, arith, inl, inr, sym, subst, true≢false, ◌∙◌}
 use Rattle.std.proofs.lemmas.Bool.{lt-ltb}
 use Rattle.std.proofs.lemmas.List.{length-append, length-drop}
 use Rattle.mux_station.specs.declared.role.Role.{Role}
@@ -8,12 +8,12 @@ use Rattle.serial_line.specs.Counts.{one_more, counted_if_none}
 use Rattle.serial_line.specs.declared.line.LineFault.{LineFault}
 use Rattle.modem_data.specs.declared.error.DataError.{DataError}
 use Rattle.modem_data.specs.DataLanes.{most_to_go}
-use Rattle.modem_data.specs.Passing.{Gave, to_go, unread}
+use Rattle.modem_data.specs.Passing.{Gave, IsOver, to_go, unread}
 use Rattle.modem_data.specs.PipeSets.{IsNotData, NoneOf, OfEachPast}
 use Rattle.modem_data.specs.Hops.{Hop, Passed, passes}
 use Rattle.modem_data_line.specs.DataLines.{Before, DataLineState, LineFits}
 use Rattle.data_files.specs.Files.{FileState}
-use Rattle.data_files.specs.Moves.{FileGrows, GaveFirst, GivesOn, HadTurn, HasRoom, IsAskedFile, IsKept, IsOfferedFile, IsUnread, KeepsUnread, ReadsOn}
+use Rattle.data_files.specs.Moves.{FileGrows, GaveFirst, GivesOn, HasRoom, IsAskedFile, IsKept, IsOfferedFile, IsUnread, KeepsUnread, ReadsOn, StaysOver}
 use Rattle.data_files.proofs.FileSteps.{lane_leads}
 
 -- ## Counts
@@ -47,6 +47,7 @@ grows_none g t e s f = record {
   read = omega arith;
   empty = omega arith;
   stalled = omega arith;
+  renewed = omega arith;
   ended = λ q. q;
   broken = λ q. q;
 }
@@ -67,6 +68,7 @@ read_grows g t e s f h r none came went stalled empty same ended is =
       read = omega (arith, none_went, waits);
       empty = kept_read (e f.file) (e h.file) r empty same;
       stalled = kept_same (s f.file) (s h.file) stalled;
+      renewed = kept_same f.renewals h.renewals (ap (λ (x : FileState _). x.renewals) is);
       ended = ended;
       broken = λ q. ap (λ (x : FileState _). x.is_broken) is ∙ q;
     }
@@ -85,6 +87,7 @@ fewer_grows g t e s f h is fewer =
       read = omega (arith, went, waits);
       empty = kept_same (e f.file) (e h.file) (ap (λ (x : FileState _). e x.file) is);
       stalled = kept_same (s f.file) (s h.file) (ap (λ (x : FileState _). s x.file) is);
+      renewed = kept_same f.renewals h.renewals (ap (λ (x : FileState _). x.renewals) is);
       ended = λ q. ap (λ (x : FileState _). x.has_ended) is ∙ q;
       broken = λ q. ap (λ (x : FileState _). x.is_broken) is ∙ q;
     }
@@ -103,6 +106,7 @@ more_grows g t e s f h is more =
       read = omega (arith, went, more);
       empty = kept_same (e f.file) (e h.file) (ap (λ (x : FileState _). e x.file) is);
       stalled = kept_same (s f.file) (s h.file) (ap (λ (x : FileState _). s x.file) is);
+      renewed = kept_same f.renewals h.renewals (ap (λ (x : FileState _). x.renewals) is);
       ended = λ q. ap (λ (x : FileState _). x.has_ended) is ∙ q;
       broken = λ q. ap (λ (x : FileState _). x.is_broken) is ∙ q;
     }
@@ -129,6 +133,7 @@ write_grows g t e s f h r came empty split rest same stalled broken is =
       read = omega (arith, whole);
       empty = kept_same (e f.file) (e h.file) empty;
       stalled = stalled;
+      renewed = kept_same f.renewals h.renewals (ap (λ (x : FileState _). x.renewals) is);
       ended = λ q. ap (λ (x : FileState _). x.has_ended) is ∙ q;
       broken = broken;
     }
@@ -143,6 +148,7 @@ grows_then g t e s f h k one two = record {
   read = let a = one.read in let b = two.read in omega (arith, a, b);
   empty = let a = one.empty in let b = two.empty in omega (arith, a, b);
   stalled = let a = one.stalled in let b = two.stalled in omega (arith, a, b);
+  renewed = let a = one.renewed in let b = two.renewed in omega (arith, a, b);
   ended = λ q. two.ended (one.ended q);
   broken = λ q. two.broken (one.broken q);
 }
@@ -224,8 +230,26 @@ pub record Steps {X Y : Type 0} (r s : X → List ℕ) (g t : Y → List ℕ) (e
   pub offers : c.unwritten ≢ [] → IsOfferedFile t k c h
   pub h_grows : FileGrows g t e k c h
 
+-- a lane that is over and read begins anew
+pub not_over : {X : Type 0} (r s : X → List ℕ) (role : Role) (n1 : ℕ) (ds : List ℕ) (b : Before) (v : DataLineState X) (past : List Hop) (d : ℕ) (renews : Bool)
+    → LineFits r s role n1 ds b v past → (NoneOf ds d → ⊥) → renews ≡ true → IsOver role d (passes past) → StaysOver renews v.relay.pipes d → ⊥
+unfolding OfEachPast IsNotData
+not_over r s role n1 ds b v past d renews fits among is over (inl never) = true≢false (sym is ∙ never)
+not_over r s role n1 ds b v past d renews fits among is over (inr (inl none)) = among (none role n1 ds (passes past) fits.relay_fits.pipes_fit)
+not_over r s role n1 ds b v past d renews fits among is over (inr (inr stays)) = stays role n1 ds (passes past) fits.relay_fits.pipes_fit over
+
+-- a turn in which no lane began
+pub record Turned {X Y : Type 0} (r s : X → List ℕ) (g t : Y → List ℕ) (e k : Y → ℕ) (role : Role) (n1 : ℕ) (ds : List ℕ) (p : Before) (v : DataLineState X) (f h : FileState Y) : Type 0 where
+  pub asked : f.ungiven ≡ [] → f.has_ended ≡ false → IsAskedFile g e f h
+  pub given : f.ungiven ≢ [] → (past : List Hop) → LineFits r s role n1 ds p v past → HasRoom role f.dlci (passes past)
+      → length (g f.file) + length h.ungiven < length (g h.file) + length f.ungiven
+  pub read : f.unwritten ≡ [] → (past : List Hop) → LineFits r s role n1 ds p v past → 0 < unread role f.dlci (passes past)
+      → length (t f.file) + length f.unwritten < length (t h.file) + length h.unwritten
+  pub offered : f.unwritten ≢ [] → IsOfferedFile t k f h
+  pub grows : FileGrows g t e k f h
+
 pub had_turn : {X Y : Type 0} (r s : X → List ℕ) (g t : Y → List ℕ) (e k : Y → ℕ) (u v : DataLineState X) (f a b c h : FileState Y)
-    → Steps r s g t e k u v f a b c h → (role : Role) (n1 : ℕ) (ds : List ℕ) (p : Before) → (NoneOf ds f.dlci → ⊥) → HadTurn r s g t e k role n1 ds p u f h
+    → Steps r s g t e k u v f a b c h → (role : Role) (n1 : ℕ) (ds : List ℕ) (p : Before) → (NoneOf ds f.dlci → ⊥) → Turned r s g t e k role n1 ds p u f h
 had_turn r s g t e k u v f a b c h x role n1 ds p among = record {
   asked = λ none more. asked_later g t e k f a h (x.asks none more) (grows_then g t e k a c h ac x.h_grows);
   given = λ some past fits room.

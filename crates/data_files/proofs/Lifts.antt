@@ -7,9 +7,10 @@ use Rattle.std.proofs.lemmas.List.{append_assoc, length-map, length-set, get_or-
 use Rattle.std.proofs.lemmas.List.Elements.{All-weaker, All-get_or, All-from_get_or}
 use Rattle.serial_line.specs.declared.line.LineFault.{LineFault}
 use Rattle.modem_data.specs.Passing.{Pass}
+use Rattle.mux_station.specs.declared.role.Role.{Role}
 use Rattle.modem_data.specs.PipeSets.{AreApart}
 use Rattle.modem_data.specs.Hops.{Hop, passes}
-use Rattle.modem_data_line.specs.DataLines.{DataLineState, LineFits, LeadsBy, TakesBy, is_of_driver, may_go, may_pass, with_taken}
+use Rattle.modem_data_line.specs.DataLines.{Before, DataLineState, LineFits, LeadsBy, TakesBy, is_of_driver, may_go, may_pass, with_taken}
 use Rattle.data_files.specs.Files.{FileFits, FileState, FiledState, HasMoved, dlcis}
 use Rattle.data_files.specs.Moves.{FileMoves, is_of_file}
 use Rattle.data_files.proofs.Hopping.{all_both, all_kind, any_passes, driver_passes, fits_beside, goes_passes, is_beside, of_file_beside, passes_beside, passes_both}
@@ -105,23 +106,24 @@ apart_at files i j f apart there short other =
     (subst (λ (d : ℕ). (slice_index_or (dlcis files) i 0 == d) ≡ false) (dlci_at files j f 0 short)
     (apart j i 0 (in_there files j short) (in_there files i there) (λ q. other (sym q))))
 
-each_on : {X Y : Type 0} (r s : X → List ℕ) (g t : Y → List ℕ) (files : List (FileState Y)) (v w : DataLineState X) (i : ℕ) (f : FileState Y) (past : List Pass)
-    → AreApart (dlcis files) → i < length files → (m : FileMoves r s g t v w (slice_index_or files i f) f) → All (FileFits g t past) files
-    → All (FileFits g t (passes m.hops ++ past)) (slice_set files i f)
-each_on r s g t files v w i f past apart there m each =
-    All-from_get_or (FileFits g t (passes m.hops ++ past)) (slice_set files i f) f (λ j short. at j (j == i) refl (subst (λ (n : ℕ). j < n) (length-set files i f) short))
+each_on : {X Y : Type 0} (r s : X → List ℕ) (g t : Y → List ℕ) (files : List (FileState Y)) (v w : DataLineState X) (i : ℕ) (f : FileState Y)
+    (role : Role) (n1 : ℕ) (b : Before) (past : List Hop) → LineFits r s role n1 (dlcis files) b v past → i < length files
+    → (m : FileMoves r s g t v w (slice_index_or files i f) f) → All (FileFits g t (passes past)) files
+    → All (FileFits g t (passes (m.hops ++ past))) (slice_set files i f)
+each_on r s g t files v w i f role n1 b past fits there m each =
+    All-from_get_or (FileFits g t (passes (m.hops ++ past))) (slice_set files i f) f (λ j short. at j (j == i) refl (subst (λ (n : ℕ). j < n) (length-set files i f) short))
   where
-    at : (j : ℕ) (b : Bool) → (j == i) ≡ b → j < length files → FileFits g t (passes m.hops ++ past) (slice_index_or (slice_set files i f) j f)
-    at j true e short = subst (λ (h : FileState _). FileFits g t (passes m.hops ++ past) h)
+    at : (j : ℕ) (b : Bool) → (j == i) ≡ b → j < length files → FileFits g t (passes (m.hops ++ past)) (slice_index_or (slice_set files i f) j f)
+    at j true e short = subst (λ (h : FileState _). FileFits g t (passes (m.hops ++ past)) h)
         (sym (get_or-set_same files i f f there) ∙ ap (λ (k : ℕ). slice_index_or (slice_set files i f) k f) (sym (eqb-true j i e)))
-        (m.fits past (All-get_or (FileFits g t past) files i f there each))
+        (m.fits role n1 (dlcis files) b past fits (All-get_or (FileFits g t (passes past)) files i f there each))
     at j false e short =
         let other : j ≢ i = λ q. eqb-false j i e q in
         let here = slice_index_or files j f in
-        let apart_here = apart_at files i j f apart there short other in
-        subst (λ (h : FileState _). FileFits g t (passes m.hops ++ past) h) (sym (get_or-set_other files i j f f other))
-        (fits_beside g t here m.hops past (all_kind (is_of_file (slice_index_or files i f).dlci) (is_beside here.dlci) m.hops
-        (of_file_beside (slice_index_or files i f).dlci here.dlci apart_here) m.only) (All-get_or (FileFits g t past) files j f short each))
+        let apart_here = apart_at files i j f fits.relay_fits.pipes_fit.apart there short other in
+        subst (λ (h : FileState _). FileFits g t (passes (m.hops ++ past)) h) (sym (get_or-set_other files i j f f other))
+        (subst (λ (ps : List Pass). FileFits g t ps here) (sym (passes_both m.hops past)) (fits_beside g t here m.hops (passes past) (all_kind (is_of_file (slice_index_or files i f).dlci) (is_beside here.dlci) m.hops
+        (of_file_beside (slice_index_or files i f).dlci here.dlci apart_here) m.only) (All-get_or (FileFits g t (passes past)) files j f short each)))
 
 pub moves_at : {X Y : Type 0} (r s : X → List ℕ) (g t : Y → List ℕ) (v : FiledState X Y) (x : DataLineState X) (i : ℕ) (f : FileState Y)
     → i < length v.files → FileMoves r s g t v.line x (slice_index_or v.files i f) f → HasMoved r s g t v
@@ -129,6 +131,5 @@ pub moves_at : {X Y : Type 0} (r s : X → List ℕ) (g t : Y → List ℕ) (v :
 moves_at r s g t v x i f there m h = record {
   past = m.hops ++ h.past;
   fits = subst (λ (ds : List ℕ). LineFits r s v.role v.n1 ds v.before x (m.hops ++ h.past)) (sym (set_dlcis v.files i f m.dlci_is)) (m.leads v.role v.n1 (dlcis v.files) v.before h.past h.fits);
-  files = subst (λ (ps : List Pass). All (FileFits g t ps) (slice_set v.files i f)) (sym (passes_both m.hops h.past))
-      (each_on r s g t v.files v.line x i f (passes h.past) h.fits.relay_fits.pipes_fit.apart there m h.files);
+  files = each_on r s g t v.files v.line x i f v.role v.n1 v.before h.past h.fits there m h.files;
 }

@@ -7,7 +7,7 @@ use Rattle.std.proofs.lemmas.List.Elements.{All-get_or}
 use Rattle.mux_station.specs.Opening.{is_open}
 use Rattle.mux_station.specs.declared.role.Role.{Role}
 use Rattle.modem_data.specs.Switching.{takes_given}
-use Rattle.modem_data.specs.Passing.{Pass}
+use Rattle.modem_data.specs.Passing.{Pass, IsOver}
 use Rattle.modem_data.specs.PipeSets.{NoneOf}
 use Rattle.modem_data.specs.Hops.{Hop, passes}
 use Rattle.modem_data_line.specs.DataLines.{Before, DataLineState, LineFits}
@@ -34,6 +34,9 @@ pub record Reached {X : Type 0} (r s : X → List ℕ) (role : Role) (n1 : ℕ) 
   pub fits : LineFits r s role n1 ds p v behind
   pub beside : IsBeside role d (passes past) (passes behind)
 
+over_beside : (role : Role) (d : ℕ) (past behind : List Pass) → IsBeside role d past behind → IsOver role d past → IsOver role d behind
+over_beside role d past behind x over = record { idle = x.carries_is ∙ over.idle; all_read = x.read_is ∙ (over.all_read ∙ sym x.came_is) }
+
 turn_back : {X Y : Type 0} (r s : X → List ℕ) (g t : Y → List ℕ) (e k : Y → ℕ) (role : Role) (n1 : ℕ) (ds : List ℕ) (p : Before) (u v : DataLineState X) (f h : FileState Y)
     → ((past : List Hop) → LineFits r s role n1 ds p u past → Reached r s role n1 ds p v f.dlci past) → HadTurn r s g t e k role n1 ds p v f h → HadTurn r s g t e k role n1 ds p u f h
 turn_back r s g t e k role n1 ds p u v f h reach turn = record {
@@ -50,6 +53,7 @@ turn_back r s g t e k role n1 ds p u v f h reach turn = record {
       let x = reach past fits in
       turn.read none x.behind x.fits (let same = x.beside.unread_is in omega (arith, same, some));
   offered = turn.offered;
+  renewed = λ renews past fits over. let x = reach past fits in turn.renewed renews x.behind x.fits (over_beside role f.dlci (passes past) (passes x.behind) x.beside over);
   grows = turn.grows;
 }
 
@@ -62,6 +66,7 @@ turn_then r s g t e k role n1 ds p u f h m turn on = record {
   given = λ some past fits room. let one = turn.given some past fits room in let two = on.given in omega (arith, one, two);
   read = λ none past fits some. let one = turn.read none past fits some in let two = on.read in omega (arith, one, two);
   offered = λ some. offered_later g t e k f h m (turn.offered some) on;
+  renewed = λ renews past fits over. let one = turn.renewed renews past fits over in let two = on.renewed in omega (arith, one, two);
   grows = grows_then g t e k f h m turn.grows on;
 }
 

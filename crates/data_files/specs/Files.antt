@@ -1,9 +1,9 @@
 -- A line some of whose connections carry the data of files, as contracts see it. A past is written newest first.
-use Rattle.std.specs.Prelude.{◌≡◌, ℕ, Bool, false, List, [], ◌∷◌, ◌++◌, All, map}
+use Rattle.std.specs.Prelude.{◌≡◌, ℕ, ◌+◌, ◌-◌, ◌^◌, ◌≤◌, ◌==◌, Bool, false, List, [], ◌∷◌, ◌++◌, All, map, min, if◌then◌else◌}
 use Rattle.mux_station.specs.declared.role.Role.{Role}
 use Rattle.modem_data.specs.declared.begin.Begin.{Begin}
 use Rattle.modem_data.specs.declared.begin.Until.{Until}
-use Rattle.modem_data.specs.Passing.{Pass, Began, data_read, given}
+use Rattle.modem_data.specs.Passing.{Pass, Began, Gave, Read, to_go}
 use Rattle.modem_data.specs.Hops.{Hop, Passed, Relay, passes}
 use Rattle.modem_data_line.specs.DataLines.{Before, DataLineState, LineFits, new_data_line}
 use Rattle.modem_data_line.specs.LineLaws.{before_of}
@@ -13,25 +13,33 @@ pub record FileState (Y : Type 0) : Type 0 where
   pub dlci : ℕ
   pub how : Begin  -- how its lane begins
   pub until : Until  -- and until when it lasts
+  pub renews : Bool  -- it begins anew once it is over and read
   pub file : Y
+  pub before : Before  -- what the file had given and taken when it was put beside the connection
   pub ungiven : List ℕ  -- what the file gave, and the connection hasn't taken yet
   pub unwritten : List ℕ  -- what was read of the connection, and the file hasn't taken yet
   pub has_ended : Bool  -- the file gives no more
   pub is_broken : Bool  -- the file takes no more
   pub is_over : Bool  -- the lane is over, and all of its data was read
+  pub renewals : ℕ  -- how many lanes began behind the first
+  pub dropped : ℕ  -- how many octets lanes took that were over before these left
 
--- nothing has passed
-abbrev pub new_file : {Y : Type 0} → ℕ → (how : Begin) → (until : Until) → Y → FileState Y
-new_file dlci how until file = record {
+-- nothing passes between it and its connection yet
+abbrev pub new_file : {Y : Type 0} → (received sent : Y → List ℕ) → ℕ → (how : Begin) → (until : Until) → Y → FileState Y
+new_file received sent dlci how until file = record {
   dlci = dlci;
   how = how;
   until = until;
+  renews = false;
   file = file;
+  before = before_of received sent file;
   ungiven = [];
   unwritten = [];
   has_ended = false;
   is_broken = false;
   is_over = false;
+  renewals = 0;
+  dropped = 0;
 }
 
 abbrev pub dlcis : {Y : Type 0} → List (FileState Y) → List ℕ
@@ -45,11 +53,37 @@ pub record FiledState (X Y : Type 0) : Type 0 where
   pub n1 : ℕ
   pub before : Before
 
--- All that the file gave was given to its connection's lane, in order, but for what waits; and what was read of the lane went to the
--- file, in order, but for what waits.
+-- what was given to the lanes of d, to one after the other, and what was read of them
+abbrev pub all_given : ℕ → List Pass → List ℕ
+all_given d [] = []
+all_given d (Gave e octets ∷ past) = if e == d then all_given d past ++ octets else all_given d past
+all_given d (_ ∷ past) = all_given d past
+
+abbrev pub all_read : ℕ → List Pass → List ℕ
+all_read d [] = []
+all_read d (Read e octets ∷ past) = if e == d then all_read d past ++ octets else all_read d past
+all_read d (_ ∷ past) = all_read d past
+
+-- how many lanes of d began
+abbrev pub lanes_begun : ℕ → List Pass → ℕ
+lanes_begun d [] = 0
+lanes_begun d (Began e how until ∷ past) = if e == d then lanes_begun d past + 1 else lanes_begun d past
+lanes_begun d (_ ∷ past) = lanes_begun d past
+
+-- how many octets were given to lanes of d that ended before these left: the next lane doesn't send them
+abbrev pub unsent_before : ℕ → List Pass → ℕ
+unsent_before d [] = 0
+unsent_before d (Began e how until ∷ past) = if e == d then unsent_before d past + to_go d past else unsent_before d past
+unsent_before d (_ ∷ past) = unsent_before d past
+
+-- All that the file gave since it was put beside its connection was given to the lanes there, in order, but for what waits; and what was
+-- read of them went to the file, in order, but for what waits. No more lanes are counted than began; what was given to lanes and never
+-- left is counted, to u64::MAX.
 pub record FileFits {Y : Type 0} (received sent : Y → List ℕ) (past : List Pass) (f : FileState Y) : Type 0 where
-  pub given_are : received f.file ≡ given f.dlci past ++ f.ungiven
-  pub read_are : data_read f.dlci past ≡ sent f.file ++ f.unwritten
+  pub given_are : received f.file ≡ f.before.received ++ (all_given f.dlci past ++ f.ungiven)
+  pub read_are : f.before.sent ++ all_read f.dlci past ≡ sent f.file ++ f.unwritten
+  pub renewals_are : f.renewals ≤ lanes_begun f.dlci past
+  pub dropped_are : f.dropped ≡ min (unsent_before f.dlci past) (2 ^ 64 - 1)
 
 -- The line fits a past in which just the connections of the files may carry data, and each file fits that past too.
 pub record HasMoved {X Y : Type 0} (received sent : X → List ℕ) (gave took : Y → List ℕ) (v : FiledState X Y) : Type 0 where
@@ -57,12 +91,13 @@ pub record HasMoved {X Y : Type 0} (received sent : X → List ℕ) (gave took :
   pub fits : LineFits received sent v.role v.n1 (dlcis v.files) v.before v.line past
   pub files : All (FileFits gave took (passes past)) v.files
 
--- nothing has passed at a file
+-- nothing has passed between a file and its connection
 pub record IsFresh {Y : Type 0} (received sent : Y → List ℕ) (f : FileState Y) : Type 0 where
-  pub none_came : received f.file ≡ []
-  pub none_went : sent f.file ≡ []
+  pub before_is : f.before ≡ before_of received sent f.file
   pub none_waits : f.ungiven ≡ []
   pub none_read : f.unwritten ≡ []
+  pub none_renewed : f.renewals ≡ 0
+  pub none_dropped : f.dropped ≡ 0
 
 -- behind a past the lane of each file begins, in their order
 abbrev pub begun : {Y : Type 0} → List (FileState Y) → List Hop → List Hop

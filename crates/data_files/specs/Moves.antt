@@ -6,19 +6,21 @@ use Rattle.mux_station.specs.declared.role.Role.{Role}
 use Rattle.serial_line.specs.Counts.{one_more}
 use Rattle.modem_data.specs.DataLanes.{most_to_go}
 use Rattle.modem_data.specs.Switching.{takes_given}
-use Rattle.modem_data.specs.Passing.{Pass, Gave, Read, carries, to_go, unread, wire}
+use Rattle.modem_data.specs.Passing.{Pass, Began, Gave, Read, IsOver, carries, to_go, unread, wire}
 use Rattle.modem_data.specs.PipeSets.{IsNotData, OfEachPast, PipeSet}
 use Rattle.modem_data.specs.Hops.{Hop, Hops, Passed, Relay, passes}
 use Rattle.modem_data_line.specs.DataLines.{Before, DataLineState, LineFits}
 use Rattle.data_files.specs.Files.{FileFits, FileState, FiledState, begun, dlcis}
 
--- octets of data are given or read on this connection
+-- octets of data are given or read on this connection, or a lane begins there
 abbrev pub is_of_file : ℕ → Hop → Bool
 is_of_file d (Passed (Gave e octets)) = e == d
+is_of_file d (Passed (Began e how until)) = e == d
 is_of_file d (Passed (Read e octets)) = e == d
 is_of_file d a = false
 
--- by some hops, of which no other connection's data is given or read, the one line leads to the other, and the file goes along
+-- by some hops, by which no other connection's data is given or read, and no lane of another begins, the one line leads to the other, and
+-- the file goes along
 pub record FileMoves {X Y : Type 0} (received sent : X → List ℕ) (gave took : Y → List ℕ) (old new : DataLineState X)
     (f g : FileState Y) : Type 0 where
   pub hops : List Hop
@@ -26,7 +28,8 @@ pub record FileMoves {X Y : Type 0} (received sent : X → List ℕ) (gave took 
   pub leads : (role : Role) (n1 : ℕ) (ds : List ℕ) (b : Before) (past : List Hop) → LineFits received sent role n1 ds b old past
       → LineFits received sent role n1 ds b new (hops ++ past)
   pub dlci_is : g.dlci ≡ f.dlci
-  pub fits : (past : List Pass) → FileFits gave took past f → FileFits gave took (passes hops ++ past) g
+  pub fits : (role : Role) (n1 : ℕ) (ds : List ℕ) (b : Before) (past : List Hop) → LineFits received sent role n1 ds b old past
+      → FileFits gave took (passes past) f → FileFits gave took (passes (hops ++ past)) g
 
 -- the first of these octets were given on d, and the others are left
 pub record GaveFirst (old new : Relay) (d : ℕ) (before after : List ℕ) : Type 0 where
@@ -46,6 +49,18 @@ IsUnsent pipes d count = IsNotData pipes d ⊎ OfEachPast pipes (λ role past. c
 -- so many are all octets of data that wait to be read, up to 512
 unfoldable pub IsUnread : PipeSet → ℕ → (count : ℕ) → Type 0
 IsUnread pipes d count = OfEachPast pipes (λ role past. count ≡ min (unread role d past) 512)
+
+-- the lane of a file's connection is over and read, and begins anew; what it took and didn't send is dropped, and counted
+pub record Renews {X Y : Type 0} (old new : DataLineState X) (f g : FileState Y) : Type 0 where
+  pub kept : ℕ
+  pub kept_are : IsUnsent old.relay.pipes f.dlci kept
+  pub begins : Hops old.relay new.relay (Passed (Began f.dlci f.how f.until))
+  pub beside : new ≡ record old { relay = new.relay }
+  pub now_is : g ≡ record f { is_over = false; renewals = one_more f.renewals; dropped = min (f.dropped + kept) (2 ^ 64 - 1) }
+
+-- or nothing is done: it isn't to begin anew, or isn't over and read
+abbrev pub StaysOver : Bool → PipeSet → ℕ → Type 0
+StaysOver renews pipes d = (renews ≡ false) ⊎ (IsNotData pipes d ⊎ OfEachPast pipes (λ role past. IsOver role d past → ⊥))
 
 -- these were read of d
 abbrev pub ReadsOn : PipeSet → ℕ → (octets : List ℕ) → Type 0
@@ -79,8 +94,8 @@ IsOfferedFile sent stalled_writes old new = (new.is_broken ≡ true)
 abbrev pub IsKept : (before after : ℕ) → Type 0
 IsKept before after = min before (2 ^ 64 - 1) ≤ after
 
--- Nothing of a file came back: what it gave and took only grows, and so does what was given of it and read for it; and one that
--- gives or takes no more stays so.
+-- Nothing of a file came back: what it gave and took only grows, and so does what was given of it and read for it, and the count of its
+-- lanes; and one that gives or takes no more stays so.
 pub record FileGrows {Y : Type 0} (received sent : Y → List ℕ) (empty_reads stalled_writes : Y → ℕ) (f g : FileState Y) : Type 0 where
   pub came : length (received f.file) ≤ length (received g.file)
   pub given : length (received f.file) + length g.ungiven ≤ length (received g.file) + length f.ungiven
@@ -88,6 +103,7 @@ pub record FileGrows {Y : Type 0} (received sent : Y → List ℕ) (empty_reads 
   pub read : length (sent f.file) + length f.unwritten ≤ length (sent g.file) + length g.unwritten
   pub empty : IsKept (empty_reads f.file) (empty_reads g.file)
   pub stalled : IsKept (stalled_writes f.file) (stalled_writes g.file)
+  pub renewed : IsKept f.renewals g.renewals
   pub ended : f.has_ended ≡ true → g.has_ended ≡ true
   pub broken : f.is_broken ≡ true → g.is_broken ≡ true
 
@@ -99,7 +115,7 @@ pub record HasRoom (role : Role) (d : ℕ) (past : List Pass) : Type 0 where
 
 -- Since a line was as it is here, a file had a turn. Where none of its octets waited it was asked for some; where some did, and its
 -- connection had room, some more of them were given there. Where none waited for it, and there was data, some was read; where some
--- did, they were offered to it. And nothing of it came back.
+-- did, they were offered to it. Where the lane of one that begins anew was over and read, the next began. And nothing of it came back.
 pub record HadTurn {X Y : Type 0} (received sent : X → List ℕ) (gave took : Y → List ℕ) (empty_reads stalled_writes : Y → ℕ)
     (role : Role) (n1 : ℕ) (ds : List ℕ) (b : Before) (v : DataLineState X) (f g : FileState Y) : Type 0 where
   pub asked : f.ungiven ≡ [] → f.has_ended ≡ false → IsAskedFile gave empty_reads f g
@@ -108,6 +124,8 @@ pub record HadTurn {X Y : Type 0} (received sent : X → List ℕ) (gave took : 
   pub read : f.unwritten ≡ [] → (past : List Hop) → LineFits received sent role n1 ds b v past → 0 < unread role f.dlci (passes past)
       → length (took f.file) + length f.unwritten < length (took g.file) + length g.unwritten
   pub offered : f.unwritten ≢ [] → IsOfferedFile took stalled_writes f g
+  pub renewed : f.renews ≡ true → (past : List Hop) → LineFits received sent role n1 ds b v past → IsOver role f.dlci (passes past)
+      → one_more f.renewals ≤ g.renewals
   pub grows : FileGrows gave took empty_reads stalled_writes f g
 
 -- so had each of a line's, which are so now

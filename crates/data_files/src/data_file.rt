@@ -3,10 +3,11 @@ ghost use Rattle.std.specs.Prelude.{◌≡◌, ◌≢◌, ◌⊎◌, ◌↔◌, 
 ghost use Rattle.mux_station.specs.declared.role.Role.{Role};
 ghost use Rattle.modem_data.specs.Passing.{IsOver, Pass};
 ghost use Rattle.modem_data.specs.PipeSets.{IsNotData, NoneOf, OfEachPast};
-ghost use Rattle.modem_data_line.specs.DataLines.{Before};
+ghost use Rattle.modem_data_line.specs.DataLines.{Before as Had};
 ghost use Rattle.data_files.specs.Files.{FileFits, new_file};
-ghost use Rattle.data_files.specs.Moves.{FileGrows, FileMoves, GaveFirst, GivesOn, HadTurn, IsAskedFile, IsOfferedFile, KeepsUnread, ReadsOn};
+ghost use Rattle.data_files.specs.Moves.{FileGrows, FileMoves, GaveFirst, GivesOn, HadTurn, IsAskedFile, IsOfferedFile, IsUnsent, KeepsUnread, ReadsOn, Renews, StaysOver};
 
+use crate::before::Before;
 use crate::unwritten::Unwritten;
 use modem_data::{Begin, DataError, Until};
 use modem_data_line::DataLine;
@@ -21,12 +22,16 @@ pub struct DataFile<P: SerialLine> {
     dlci: Dlci,
     how: Begin,
     until: Until,
+    renews: bool,
     file: P,
+    before: Before,
     ungiven: ReadBuffer,
     unwritten: Unwritten,
     has_ended: bool,
     is_broken: bool,
     is_over: bool,
+    renewals: u64,
+    dropped: usize,
 }
 
 impl<P: SerialLine> Model for DataFile<P> {
@@ -38,12 +43,16 @@ impl<P: SerialLine> Model for DataFile<P> {
       dlci = f.dlci.number;
       how = f.how;
       until = f.until;
+      renews = f.renews;
       file = f.file;
+      before = f.before;
       ungiven = f.ungiven;
       unwritten = f.unwritten;
       has_ended = f.has_ended;
       is_broken = f.is_broken;
       is_over = f.is_over;
+      renewals = f.renewals;
+      dropped = f.dropped;
     } };
 }
 
@@ -68,6 +77,16 @@ fn give<L: SerialLine>(
     Ok(count)
 }
 
+/// How many octets a connection took that haven't left.
+pub(crate) fn unsent<L: SerialLine>(line: &DataLine<L>, dlci: Dlci) -> usize
+    ensures { IsUnsent line.now.relay.pipes dlci.number result }
+{
+    match line.to_go(dlci) {
+        Ok(count) => count,
+        Err(_) => 0,
+    }
+}
+
 impl<P: SerialLine + Drop> DataFile<P> {
     /// This file beside this connection, whose lane begins and lasts so. Refusal: no memory.
     pub fn new(
@@ -77,20 +96,36 @@ impl<P: SerialLine + Drop> DataFile<P> {
         until: Until,
         file: P,
     ) -> Result<DataFile<P>, AllocError>
-        ensures { IfOk result (λ f. f ≡ new_file dlci.number how until file) }
+        ensures { IfOk result (λ f. f ≡ new_file P.received P.sent dlci.number how until file) }
     {
         let ungiven = ReadBuffer::new(alloc)?;
+        let before = Before::of(&file);
         Ok(DataFile {
             dlci,
             how,
             until,
+            renews: false,
             file,
+            before,
             ungiven,
             unwritten: Unwritten::new(),
             has_ended: false,
             is_broken: false,
             is_over: false,
+            renewals: 0,
+            dropped: 0,
         })
+    }
+
+    /// The same file, whose connection carries one lane after the other: where one is over and all of its data was read, the next begins,
+    /// as the first did. What the file gave that a lane took and didn't send is dropped then, and counted.
+    pub fn renewed(self) -> DataFile<P>
+        ensures { result ≡ record self { renews = true } }
+    {
+        DataFile {
+            renews: true,
+            ..self
+        }
     }
 }
 
@@ -150,6 +185,20 @@ impl<P: SerialLine> DataFile<P> {
         ensures { result ≡ length self.now.ungiven }
     {
         self.ungiven.as_slice().len()
+    }
+
+    /// How many lanes of the connection began behind the first.
+    pub fn renewals(&self) -> u64
+        ensures { result ≡ self.now.renewals }
+    {
+        self.renewals
+    }
+
+    /// How many octets of the file lanes took that were over before these left; a next lane had begun.
+    pub fn dropped(&self) -> usize
+        ensures { result ≡ self.now.dropped }
+    {
+        self.dropped
     }
 
     /// How many octets were read of the connection that the file hasn't taken.
@@ -245,17 +294,48 @@ impl<P: SerialLine> DataFile<P> {
         }
     }
 
-    /// Moves octets between the connection and its file, both ways, and says whether any moved.
+    /// Begins the next lane of the connection, where one is to follow the last, which is over and read. Says whether it did.
+    #[tactic(auto, using(crate::proofs::Renewing::stays_over))]
+    fn renew<L: SerialLine>(&mut self, line: &mut DataLine<L>) -> bool
+        ensures renews { result ≡ true → Renews line.old line.new self.old self.new }
+        ensures line { result ≡ false → line.new ≡ line.old }
+        ensures still { result ≡ false → self.new ≡ self.old }
+        ensures over { result ≡ false → StaysOver self.old.renews line.old.relay.pipes self.old.dlci }
+        ensures same { self.new ≡ record self.old {
+          is_over = self.new.is_over;
+          renewals = self.new.renewals;
+          dropped = self.new.dropped;
+        } }
+        ensures beside { line.new ≡ record line.old { relay = line.new.relay } }
+    {
+        if !self.renews {
+            return false;
+        }
+        let kept = unsent(line, self.dlci);
+        match line.begin(self.dlci, self.how, self.until) {
+            Ok(()) => {
+                self.is_over = false;
+                self.renewals = self.renewals.saturating_add(1);
+                self.dropped = self.dropped.saturating_add(kept);
+                true
+            }
+            Err(_) => false,
+        }
+    }
+
+    /// Begins the next lane where one is due, moves octets between the connection and its file, both ways, and says whether anything
+    /// moved.
     pub(crate) fn move_on<L: SerialLine>(&mut self, line: &mut DataLine<L>) -> bool
         ensures moves { FileMoves L.received L.sent P.received P.sent line.old line.new self.old self.new }
         ensures beside { line.new ≡ record line.old { relay = line.new.relay } }
-        ensures turn { (role : Role) (n1 : ℕ) (ds : List ℕ) (b : Before) → (NoneOf ds self.old.dlci → ⊥)
+        ensures turn { (role : Role) (n1 : ℕ) (ds : List ℕ) (b : Had) → (NoneOf ds self.old.dlci → ⊥)
             → HadTurn L.received L.sent P.received P.sent P.empty_reads P.stalled_writes role n1 ds b line.old self.old self.new }
     {
+        let began = self.renew(line);
         self.read_file();
         let gave = self.give(line);
         let took = self.take(line);
         let wrote = self.write_file();
-        gave | took | wrote
+        began | gave | took | wrote
     }
 }

@@ -7,7 +7,7 @@ ghost use Rattle.data_files.specs.Files.{BeginsFiled, HasMoved, IsFresh, dlcis};
 ghost use Rattle.data_files.specs.Moves.{HadTurns, HasBegunTo, IsUnsent, MovesAt};
 
 use crate::before::Before;
-use crate::data_file::DataFile;
+use crate::data_file::{DataFile, unsent};
 use modem_data::{DataError, Relay};
 use modem_data_line::DataLine;
 use mux_frame::Dlci;
@@ -146,10 +146,7 @@ impl<L: SerialLine, P: SerialLine> FiledLine<L, P> {
     pub fn unsent(&self, dlci: Dlci) -> usize
         ensures { IsUnsent self.now.line.relay.pipes dlci.number result }
     {
-        match self.line.to_go(dlci) {
-            Ok(count) => count,
-            Err(_) => 0,
-        }
+        unsent(&self.line, dlci)
     }
 
     /// The line with its relay, and the files. What was given and read is what the files' own octets say.

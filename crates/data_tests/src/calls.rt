@@ -11,40 +11,32 @@ use std::process::Abort;
 use std::test::*;
 
 /// The client opens 0 and 2; the modem answers by two UA and its MSC for 2.
-const OPENS: &[u8] = b"\xF9\x03?\x01\x1C\xF9\xF9\x0B?\x01Y\xF9";
+pub const OPENS: &[u8] = b"\xF9\x03?\x01\x1C\xF9\xF9\x0B?\x01Y\xF9";
 
-const OPENED: &[u8] =
+pub const OPENED: &[u8] =
     b"\xF9\x03s\x01\xD7\xF9\xF9\x0Bs\x01\x92\xF9\xF9\x01\xEF\x09\xE3\x05\x0B\x8D\x9A\xF9";
 
 /// It defines a context and has it active, and then calls over it.
-const CONTEXT: &[u8] = b"\xF9\x0B\xEFCAT+CGDCONT=1,\"IP\",\"a\";+CGACT=1,1\r#\xF9";
+pub const CONTEXT: &[u8] = b"\xF9\x0B\xEFCAT+CGDCONT=1,\"IP\",\"a\";+CGACT=1,1\r#\xF9";
 
-const OK: &[u8] = b"\xF9\x09\xEF\r\r\nOK\r\n\xD8\xF9";
+pub const OK: &[u8] = b"\xF9\x09\xEF\r\r\nOK\r\n\xD8\xF9";
 
-const CALL: &[u8] = b"\xF9\x0B\xEF\x11ATD*99#\r\xAC\xF9";
+pub const CALL: &[u8] = b"\xF9\x0B\xEF\x11ATD*99#\r\xAC\xF9";
 
-const CONNECT: &[u8] = b"\xF9\x09\xEF\x17\r\nCONNECT\r\n)\xF9";
+pub const CONNECT: &[u8] = b"\xF9\x09\xEF\x17\r\nCONNECT\r\n)\xF9";
 
 /// A command line, as data; data of the modem's end.
-const CAME: &[u8] = b"\xF9\x0B\xEF\x09ATI\r\xBE\xF9";
+pub const CAME: &[u8] = b"\xF9\x0B\xEF\x09ATI\r\xBE\xF9";
 
 const WENT: &[u8] = b"\xF9\x09\xEF\x05ok\xD6\xF9";
 
 /// The client closes 2; the UA.
-const DISC: &[u8] = b"\xF9\x0BS\x01\xB8\xF9";
+pub const DISC: &[u8] = b"\xF9\x0BS\x01\xB8\xF9";
 
-const CLOSED: &[u8] = b"\xF9\x0Bs\x01\x92\xF9";
+pub const CLOSED: &[u8] = b"\xF9\x0Bs\x01\x92\xF9";
 
-/// A modem with words at a line whose relay is at its end, on which connection 2 waits for its CONNECT.
-fn modem_at(
-    rt: &impl Abort,
-    alloc: Global,
-    line: ThreadLine,
-    data: Dlci,
-) -> Sim<DataLine<ThreadLine>> {
-    let relay = made(rt, Relay::with_role(alloc, Role::Responder, 64, &[data]));
-    let mut line = made(rt, DataLine::new(alloc, line, relay));
-    assert!(rt; line.begin(data, Begin::ByOwnConnect, Until::Close).is_ok());
+/// A modem with words at a line.
+pub fn modem_on<L: SerialLine + Drop>(rt: &impl Abort, alloc: Global, line: L) -> Sim<L> {
     let start = ModemStart {
         pin: None,
         rssi: 18,
@@ -66,11 +58,24 @@ fn modem_at(
     )
 }
 
+/// A modem with words at a line whose relay is at its end, on which connection 2 waits for its CONNECT.
+fn modem_at(
+    rt: &impl Abort,
+    alloc: Global,
+    line: ThreadLine,
+    data: Dlci,
+) -> Sim<DataLine<ThreadLine>> {
+    let relay = made(rt, Relay::with_role(alloc, Role::Responder, 64, &[data]));
+    let mut line = made(rt, DataLine::new(alloc, line, relay));
+    assert!(rt; line.begin(data, Begin::ByOwnConnect, Until::Close).is_ok());
+    modem_on(rt, alloc, line)
+}
+
 /// The client writes these octets. The modem turns until it has nothing to do, and the client reads what it answered.
-fn expect(
+pub fn expect<L: SerialLine>(
     rt: &impl Abort,
     client: &mut ThreadLine,
-    sim: &mut Sim<DataLine<ThreadLine>>,
+    sim: &mut Sim<L>,
     written: &[u8],
     answered: &[u8],
 ) {

@@ -22,7 +22,7 @@ const READ: &[u8] = b"\xF9\x0B\x73\x01\x92\xF9\xF9\x05\xEF\x11\r\nRING\r\n\x4A\x
 const SENT: &[u8] = b"\xF9\x0B\x3F\x01\x59\xF9\xF9\x0B\xEF\x05ok\xB7\xF9";
 
 /// What there is memory for.
-fn made<A: Drop, E: Drop>(rt: &impl Abort, tried: Result<A, E>) -> A
+pub(crate) fn made<A: Drop, E: Drop>(rt: &impl Abort, tried: Result<A, E>) -> A
     ensures { tried ≡ Ok result }
 {
     match tried {
@@ -31,7 +31,7 @@ fn made<A: Drop, E: Drop>(rt: &impl Abort, tried: Result<A, E>) -> A
     }
 }
 
-fn dlci(rt: &impl Abort, number: u8) -> Dlci {
+pub(crate) fn dlci(rt: &impl Abort, number: u8) -> Dlci {
     match Dlci::new(number) {
         Some(dlci) => dlci,
         None => panic!(rt; "no such DLCI"),

@@ -24,6 +24,7 @@ impl<L: SerialLine> DataLine<L> {
         ensures under_way { result ≡ Err error.UnderWay → OfEachPast self.old.relay.pipes (λ role past. is_idle (carries role dlci.number past) ≡ false) }
         ensures unread { result ≡ Err error.Unread → OfEachPast self.old.relay.pipes (λ role past.
             (carries role dlci.number past ≡ idle) × (data_read dlci.number past ≢ data_came role dlci.number past)) }
+        ensures others { OnErr result ((result ≡ Err error.NotData) ⊎ ((result ≡ Err error.UnderWay) ⊎ (result ≡ Err error.Unread))) }
         ensures err { OnErr result (self.new ≡ self.old) }
         ensures beside { self.new ≡ record self.old { relay = self.new.relay } }
     {

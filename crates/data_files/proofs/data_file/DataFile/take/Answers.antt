@@ -1,8 +1,8 @@
 use Rattle.std.specs.Prelude.{length, refl}
 use Rattle.std.proofs.lemmas.Bool.{eqb-true}
 use Rattle.std.proofs.lemmas.List.{nil_from_length}
-use Rattle.std.proofs.Common.{sym, inr}
-use Rattle.data_files.proofs.FileSteps.{takes}
+use Rattle.std.proofs.Common.{sym, inr, ◌∙◌}
+use Rattle.data_files.proofs.FileSteps.{takes, takes_none}
 use Rattle.data_files.proofs.data_file.DataFile.take.Goals as goal
 
 pub returns-clause-moves : goal.returns-clause-moves
@@ -13,3 +13,7 @@ returns-clause-reads g c = rw (← c.self.view_is) (λ none. inr c.in-Ok.ensures
 
 pub returns-clause-over : goal.returns-clause-over
 returns-clause-over g c = rw (← c.self.view_is) (λ none. inr c.in-Ok.ensures.over)
+
+pub returns-in_default-clause-moves : goal.returns-in_default-clause-moves
+returns-in_default-clause-moves g c = rw (← c.self.view_is) (takes_none g.L.SerialLine.received g.L.SerialLine.sent g.P.SerialLine.received g.P.SerialLine.sent c.args.line.now c.read.new.line _ c.read.new.self c.in_default.ensures.err.0
+    (c.in_default.ensures.err.1 ∙ sym (nil_from_length c.self.inside.unwritten (eqb-true (length c.self.inside.unwritten) 0 (sym c.if-not-is_empty.ensures)))))

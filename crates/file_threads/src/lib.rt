@@ -1,0 +1,20 @@
+//! Files and devices whose calls wait, by threads and rings, and how files beside connections that carry data end.
+//!
+//! # Layout
+//!
+//! - `opening`: a device, by its path. `device`: the threads that read and write one.
+//! - `ending`: what came for files is written. `saying`: what is said of them then.
+//! - `fault`.
+#![tactic(auto)]
+
+mod device;
+mod ending;
+mod fault;
+mod opening;
+mod saying;
+
+pub use device::{DeviceThreads, StopBell, line_beside, read_beside, write_beside};
+pub use ending::{LOOKS, PAUSE, write_out};
+pub use fault::FileFault;
+pub use opening::open_device;
+pub use saying::{say_files, say_of};
