@@ -4,7 +4,7 @@ use Rattle.std.specs.Bool.{Decides}
 use Rattle.std.specs.Str.{bytes_eq}
 use Rattle.std.specs.Cmp.Lexicographic.{pointwise}
 use Rattle.std.proofs.Common.{arith, ap, ap₂, sym, subst, ◌∙◌, get_or, le_of_suc-le-suc, drop_of_length-le}
-use Rattle.std.proofs.lemmas.List.{take-append-le, drop-append-le, length-append, length-drop, length-take-le, take_all, append_assoc, map_more}
+use Rattle.std.proofs.lemmas.List.{take-append-le, drop-append-le, length-append, length-drop, length-take-le, take_all, append_assoc, map_more, take-append-drop}
 use Rattle.std.proofs.lemmas.List.Folds.{drop_split}
 use Rattle.std.proofs.lemmas.Slice.Eq.{bytes_eq-Decides, slice_eq-Decides}
 use Rattle.std.proofs.lemmas.Bool.Decides.{same_from_decides, Decides-and}
@@ -94,6 +94,53 @@ ended_more ends text line f =
 
 pub fill_more : (ends : List ℕ) (n m : ℕ) → Fill 0 ends n → Fill 0 (ends ++ (n + m) ∷ []) (n + m)
 fill_more ends n m f = fill_both 0 ends (m ∷ []) n m f (omega arith, refl)
+
+-- ## The first lines of a text
+
+ends_rise : (start : ℕ) (ends : List ℕ) (len count : ℕ) → Fill start ends len → count < length ends + 1 → start ≤ get_or (start ∷ ends) count 0
+ends_rise start ends len zero f inside = omega arith
+ends_rise start [] len (suc count) f inside = absurd (omega (arith, inside))
+ends_rise start (end ∷ ends) len (suc count) f inside =
+    let first = f.0 in let rest = ends_rise end ends len count f.1 (omega (arith, inside)) in omega (arith, first, rest)
+
+end_placed : (start : ℕ) (ends : List ℕ) (len count : ℕ) → Fill start ends len → count < length ends → get_or (start ∷ ends) count 0 ≤ len
+end_placed start ends len count f inside =
+    let before = start_before start ends len count f inside in let within = end_within start ends len count f inside in omega (arith, before, within)
+
+range_taken : (text : List ℕ) (a b e : ℕ) → a ≤ b → b ≤ e → e ≤ length text → slice_range (take e text) a b ≡ slice_range text a b
+range_taken text a b e ordered below within =
+    sym (range_front (take e text) (drop e text) a b ordered (rw (length-take-le e text within) below))
+    ∙ ap (λ (xs : List ℕ). slice_range xs a b) (take-append-drop e text)
+
+pub fill_first : (start : ℕ) (ends : List ℕ) (len count : ℕ) → Fill start ends len → count < length ends → Fill start (take count ends) (get_or (start ∷ ends) count 0)
+fill_first start ends len zero f inside = refl
+fill_first start [] len (suc count) f inside = absurd (omega (arith, inside))
+fill_first start (end ∷ ends) len (suc count) f inside = (f.0, fill_first end ends len count f.1 (omega (arith, inside)))
+
+pub ended_first : (start : ℕ) (ends text : List ℕ) (count : ℕ) → Fill start ends (length text) → count < length ends
+    → lines_ended start (take count ends) (take (get_or (start ∷ ends) count 0) text) ≡ take count (lines_ended start ends text)
+ended_first start ends text zero f inside = refl
+ended_first start [] text (suc count) f inside = absurd (omega (arith, inside))
+ended_first start (end ∷ ends) text (suc count) f inside =
+    let later : count < length ends = omega (arith, inside) in
+    ap₂ (λ (octets : List ℕ) (lines : List AnswerLine). line_of octets ∷ lines)
+    (range_taken text start end (get_or (end ∷ ends) count 0) f.0 (ends_rise end ends (length text) count f.1 (omega (arith, later))) (end_placed end ends (length text) count f.1 later))
+    (ended_first end ends text count f.1 later)
+
+-- what is left of lines
+pub first_fill : (ends octets new_ends new_octets : List ℕ) (count end : ℕ) → Fill 0 ends (length octets) → count < length ends → end ≡ get_or (0 ∷ ends) count 0
+    → new_octets ≡ take end octets → new_ends ≡ take count ends → Fill 0 new_ends (length new_octets)
+first_fill ends octets new_ends new_octets count end f inside end_is octets_are ends_are =
+    let within = end_placed 0 ends (length octets) count f inside in
+    rw (ends_are, octets_are, end_is, length-take-le (get_or (0 ∷ ends) count 0) octets within) (fill_first 0 ends (length octets) count f inside)
+
+pub first_show : (lines : List AnswerLine) (ends octets new_ends new_octets : List ℕ) (count end : ℕ) → Fill 0 ends (length octets) → lines_ended 0 ends octets ≡ lines
+    → count < length ends → end ≡ get_or (0 ∷ ends) count 0 → new_octets ≡ take end octets → new_ends ≡ take count ends
+    → lines_ended 0 new_ends new_octets ≡ take count lines
+first_show lines ends octets new_ends new_octets count end f shows inside end_is octets_are ends_are =
+    ap₂ (lines_ended 0) ends_are (octets_are ∙ ap (λ (n : ℕ). take n octets) end_is)
+    ∙ ended_first 0 ends octets count f inside
+    ∙ ap (take count) shows
 
 -- ## What lines tell of their text
 

@@ -17,6 +17,7 @@ pub mod Windows
 pub mod Seeing
 pub mod OpenWindow
 pub mod Forks
+pub mod InPlace
 pub mod Whole
 pub mod Placing
 pub mod Rows

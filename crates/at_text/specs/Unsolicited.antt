@@ -1,5 +1,5 @@
 -- Unsolicited lines (27.007, 6.11, 7.2, 8.10, 10.1.19, 10.1.20; V.250, 6.3).
-use Rattle.std.specs.Prelude.{ℕ, nat_eq, Bool, true, ◌&&◌, List, length, drop, Option, Some, None, if◌then◌else◌, codes}
+use Rattle.std.specs.Prelude.{ℕ, nat_eq, ◌==◌, Bool, true, ◌&&◌, ◌||◌, List, length, drop, Option, Some, None, if◌then◌else◌, codes}
 use Rattle.std.specs.List.{starts_with}
 use Rattle.std.specs.Option.{option_map_or}
 use Rattle.std.specs.Str.{bytes_eq}
@@ -17,6 +17,14 @@ abbrev pub is_report : List ℕ → List ℕ → Bool
 is_report name line =
     starts_with nat_eq line name
     && (begins is_digit (skip_blanks (drop (length name) line)) && is_without_second line)
+
+-- R
+abbrev pub is_first : ℕ → Bool
+is_first octet = octet == 82
+
+-- R, G or I
+abbrev pub is_third : ℕ → Bool
+is_third octet = (octet == 82) || ((octet == 71) || (octet == 73))
 
 -- the kind of a line that no command asked for, by octet
 abbrev pub unsolicited_of : List ℕ → Option UrcKind

@@ -1,5 +1,5 @@
 //! The lines that a command was answered with, as one text.
-ghost use Rattle.std.specs.Prelude.{◌≡◌, ℕ, ◌+◌, ◌-◌, ◌^◌, ◌<◌, ◌≤◌, [], ◌∷◌, ◌++◌, length, map, slice_index, slice_index_or, slice_get, option_map, vec_len, vec_capacity, IfOk, OnOk, OnErr};
+ghost use Rattle.std.specs.Prelude.{◌≡◌, ℕ, ◌+◌, ◌-◌, ◌^◌, ◌<◌, ◌≤◌, [], ◌∷◌, ◌++◌, length, map, take, slice_index, slice_index_or, slice_get, option_map, vec_len, vec_capacity, IfOk, OnOk, OnErr};
 ghost use Rattle.at_text.specs.AnswerParts.{line_of};
 
 use std::alloc::{AllocError, Global};
@@ -124,6 +124,17 @@ impl AnswerLines {
         push_behind(&mut self.ends, before, lines.ends.as_slice());
         lines.ends.clear();
         Ok(())
+    }
+
+    /// Lets go of the lines from this place on, and keeps their memory.
+    pub(crate) fn truncate(&mut self, count: usize)
+        ensures { self.new ≡ take count self.old }
+    {
+        if count < self.len() {
+            let end = start_of(self.ends.as_slice(), count);
+            self.octets.truncate(end);
+            self.ends.truncate(count);
+        }
     }
 
     /// Lets go of its lines, and keeps their memory.

@@ -42,4 +42,4 @@ pub use reader::{Line, LineReader, run_len};
 pub use rules::Form;
 pub use text::Text;
 pub use unsolicited::{UrcKind, unsolicited_of};
-pub use window::{Seen, Window};
+pub use window::{Placed, Seen, Window, WindowMark};

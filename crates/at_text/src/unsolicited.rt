@@ -1,7 +1,7 @@
 //! Unsolicited lines.
-ghost use Rattle.std.specs.Prelude.{◌≡◌, ◌<◌, option_map};
-ghost use Rattle.at_text.specs.Octets.{after_comma};
-ghost use Rattle.at_text.specs.Unsolicited.{unsolicited_of, is_report, is_without_second};
+ghost use Rattle.std.specs.Prelude.{◌≡◌, ◌<◌, ◌||◌, drop, option_map};
+ghost use Rattle.at_text.specs.Octets.{after_comma, begins};
+ghost use Rattle.at_text.specs.Unsolicited.{unsolicited_of, is_report, is_without_second, is_first, is_third};
 
 use crate::octets::skip_blanks;
 use memchr::memchr;
@@ -72,6 +72,25 @@ impl Eq for UrcKind {
 /// The kind of a line that no command asked for, by the standards; `None` for any other line. The kind is the same inside a
 /// window. It is never Other.
 pub fn unsolicited_of(line: &[u8]) -> Option<UrcKind>
+    ensures { result ≡ unsolicited_of line.now }
+{
+    if may_report(line) {
+        reported(line)
+    } else {
+        None
+    }
+}
+
+/// Whether the line begins as `RING` does, or its third octet is one of those that an unsolicited line has there. No other line
+/// is unsolicited.
+fn may_report(line: &[u8]) -> bool
+    ensures { result ≡ (begins is_first line.now || begins is_third (drop 2 line.now)) }
+{
+    matches!(line, [b'R', ..] | [_, _, b'R' | b'G' | b'I', ..])
+}
+
+/// The same as `unsolicited_of`, by each form.
+fn reported(line: &[u8]) -> Option<UrcKind>
     ensures { result ≡ unsolicited_of line.now }
 {
     match line {

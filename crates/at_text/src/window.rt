@@ -1,11 +1,12 @@
 //! Windows: which lines answer a command, by their place (V.250, 5.2.3 and 5.7.1).
-ghost use Rattle.std.specs.Prelude.{◌≡◌, List, [], ◌∷◌, ◌++◌, ◌↔◌, IsTrue, IsNone, is_none, is_some, IfOk, IfErr, OnOk, OnErr, if◌then◌else◌};
+ghost use Rattle.std.specs.Prelude.{Option, ◌≡◌, List, [], ◌∷◌, ◌++◌, ◌↔◌, IsTrue, IsNone, is_none, is_some, IfOk, IfErr, OnOk, OnErr, if◌then◌else◌};
 ghost use Rattle.at_text.specs.Dialects.{Dialect as Codes, standard};
 ghost use Rattle.at_text.specs.Rules.{dialect_of};
 ghost use Rattle.at_text.specs.Windows.{Mark, Begun};
 ghost use Rattle.at_text.specs.Seeing.{by_kind};
-ghost use Rattle.at_text.specs.OpenWindow.{opened, FitsMarks, Sees, is_echo, with_line, solicited_by, after_solicited, seen_by, after_line};
+ghost use Rattle.at_text.specs.OpenWindow.{OpenWindow, opened, FitsMarks, Sees, is_echo, with_line, solicited_by, after_solicited, seen_by, after_line};
 ghost use Rattle.at_text.specs.Forks.{lines_so_far, forked, led_by};
+ghost use Rattle.at_text.specs.InPlace.{placed_as, placed_by, after_placed, solicited_placed, said_where, left_where, Grows, mark_of, back_at};
 
 use crate::answer_lines::AnswerLines;
 use crate::command::{COMMAND_LEN, CommandLine};
@@ -30,6 +31,30 @@ pub enum Seen {
     Unsolicited(UrcKind),
     /// A line of no kind, outside of every window.
     Other,
+}
+
+/// What a line is, where its end stands, while an answer stays in its window.
+#[derive(Clone, Copy)]
+pub enum Placed {
+    /// The echo of the command.
+    Echo,
+    /// A line of the answer, which goes on.
+    Kept,
+    /// The final code: the answer is whole, and all of it stands in the window.
+    Whole,
+    /// A line that no command asked for, of this kind.
+    Unsolicited(UrcKind),
+    /// A line of no kind, outside of every window.
+    Other,
+}
+
+/// How far a window's answer had come: its lines, and whether the next line might be the echo.
+#[derive(Clone, Copy)]
+pub struct WindowMark {
+    /// How many lines there were.
+    pub lines: usize,
+    /// Whether no line but unsolicited ones had come.
+    pub fresh: bool,
 }
 
 /// A command, and what has come of its answer.
@@ -199,8 +224,8 @@ impl Window {
         ensures refused { IfErr result (λ why. why ≡ TextError.NoMemory) }
         ensures err { OnErr result (self.new ≡ self.old) }
     {
-        let seen = self.place(dialect, line)?;
-        Ok(seen)
+        let placed = self.place_by(dialect, line)?;
+        Ok(self.take_placed(placed))
     }
 
     /// A copy, which fits the same past. Refused with 4 NoMemory.
@@ -264,51 +289,127 @@ impl Window {
         Ok(())
     }
 
-    fn place(&mut self, dialect: &Dialect, line: &[u8]) -> Result<Seen, AllocError>
-        ensures seen { IfOk result (λ seen. seen ≡ seen_by (dialect_of dialect.now) self.old line.now) }
-        ensures after { OnOk result (self.new ≡ after_line (dialect_of dialect.now) self.old line.now) }
+    /// Says what the next line is by the codes of this dialect, as `see_by` does. An answer that is whole stays in the window,
+    /// which stays open with it: `close` takes it out, and lines behind it may be shown to another window alone. Refused with
+    /// 4 NoMemory.
+    pub fn place_by(&mut self, dialect: &Dialect, line: &[u8]) -> Result<Placed, TextError>
+        ensures placed { IfOk result (λ placed. placed ≡ placed_by (dialect_of dialect.now) self.old line.now) }
+        ensures after { OnOk result (self.new ≡ after_placed (dialect_of dialect.now) self.old line.now) }
+        ensures said { IfOk result (λ placed. seen_by (dialect_of dialect.now) self.old line.now ≡ said_where placed self.new) }
+        ensures left { IfOk result (λ placed. after_line (dialect_of dialect.now) self.old line.now ≡ left_where placed self.new) }
+        ensures grows { Grows self.old self.new }
+        ensures refused { IfErr result (λ why. why ≡ TextError.NoMemory) }
         ensures err { OnErr result (self.new ≡ self.old) }
     {
-        self.place_by(dialect.unsolicited_of(line), dialect, line)
+        let placed = self.place(dialect, line)?;
+        Ok(placed)
+    }
+
+    /// Takes the lines so far out. No command is under way then.
+    pub fn close(&mut self) -> AnswerLines
+        ensures lines { result ≡ lines_so_far self.old }
+        ensures none { self.new ≡ None }
+    {
+        if !self.is_open {
+            return AnswerLines::new(self.alloc);
+        }
+        self.is_open = false;
+        self.open.take_lines(self.alloc)
+    }
+
+    /// How far the answer has come.
+    pub fn mark(&self) -> WindowMark
+        ensures { result ≡ mark_of self.now }
+    {
+        if !self.is_open {
+            return WindowMark {
+                lines: 0,
+                fresh: false,
+            };
+        }
+        WindowMark {
+            lines: self.open.lines.len(),
+            fresh: self.open.fresh,
+        }
+    }
+
+    /// Forgets the lines since the mark was taken. It takes no memory. After `place_by` alone, however often, the window is as it
+    /// was at the mark.
+    pub fn go_back(&mut self, mark: WindowMark)
+        ensures back { self.new ≡ back_at mark self.old }
+        ensures was { (was : Option OpenWindow) → Grows was self.old → mark ≡ mark_of was → self.new ≡ was }
+    {
+        self.shorten(mark);
+    }
+
+    fn shorten(&mut self, mark: WindowMark)
+        ensures { self.new ≡ back_at mark self.old }
+    {
+        if self.is_open {
+            self.open.lines.truncate(mark.lines);
+            self.open.fresh = mark.fresh;
+        }
+    }
+
+    fn place(&mut self, dialect: &Dialect, line: &[u8]) -> Result<Placed, AllocError>
+        ensures placed { IfOk result (λ placed. placed ≡ placed_by (dialect_of dialect.now) self.old line.now) }
+        ensures after { OnOk result (self.new ≡ after_placed (dialect_of dialect.now) self.old line.now) }
+        ensures err { OnErr result (self.new ≡ self.old) }
+    {
+        self.place_kind(dialect.unsolicited_of(line), dialect, line)
     }
 
     /// What a line of this kind is, or of none.
-    fn place_by(
+    fn place_kind(
         &mut self,
         kind: Option<UrcKind>,
         dialect: &Dialect,
         line: &[u8],
-    ) -> Result<Seen, AllocError>
-        ensures seen { IfOk result (λ seen. seen ≡ by_kind kind (solicited_by (dialect_of dialect.now) self.old line.now)) }
+    ) -> Result<Placed, AllocError>
+        ensures placed { IfOk result (λ placed. placed ≡ placed_as (by_kind kind (solicited_by (dialect_of dialect.now) self.old line.now))) }
         ensures after { OnOk result (
-            self.new ≡ (if is_none kind then after_solicited (dialect_of dialect.now) self.old line.now else self.old)) }
+            self.new ≡ (if is_none kind then solicited_placed self.old line.now else self.old)) }
         ensures err { OnErr result (self.new ≡ self.old) }
     {
         match kind {
-            Some(kind) => Ok(Seen::Unsolicited(kind)),
+            Some(kind) => Ok(Placed::Unsolicited(kind)),
             None => self.place_solicited(dialect, line),
         }
     }
 
     /// What a line of no kind is. The echo is looked at before the final code: no command line is a final code.
-    fn place_solicited(&mut self, dialect: &Dialect, line: &[u8]) -> Result<Seen, AllocError>
-        ensures seen { IfOk result (λ seen. seen ≡ solicited_by (dialect_of dialect.now) self.old line.now) }
-        ensures after { OnOk result (self.new ≡ after_solicited (dialect_of dialect.now) self.old line.now) }
+    fn place_solicited(&mut self, dialect: &Dialect, line: &[u8]) -> Result<Placed, AllocError>
+        ensures placed { IfOk result (λ placed. placed ≡ placed_as (solicited_by (dialect_of dialect.now) self.old line.now)) }
+        ensures after { OnOk result (self.new ≡ solicited_placed self.old line.now) }
         ensures err { OnErr result (self.new ≡ self.old) }
     {
         if !self.is_open {
-            return Ok(Seen::Other);
+            return Ok(Placed::Other);
         }
         let open = &mut self.open;
         if open.is_echo(line) {
             open.fresh = false;
-            return Ok(Seen::Echo);
+            return Ok(Placed::Echo);
         }
         open.keep(line)?;
-        if !dialect.is_final(line) {
-            return Ok(Seen::Kept);
+        if dialect.is_final(line) {
+            Ok(Placed::Whole)
+        } else {
+            Ok(Placed::Kept)
         }
-        self.is_open = false;
-        Ok(Seen::Done(self.open.take_lines(self.alloc)))
+    }
+
+    /// What the line is that was placed. An answer that is whole is taken out.
+    fn take_placed(&mut self, placed: Placed) -> Seen
+        ensures seen { result ≡ said_where placed self.old }
+        ensures after { self.new ≡ left_where placed self.old }
+    {
+        match placed {
+            Placed::Echo => Seen::Echo,
+            Placed::Kept => Seen::Kept,
+            Placed::Whole => Seen::Done(self.close()),
+            Placed::Unsolicited(kind) => Seen::Unsolicited(kind),
+            Placed::Other => Seen::Other,
+        }
     }
 }
