@@ -8,3 +8,4 @@ pub mod DataFrames
 pub mod QueueRoom
 pub mod DataStays
 pub mod FollowingActs
+pub mod ReadFrames

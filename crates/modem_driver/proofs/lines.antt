@@ -1,4 +1,3 @@
--- Lines that are read and reported, on a window or on a fork of it.
+-- Lines that are read and reported, and answers that are whole.
 pub mod ReportedLines
-pub mod KeptData
-pub mod WindowForks
+pub mod WholeAnswers

@@ -5,7 +5,6 @@ use Rattle.mux_station.specs.Acts as station
 use Rattle.mux_station.specs.Stations.{Station, setting_of, offer_refused}
 use Rattle.mux_station.specs.Fitting as station_fits
 use Rattle.at_text.specs.declared.unsolicited.UrcKind.{UrcKind}
-use Rattle.at_text.specs.Forks.{forked}
 use Rattle.modem_history.specs.Acts.{Act, Got}
 use Rattle.modem_history.specs.Information.{line_of}
 use Rattle.modem_history.specs.Calls.{first_on}
@@ -51,12 +50,3 @@ ReadsFrame v f lane acts =
     → record { kept = lane.kept; window = lane.window; acts = acts }
     ≡ read_each (dialect_in v) listens f.dlci (option_map asker_of (first_on f.dlci v.hand))
     (record { kept = (lane_at v f.dlci).kept; window = (lane_at v f.dlci).window; acts = Got f ∷ [] }) f.info
-
--- the frame's information is read on a fork of its lane's window, whatever is listened to
-unfoldable pub ReadsApart : Core → Frame → Lane → List Act → Type 0
-ReadsApart v f lane acts =
-    (listens : UrcKind → Bool) → Listens listens v.kinds
-    → record { kept = lane.kept; window = lane.window; acts = acts }
-    ≡ read_each (dialect_in v) listens f.dlci (option_map asker_of (first_on f.dlci v.hand))
-    (record { kept = (lane_at v f.dlci).kept; window = forked (lane_at v f.dlci).window; acts = Got f ∷ [] })
-    f.info

@@ -1,7 +1,7 @@
 pub mod Telling
 pub mod Hands
 pub mod Lanes
-pub mod Forks
+pub mod Settling
 pub mod Cores
 pub mod CoreKeeping
 pub mod ActLists

@@ -14,10 +14,8 @@ ghost use Rattle.modem_history.specs.Acts.{Act as Happening, act_of, Got};
 ghost use Rattle.modem_driver.specs.Running.{CoreIsIdle};
 ghost use Rattle.modem_driver.specs.Cores.{Handles, shows_opened, lane_at};
 ghost use Rattle.modem_driver.specs.Lanes.{new_lane};
-ghost use Rattle.modem_driver.specs.Handing.{Offers, OffersLine, EndsCommand, EndedBy, ReadsApart};
-ghost use Rattle.modem_driver.specs.Forks.{joined, joined_acts};
-ghost use Rattle.at_text.specs.Forks.{lines_so_far};
-ghost use Rattle.at_text.specs.Lines.{is_line_end};
+ghost use Rattle.modem_driver.specs.Handing.{Offers, OffersLine, EndsCommand, EndedBy};
+ghost use Rattle.modem_driver.specs.Settling.{tells_lines};
 ghost use Rattle.std.specs.List.{list_any};
 ghost use Rattle.modem_driver.specs.Receiving.{HasRoom, answer_room, cut_to, sent_in, afresh_if, brings_data};
 ghost use Rattle.modem_driver.specs.Holding.{KeepsHeld};
@@ -27,11 +25,12 @@ use crate::act_list::{ActList, none_told, push_told};
 use crate::driver::Core;
 use crate::error::CoreError;
 use crate::hand::{first_asker, first_line, remove_command};
-use crate::lane::Lane;
+use crate::machine::line_queue::LineQueue;
 use crate::machine::waiting::Waiting;
-use crate::reports::{Reading, read_octets};
+use crate::reports::Reading;
+use crate::settling::Draft;
 use crate::telling::{Happened, tell_on};
-use at_text::{CommandLine, run_len};
+use at_text::CommandLine;
 use modem_desk::Outcome;
 use modem_history::Act;
 use mux_frame::{Dlci, FrameBuf, FrameView, Info, Kind};
@@ -207,38 +206,6 @@ impl Core {
         Some(answered)
     }
 
-    /// Reads the information of a frame on a fork of what is kept of its connection, which the other lane becomes. What is
-    /// said of its lines goes into the acts, which has none before.
-    fn read(
-        &self,
-        frame: FrameView<'_>,
-        fork: &mut Lane,
-        acts: &mut Vec<Act>,
-    ) -> Result<(), CoreError>
-        requires none { acts.old.items ≡ [] }
-        ensures read { OnOk result (ReadsApart self.now (frame_of frame.entry) fork.new
-            (Got (frame_of frame.entry) ∷ map act_of acts.new.items)) }
-        ensures held { OnOk result (fork.new.held ≡ (lane_at self.now (frame_of frame.entry).dlci).held) }
-        ensures no_memory { OnErr result (result ≡ Err CoreError.NoMemory) }
-    {
-        self.lanes.fork_into(frame.dlci, fork);
-        let reading = Reading {
-            alloc: self.alloc,
-            dlci: frame.dlci,
-            owner: first_asker(self.hand.from_first(frame.dlci), frame.dlci),
-        };
-        read_octets(
-            reading,
-            &self.dialect,
-            self.kinds.as_slice(),
-            frame.info,
-            &mut fork.reader,
-            &mut fork.window,
-            acts,
-        )?;
-        Ok(())
-    }
-
     /// The command under way on the connection has its answer: it is in hand no more, and the next one
     /// is put into the send ring.
     fn end_command(&mut self, dlci: Dlci)
@@ -247,30 +214,6 @@ impl Core {
         remove_command(&mut self.hand, dlci);
         if let Some(line) = first_line(self.hand.from_first(dlci), dlci) {
             offer_line(&mut self.station, dlci, line);
-        }
-    }
-
-    /// A connection's lane goes on as its fork. Says whether a command was under way there and is no more.
-    /// Want of memory changes nothing.
-    fn join_lane(
-        &mut self,
-        dlci: Dlci,
-        fork: &mut Lane,
-        acts: &mut Vec<Act>,
-    ) -> Result<bool, CoreError>
-        ensures after { OnOk result (self.new ≡ record self.old {
-          lanes = slice_set self.old.lanes dlci.number (joined (lane_at self.old dlci.number) fork.old);
-        }) }
-        ensures acts { OnOk result (map act_of acts.new.items ≡ joined_acts
-            (lines_so_far (lane_at self.old dlci.number).window) fork.old.window (map act_of acts.old.items)) }
-        ensures done { IfOk result (λ done.
-            done ≡ (is_some (lane_at self.old dlci.number).window && is_none fork.old.window)) }
-        ensures err { OnErr result (self.new ≡ self.old) }
-        ensures no_memory { OnErr result (result ≡ Err CoreError.NoMemory) }
-    {
-        match self.lanes.join(dlci, fork, acts) {
-            Ok(done) => Ok(done),
-            Err(_) => Err(CoreError::NoMemory),
         }
     }
 
@@ -283,34 +226,42 @@ impl Core {
         }
     }
 
-    /// A frame that was read on a fork: its connection goes on as that, the station stays as it is, and where the
-    /// command under way has its answer, the next one goes out. Want of memory changes nothing.
-    fn join_data(
+    /// Data of an open connection is read, the station stays as it is, and where the command under way has its answer, the next
+    /// one goes out. What is said goes behind the acts. Want of memory changes nothing.
+    fn read(
         &mut self,
         frame: FrameView<'_>,
-        fork: &mut Lane,
-        acts: &mut Vec<Act>,
+        draft: &mut Draft,
+        lines: &mut LineQueue,
     ) -> Result<(), CoreError>
         requires short { length frame.info.now ≤ most_info self.old.station.n1 frame.kind }
         requires is_data { brings_data self.old (frame_of frame) ≡ true }
-        requires held { fork.old.held ≡ (lane_at self.old (frame_of frame).dlci).held }
-        ensures acts { OnOk result (map act_of acts.new.items ≡ joined_acts
-            (lines_so_far (lane_at self.old (frame_of frame.entry).dlci).window) fork.old.window
-            (map act_of acts.old.items)) }
-        ensures past { OnOk result ((said : List Happening) → ReadsApart self.old (frame_of frame.entry) fork.old said
-            → Handles self.old self.new (Got (frame_of frame.entry)) (joined_acts
-            (lines_so_far (lane_at self.old (frame_of frame.entry).dlci).window) fork.old.window said)) }
-        ensures holds { OnOk result ((said : List Happening) → ReadsApart self.old (frame_of frame.entry) fork.old said
-            → KeepsHeld self.old self.new (Got (frame_of frame.entry)) (joined_acts
-            (lines_so_far (lane_at self.old (frame_of frame.entry).dlci).window) fork.old.window said)) }
-        ensures room { OnOk result (HasRoom self.old (Got (frame_of frame.entry)) true) }
+        requires untold { list_any tells_lines (map act_of draft.old.said.acts.items) ≡ false }
+        ensures past { OnOk result ((lead : List Happening) → lead ++ map act_of draft.old.said.acts.items ≡ Got (frame_of frame.entry) ∷ []
+            → Handles self.old self.new (Got (frame_of frame.entry)) (lead ++ map act_of draft.new.said.acts.items)) }
+        ensures holds { OnOk result ((lead : List Happening) → lead ++ map act_of draft.old.said.acts.items ≡ Got (frame_of frame.entry) ∷ []
+            → KeepsHeld self.old self.new (Got (frame_of frame.entry)) (lead ++ map act_of draft.new.said.acts.items)) }
+        ensures has_room { OnOk result (HasRoom self.old (Got (frame_of frame.entry)) true) }
+        ensures room { OnOk result (length draft.new.said.acts.items ≤ lines.new.room) }
+        ensures lines { lines.new.items ≡ lines.old.items }
         ensures no_memory { OnErr result (result ≡ Err CoreError.NoMemory) }
         ensures err { OnErr result (self.new ≡ self.old) }
         ensures n1 { self.new.station.n1 ≡ self.old.station.n1 }
         ensures lost { self.new.lost ≡ self.old.lost }
     {
-        let done = self.join_lane(frame.dlci, fork, acts)?;
-        let _ = &self.lanes;
+        let reading = Reading {
+            alloc: self.alloc,
+            dlci: frame.dlci,
+            owner: first_asker(self.hand.from_first(frame.dlci), frame.dlci),
+        };
+        let done = self.lanes.read(
+            reading,
+            &self.dialect,
+            self.kinds.as_slice(),
+            frame.info,
+            draft,
+            lines,
+        )?;
         self.go_on(frame.dlci, done);
         Ok(())
     }
@@ -328,43 +279,29 @@ impl Core {
         ensures err { OnErr result (self.new ≡ self.old) }
         ensures n1 { self.new.station.n1 ≡ self.old.station.n1 }
     {
-        let mut fork = Lane::new(self.alloc);
-        let mut acts = Vec::new(self.alloc);
-        self.read(frame, &mut fork, &mut acts)?;
-        acts.insert(0, Act::Got(frame.to_buf(self.alloc)?))?;
-        self.join_data(frame, &mut fork, &mut acts)?;
-        Ok(acts)
+        let mut draft = Draft::new(self.alloc);
+        let mut lines = LineQueue::new(self.alloc);
+        draft.said.acts.push(Act::Got(frame.to_buf(self.alloc)?))?;
+        self.read(frame, &mut draft, &mut lines)?;
+        let Draft { said, .. } = draft;
+        Ok(said.acts)
     }
 
-    /// Data of an open connection none of which ends a line. Nothing is said of it.
-    fn keep_data(&mut self, frame: FrameView<'_>)
-        requires short { length frame.info.now ≤ most_info self.old.station.n1 frame.kind }
-        requires is_data { brings_data self.old (frame_of frame) ≡ true }
-        requires runs_on { list_any is_line_end frame.info.now ≡ false }
-        ensures past { Handles self.old self.new (Got (frame_of frame.entry)) (Got (frame_of frame.entry) ∷ []) }
-        ensures holds { KeepsHeld self.old self.new (Got (frame_of frame.entry)) (Got (frame_of frame.entry) ∷ []) }
-        ensures n1 { self.new.station.n1 ≡ self.old.station.n1 }
-        ensures lost { self.new.lost ≡ self.old.lost }
-    {
-        self.lanes.keep(frame.dlci, frame.info);
-    }
-
-    /// As `got_data`, but without the act Got, by a lane of the caller's to read on and a list of the caller's of what is said. It makes
-    /// no copy of the frame, and room where what is said can wait. Refusal: 1 NoMemory, which changes nothing else.
+    /// As `got_data`, but without the act Got, by a draft of the caller's, in which what is said is left. It makes no copy of the frame,
+    /// and room where what is said can wait. Refusal: 1 NoMemory, which changes nothing else.
     pub(crate) fn follow(
         &mut self,
         frame: FrameView<'_>,
-        fork: &mut Lane,
-        said: &mut Vec<Act>,
+        draft: &mut Draft,
         waiting: &mut Waiting,
     ) -> Result<(), CoreError>
         requires short { length frame.info.now ≤ most_info self.old.station.n1 frame.kind }
         requires is_data { brings_data self.old (frame_of frame) ≡ true }
         ensures past { OnOk result (Handles self.old self.new (Got (frame_of frame.entry))
-            (Got (frame_of frame.entry) ∷ map act_of said.new.items)) }
+            (Got (frame_of frame.entry) ∷ map act_of draft.new.said.acts.items)) }
         ensures holds { OnOk result (KeepsHeld self.old self.new (Got (frame_of frame.entry))
-            (Got (frame_of frame.entry) ∷ map act_of said.new.items)) }
-        ensures room { OnOk result (length said.new.items ≤ waiting.new.room) }
+            (Got (frame_of frame.entry) ∷ map act_of draft.new.said.acts.items)) }
+        ensures room { OnOk result (length draft.new.said.acts.items ≤ waiting.new.room) }
         ensures outcomes { waiting.new.outcomes ≡ waiting.old.outcomes }
         ensures lines { waiting.new.lines ≡ waiting.old.lines }
         ensures no_memory { OnErr result (result ≡ Err CoreError.NoMemory) }
@@ -372,15 +309,8 @@ impl Core {
         ensures n1 { self.new.station.n1 ≡ self.old.station.n1 }
         ensures lost { self.new.lost ≡ self.old.lost }
     {
-        said.clear();
-        if run_len(frame.info) == frame.info.len() {
-            self.keep_data(frame);
-            return Ok(());
-        }
-        self.read(frame, fork, said)?;
-        waiting.make_room(said.len())?;
-        self.join_data(frame, fork, said)?;
-        Ok(())
+        draft.said.acts.clear();
+        self.read(frame, draft, &mut waiting.lines)
     }
 
     /// Whether the frame is data of an open connection, and the line isn't lost.

@@ -1,16 +1,17 @@
 //! What is kept of all connections.
-ghost use Rattle.std.specs.Prelude.{◌≡◌, ◌&&◌, ◌++◌, [], ℕ, false, true, is_none, is_some, map, replicate, slice_set, IfOk, OnErr, OnOk};
+ghost use Rattle.std.specs.Prelude.{◌≡◌, ◌≤◌, ◌&&◌, ℕ, false, true, is_none, is_some, length, map, replicate, slice_set, IfOk, OnErr, OnOk};
 ghost use Rattle.std.specs.List.{list_any};
-ghost use Rattle.at_text.specs.Forks.{lines_so_far};
-ghost use Rattle.at_text.specs.Lines.{is_line_end, lines};
-ghost use Rattle.at_text.specs.Reading.{HasRead};
+ghost use Rattle.at_text.specs.Rules.{dialect_of};
 ghost use Rattle.modem_history.specs.Acts.{act_of};
-ghost use Rattle.modem_driver.specs.Forks.{forked_lane, joined, joined_acts, kept_lane};
+ghost use Rattle.modem_driver.specs.Reports.{ReadsAll};
+ghost use Rattle.modem_driver.specs.Settling.{tells_lines};
 ghost use Rattle.modem_driver.specs.Lanes.{begun, lane_in, new_lane, turned};
 
 use crate::lane::Lane;
-use at_text::{CommandLine, TextError};
-use modem_history::Act;
+use crate::machine::line_queue::LineQueue;
+use crate::reports::Reading;
+use crate::settling::Draft;
+use at_text::{CommandLine, Dialect, UrcKind};
 use mux_frame::Dlci;
 use std::alloc::{AllocError, Global};
 use std::marker::Model;
@@ -104,48 +105,37 @@ impl Lanes {
         }
     }
 
-    /// The other becomes a fork of one.
-    pub(crate) fn fork_into(&self, dlci: Dlci, fork: &mut Lane)
-        ensures { fork.new ≡ forked_lane (lane_in self.now dlci.number) }
-    {
-        self.each[usize::from(dlci.number())].fork_into(fork);
-    }
-
-    /// One goes on behind octets none of which ends a line, as its fork would.
-    #[tactic(auto, using(crate::proofs::lines::KeptData::lane_kept))]
-    pub(crate) fn keep(&mut self, dlci: Dlci, octets: &[u8])
-        requires { list_any is_line_end octets.now ≡ false }
-        ensures lanes { self.new ≡ slice_set self.old dlci.number
-            (joined (lane_in self.old dlci.number) (kept_lane (lane_in self.old dlci.number) octets.now)) }
-        ensures none { lines ((lane_in self.old dlci.number).kept ++ octets.now) ≡ [] }
-        ensures before { HasRead (lane_in self.old dlci.number).kept (lane_in self.old dlci.number).kept }
-    {
-        let lane = &mut self.each[usize::from(dlci.number())];
-        let may_hold = self.may_hold || lane.held;
-        lane.reader.keep(octets);
-        self.may_hold = may_hold;
-    }
-
-    /// One goes on as its fork, behind what came before. Says whether a command that was under way there has ended.
-    /// Want of memory changes nothing.
-    pub(crate) fn join(
+    /// Reads octets of one, and says whether a command that was under way there has ended. Want of memory changes nothing.
+    pub(crate) fn read(
         &mut self,
-        dlci: Dlci,
-        fork: &mut Lane,
-        acts: &mut Vec<Act>,
-    ) -> Result<bool, TextError>
-        ensures lanes { OnOk result (
-            self.new ≡ slice_set self.old dlci.number (joined (lane_in self.old dlci.number) fork.old)) }
-        ensures acts { OnOk result (map act_of acts.new.items ≡ joined_acts
-            (lines_so_far (lane_in self.old dlci.number).window) fork.old.window (map act_of acts.old.items)) }
+        reading: Reading,
+        dialect: &Dialect,
+        kinds: &[UrcKind],
+        octets: &[u8],
+        draft: &mut Draft,
+        lines: &mut LineQueue,
+    ) -> Result<bool, AllocError>
+        requires { list_any tells_lines (map act_of draft.old.said.acts.items) ≡ false }
+        ensures lanes { self.new ≡ slice_set self.old reading.dlci.number (lane_in self.new reading.dlci.number) }
+        ensures read { OnOk result (ReadsAll (dialect_of dialect.now) kinds.now reading octets.now (record {
+          kept = (lane_in self.old reading.dlci.number).kept;
+          window = (lane_in self.old reading.dlci.number).window;
+          acts = map act_of draft.old.said.acts.items;
+        }) (record {
+          kept = (lane_in self.new reading.dlci.number).kept;
+          window = (lane_in self.new reading.dlci.number).window;
+          acts = map act_of draft.new.said.acts.items;
+        })) }
+        ensures held { (lane_in self.new reading.dlci.number).held ≡ (lane_in self.old reading.dlci.number).held }
         ensures done { IfOk result (λ done.
-            done ≡ (is_some (lane_in self.old dlci.number).window && is_none fork.old.window)) }
+            done ≡ (is_some (lane_in self.old reading.dlci.number).window && is_none (lane_in self.new reading.dlci.number).window)) }
+        ensures room { OnOk result (length draft.new.said.acts.items ≤ lines.new.room) }
+        ensures lines { lines.new.items ≡ lines.old.items }
         ensures err { OnErr result (self.new ≡ self.old) }
     {
-        let lane = &mut self.each[usize::from(dlci.number())];
-        let done = !lane.window.idle() && fork.window.idle();
-        let may_hold = self.may_hold || fork.held;
-        lane.join(fork, acts)?;
+        let lane = &mut self.each[usize::from(reading.dlci.number())];
+        let may_hold = self.may_hold || lane.held;
+        let done = lane.read(reading, dialect, kinds, octets, draft, lines)?;
         self.may_hold = may_hold;
         Ok(done)
     }

@@ -6,7 +6,7 @@
 //! # Layout
 //!
 //! - The core: `driver` (`Core`), `took`, `got`, `tick`, `backlog`, `going_out` (what it is called with), `hand`, `lane`, `lanes`, `reports`,
-//!   `joining`, `telling`, `written`, `act_list`, `error` (what it keeps and does).
+//!   `settling`, `telling`, `written`, `act_list`, `error` (what it keeps and does).
 //! - `event`, `replaying`, `replaying_by`: replays.
 //! - `machine/`: what session and endpoint share: octets in and out, frames, requests, time, what waits.
 //! - `session/`: turns, polls and ends at a line and a desk; `Offline` at a desk without a line.
@@ -28,7 +28,6 @@ mod event;
 mod going_out;
 mod got;
 mod hand;
-mod joining;
 mod lane;
 mod lanes;
 pub mod laws;
@@ -37,6 +36,7 @@ mod replaying;
 mod replaying_by;
 mod reports;
 mod session;
+mod settling;
 mod telling;
 mod tick;
 mod took;

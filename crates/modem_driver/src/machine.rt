@@ -26,27 +26,24 @@ mod time;
 pub(crate) mod waiting;
 
 use crate::driver::Core;
-use crate::lane::Lane;
 use crate::machine::course::Course;
 use crate::machine::delays::Delays;
 use crate::machine::waiting::Waiting;
 use crate::session::{SessionError, SessionFault};
+use crate::settling::Draft;
 use at_text::{Dialect, UrcKind};
 use line_end::LineEnd;
 use modem_desk::{Outcome, Request, Urc};
-use modem_history::Act;
 use mux_frame::{Dlci, FrameError};
 use std::alloc::Global;
 use std::marker::Model;
 
 /// The core, the end of the line, what waits for a place at the desk, how far it has come on the way to its end, and how
-/// long commands have waited. Beside them a lane on which data is read, and what was said of it: contracts don't see them, since
-/// what is left there is of no use.
+/// long commands have waited. Beside them what data is read with: contracts don't see it, since what is left there is of no use.
 #[derive(Drop)]
 pub(crate) struct Machine {
     pub(crate) core: Core,
-    pub(crate) fork: Lane,
-    pub(crate) said: Vec<Act>,
+    pub(crate) draft: Draft,
     pub(crate) line_end: LineEnd,
     pub(crate) waiting: Waiting,
     pub(crate) course: Course,
@@ -119,8 +116,7 @@ impl Machine {
         };
         Ok(Machine {
             core,
-            fork: Lane::new(alloc),
-            said: Vec::new(alloc),
+            draft: Draft::new(alloc),
             line_end,
             waiting,
             course: Course::GoesOn,

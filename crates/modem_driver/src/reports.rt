@@ -4,12 +4,14 @@ ghost use Rattle.std.specs.List.{Contains, list_any};
 ghost use Rattle.modem_history.specs.Acts.{Act as Happening, act_of};
 ghost use Rattle.at_text.specs.Dialects.{Dialect as Codes};
 ghost use Rattle.at_text.specs.Lines.{is_line_end};
-ghost use Rattle.at_text.specs.OpenWindow.{OpenWindow};
+ghost use Rattle.at_text.specs.InPlace.{Grows};
+ghost use Rattle.at_text.specs.OpenWindow.{OpenWindow, seen_by};
 ghost use Rattle.at_text.specs.Rules.{dialect_of};
 ghost use Rattle.modem_driver.specs.Reports.{done_by, heard_by, said_as, ReportSays, ReadsOctet, ReadsAll};
+ghost use Rattle.modem_driver.specs.Settling.{tells_lines, settled, SaysPlaced, IsUntold};
 
 use crate::machine::course::Asker;
-use at_text::{AnswerLines, Dialect, LineReader, Seen, Text, UrcKind, Window, run_len};
+use at_text::{AnswerLines, Dialect, LineReader, Placed, Text, UrcKind, Window, run_len};
 use modem_desk::{Answer, Outcome, Urc};
 use modem_history::Act;
 use mux_frame::Dlci;
@@ -30,6 +32,14 @@ fn is_heard(kinds: &[UrcKind], kind: UrcKind) -> bool
     kinds.contains(&kind)
 }
 
+/// What is said of a frame while it is read, and whether the answer of the command under way is whole by it. Until the frame is
+/// settled, that answer stands in the window, and the act that tells it has no lines.
+#[derive(Drop)]
+pub(crate) struct Said {
+    pub acts: Vec<Act>,
+    pub whole: bool,
+}
+
 /// A line that no command asked for is announced, where its kind is listened to.
 fn hear(
     reading: Reading,
@@ -38,9 +48,11 @@ fn hear(
     line: &[u8],
     acts: &mut Vec<Act>,
 ) -> Result<(), AllocError>
-    ensures { OnOk result (ReportSays kinds.now reading
+    ensures says { OnOk result (ReportSays kinds.now reading
         (λ listens. heard_by listens reading.dlci.number kind line.now)
         (map act_of acts.old.items) (map act_of acts.new.items)) }
+    ensures untold { OnOk result (list_any tells_lines (map act_of acts.old.items) ≡ false
+        → list_any tells_lines (map act_of acts.new.items) ≡ false) }
 {
     if !is_heard(kinds, kind) {
         return Ok(());
@@ -54,10 +66,29 @@ fn hear(
     Ok(())
 }
 
-/// The answer is whole: its request is told so.
-fn tell_done(reading: Reading, lines: AnswerLines, acts: &mut Vec<Act>) -> Result<(), AllocError>
+/// The same of a line behind an answer that is whole.
+fn hear_behind(
+    reading: Reading,
+    dialect: &Dialect,
+    kinds: &[UrcKind],
+    line: &[u8],
+    acts: &mut Vec<Act>,
+) -> Result<(), AllocError>
+    ensures says { OnOk result (ReportSays kinds.now reading
+        (λ listens. said_as listens reading.dlci.number reading.owner line.now
+        (seen_by (dialect_of dialect.now) None line.now))
+        (map act_of acts.old.items) (map act_of acts.new.items)) }
+{
+    match dialect.unsolicited_of(line) {
+        Some(kind) => hear(reading, kinds, kind, line, acts),
+        None => hear(reading, kinds, UrcKind::Other, line, acts),
+    }
+}
+
+/// The answer is whole: its request is told so. Its lines come later.
+fn tell_whole(reading: Reading, acts: &mut Vec<Act>) -> Result<(), AllocError>
     ensures { OnOk result (map act_of acts.new.items
-        ≡ map act_of acts.old.items ++ done_by reading.owner lines) }
+        ≡ map act_of acts.old.items ++ done_by reading.owner []) }
 {
     let Some(owner) = reading.owner else {
         return Ok(());
@@ -65,28 +96,32 @@ fn tell_done(reading: Reading, lines: AnswerLines, acts: &mut Vec<Act>) -> Resul
     acts.push(Act::Told(Outcome {
         caller: owner.caller,
         number: owner.number,
-        answer: Answer::Done(lines),
+        answer: Answer::Done(AnswerLines::new(reading.alloc)),
     }))?;
     Ok(())
 }
 
-/// A line, and what it is at its place.
+/// A line, and what it is at its place. The condition is that no answer is whole before it.
 fn say(
     reading: Reading,
     kinds: &[UrcKind],
     line: &[u8],
-    seen: Seen,
-    acts: &mut Vec<Act>,
+    placed: Placed,
+    said: &mut Said,
 ) -> Result<(), AllocError>
-    ensures { OnOk result (ReportSays kinds.now reading
-        (λ listens. said_as listens reading.dlci.number reading.owner line.now seen)
-        (map act_of acts.old.items) (map act_of acts.new.items)) }
+    requires { said.old.whole ≡ false }
+    ensures { OnOk result ((window : Option OpenWindow) → SaysPlaced kinds.now reading line.now placed window
+        (map act_of said.old.acts.items) said.new.whole (map act_of said.new.acts.items)) }
 {
-    match seen {
-        Seen::Echo | Seen::Kept => Ok(()),
-        Seen::Done(lines) => tell_done(reading, lines, acts),
-        Seen::Unsolicited(kind) => hear(reading, kinds, kind, line, acts),
-        Seen::Other => hear(reading, kinds, UrcKind::Other, line, acts),
+    match placed {
+        Placed::Echo | Placed::Kept => Ok(()),
+        Placed::Whole => {
+            tell_whole(reading, &mut said.acts)?;
+            said.whole = true;
+            Ok(())
+        }
+        Placed::Unsolicited(kind) => hear(reading, kinds, kind, line, &mut said.acts),
+        Placed::Other => hear(reading, kinds, UrcKind::Other, line, &mut said.acts),
     }
 }
 
@@ -98,25 +133,26 @@ fn read_octet(
     octet: u8,
     reader: &mut LineReader,
     window: &mut Window,
-    acts: &mut Vec<Act>,
+    said: &mut Said,
 ) -> Result<(), AllocError>
-    ensures { OnOk result (ReadsOctet (dialect_of dialect.now) kinds.now reading octet (record {
-      kept = reader.old;
-      window = window.old;
-      acts = map act_of acts.old.items;
-    }) (record {
-      kept = reader.new;
-      window = window.new;
-      acts = map act_of acts.new.items;
-    })) }
+    ensures read { OnOk result (IsUntold said.old.whole (map act_of said.old.acts.items)
+        → ReadsOctet (dialect_of dialect.now) kinds.now reading octet
+        (settled reader.old window.old said.old.whole (map act_of said.old.acts.items))
+        (settled reader.new window.new said.new.whole (map act_of said.new.acts.items))) }
+    ensures untold { OnOk result (IsUntold said.old.whole (map act_of said.old.acts.items)
+        → IsUntold said.new.whole (map act_of said.new.acts.items)) }
+    ensures grows { Grows window.old window.new }
 {
     let Some(line) = reader.push(octet) else {
         return Ok(());
     };
-    let Ok(seen) = window.see_by(dialect, line.text) else {
+    if said.whole {
+        return hear_behind(reading, dialect, kinds, line.text, &mut said.acts);
+    }
+    let Ok(placed) = window.place_by(dialect, line.text) else {
         return Err(AllocError);
     };
-    say(reading, kinds, line.text, seen, acts)
+    say(reading, kinds, line.text, placed, said)
 }
 
 /// Reads octets none of which ends a line. Where there are none, the reader isn't touched.
@@ -139,31 +175,28 @@ fn read_run(
     octets: &[u8],
     reader: &mut LineReader,
     window: &mut Window,
-    acts: &mut Vec<Act>,
+    said: &mut Said,
 ) -> Result<usize, AllocError>
     ensures within { IfOk result (λ count. count ≤ length octets.now) }
     ensures some { IfOk result (λ count. 0 < length octets.now → 0 < count) }
-    ensures read { IfOk result (λ count. ReadsAll (dialect_of dialect.now) kinds.now reading (take count octets.now) (record {
-      kept = reader.old;
-      window = window.old;
-      acts = map act_of acts.old.items;
-    }) (record {
-      kept = reader.new;
-      window = window.new;
-      acts = map act_of acts.new.items;
-    })) }
+    ensures read { IfOk result (λ count. IsUntold said.old.whole (map act_of said.old.acts.items)
+        → ReadsAll (dialect_of dialect.now) kinds.now reading (take count octets.now)
+        (settled reader.old window.old said.old.whole (map act_of said.old.acts.items))
+        (settled reader.new window.new said.new.whole (map act_of said.new.acts.items))) }
+    ensures untold { OnOk result (IsUntold said.old.whole (map act_of said.old.acts.items)
+        → IsUntold said.new.whole (map act_of said.new.acts.items)) }
+    ensures grows { Grows window.old window.new }
 {
     let end = run_len(octets);
     keep_run(reader, &octets[..end]);
     let Some(octet) = octets.get(end) else {
         return Ok(end);
     };
-    read_octet(reading, dialect, kinds, *octet, reader, window, acts)?;
+    read_octet(reading, dialect, kinds, *octet, reader, window, said)?;
     Ok(end + 1)
 }
 
-/// Reads the octets that came.
-#[tactic(auto, using(crate::proofs::lines::ReportedLines::reads_first))]
+/// Reads the octets that came, in place.
 pub(crate) fn read_octets(
     reading: Reading,
     dialect: &Dialect,
@@ -171,17 +204,13 @@ pub(crate) fn read_octets(
     octets: &[u8],
     reader: &mut LineReader,
     window: &mut Window,
-    acts: &mut Vec<Act>,
+    said: &mut Said,
 ) -> Result<(), AllocError>
-    ensures { OnOk result (ReadsAll (dialect_of dialect.now) kinds.now reading octets.now (record {
-      kept = reader.old;
-      window = window.old;
-      acts = map act_of acts.old.items;
-    }) (record {
-      kept = reader.new;
-      window = window.new;
-      acts = map act_of acts.new.items;
-    })) }
+    requires { IsUntold said.old.whole (map act_of said.old.acts.items) }
+    ensures read { OnOk result (ReadsAll (dialect_of dialect.now) kinds.now reading octets.now
+        (settled reader.old window.old said.old.whole (map act_of said.old.acts.items))
+        (settled reader.new window.new said.new.whole (map act_of said.new.acts.items))) }
+    ensures grows { Grows window.old window.new }
 {
     let mut place = 0;
     while place < octets.len() {
@@ -192,7 +221,7 @@ pub(crate) fn read_octets(
             &octets[place..],
             reader,
             window,
-            acts,
+            said,
         )?;
     }
     Ok(())

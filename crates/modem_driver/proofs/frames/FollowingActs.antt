@@ -2,15 +2,12 @@
 use Rattle.std.specs.Prelude.{suc, ◌≡◌, ℕ, ◌≤◌, Bool, true, false, List, [], ◌∷◌, length, map, refl, Option, None, Some, if◌then◌else◌}
 use Rattle.std.proofs.Common.{ap, arith}
 use Rattle.std.proofs.lemmas.List.{length-map}
-use Rattle.at_text.specs.declared.answer.AnswerLine.{AnswerLine}
-use Rattle.at_text.specs.OpenWindow.{OpenWindow}
 use Rattle.mux_frame.specs.Frames.{Frame}
 use Rattle.modem_history.specs.declared.act.Act as code
 use Rattle.modem_history.specs.Acts.{Act, Took, Got, Sent, Told, Heard, Tick, Lost, Held, Freed, Given, act_of}
 use Rattle.modem_history.specs.Turns.{lines_heard}
 use Rattle.modem_driver.specs.declared.machine.course.Asker.{Asker}
 use Rattle.modem_driver.specs.Endings.{is_answered}
-use Rattle.modem_driver.specs.Forks.{joined_acts, led, led_first, tells_lines}
 use Rattle.modem_driver.specs.WaitingLists.{WaitingLists, Keeps}
 
 -- that the frame came answers no Stop
@@ -41,25 +38,3 @@ few_heard acts room enough =
     let few = few_lines (map act_of acts) in
     let count : length (map act_of acts) ≡ length acts = length-map acts act_of in
     omega (arith, few, count, enough)
-
--- as many acts stand behind the lines so far
-led_by_first : (ls : List AnswerLine) (a : Act) (acts : List Act) (b : Bool) → length (led_first ls acts) ≡ length acts → length (if b then led ls a ∷ acts else a ∷ led_first ls acts) ≡ suc (length acts)
-led_by_first ls a acts true later = refl
-led_by_first ls a acts false later = ap suc later
-
-led_many : (ls : List AnswerLine) (acts : List Act) → length (led_first ls acts) ≡ length acts
-led_many ls [] = refl
-led_many ls (a ∷ acts) = led_by_first ls a acts (tells_lines a) (led_many ls acts)
-
-pub joined_many : (ls : List AnswerLine) (w : Option OpenWindow) (acts : List Act) → length (joined_acts ls w acts) ≡ length acts
-joined_many ls None acts = led_many ls acts
-joined_many ls (Some o) acts = refl
-
--- room for so many acts is room for those that are joined
-pub joined_room : (ls : List AnswerLine) (w : Option OpenWindow) (read joined : List code.Act) (room : ℕ) → map act_of joined ≡ joined_acts ls w (map act_of read) → length read ≤ room → length joined ≤ room
-joined_room ls w read joined room e enough =
-    let many = joined_many ls w (map act_of read) in
-    let before : length (map act_of read) ≡ length read = length-map read act_of in
-    let behind : length (map act_of joined) ≡ length joined = length-map joined act_of in
-    let same : length (map act_of joined) ≡ length (joined_acts ls w (map act_of read)) = ap length e in
-    omega (arith, many, before, behind, same, enough)

@@ -9,14 +9,13 @@ use Rattle.at_text.specs.declared.window.Seen as line_is
 use Rattle.at_text.specs.Dialects.{Dialect}
 use Rattle.at_text.specs.Lines.{lines, kept_run, ReadsOn}
 use Rattle.at_text.specs.OpenWindow.{OpenWindow, seen_by, after_line}
-use Rattle.at_text.specs.Forks.{forked}
 use Rattle.modem_driver.specs.declared.machine.course.Asker.{Asker}
 use Rattle.modem_driver.specs.declared.reports.Reading.{Reading}
 use Rattle.mux_frame.specs.Frames.{Frame}
 use Rattle.modem_history.specs.Acts.{Act, Got, Heard}
 use Rattle.modem_history.specs.Calls.{first_on}
 use Rattle.modem_driver.specs.Cores.{dialect_in, Core, lane_at}
-use Rattle.modem_driver.specs.Handing.{ReadsApart}
+use Rattle.modem_driver.specs.Handing.{ReadsFrame}
 use Rattle.modem_driver.specs.Endings.{asker_of}
 use Rattle.modem_driver.specs.Reports.{Listens, heard_by, done_by, said_as, said_lines, Read, after_all, read_on, read_each, ReadsOctet, ReadsAll, ReportSays}
 
@@ -175,18 +174,13 @@ left_over n place all inside few =
 
 -- ## What the calls say
 
-pub quiet_said : (kinds : List UrcKind) (r : Reading) (line : List ℕ) (seen : line_is.Seen) (xs : List Act) → (seen ≡ line_is.TheVariants.Echo) ⊎ (seen ≡ line_is.TheVariants.Kept) → ReportSays kinds r (λ listens. said_as listens r.dlci.number r.owner line seen) xs xs
-quiet_said kinds r line seen xs (inl e) = subst (λ (s : line_is.Seen). ReportSays kinds r (λ listens. said_as listens r.dlci.number r.owner line s) xs xs) (sym e) (nothing_said kinds r xs)
-quiet_said kinds r line seen xs (inr e) = subst (λ (s : line_is.Seen). ReportSays kinds r (λ listens. said_as listens r.dlci.number r.owner line s) xs xs) (sym e) (nothing_said kinds r xs)
-
 pub on_ok : {A E : Type 0} (P Q : Type 0) (r : Result A E) → (P → Q) → OnOk r P → OnOk r Q
 on_ok P Q (Ok a) f p = f p
 on_ok P Q (Err e) f p = tt
 
-pub done_said : (kinds : List UrcKind) (r : Reading) (line : List ℕ) (seen : line_is.Seen) (ls : List AnswerLine) (old new : List Act) → seen ≡ line_is.TheVariants.Done ls → new ≡ old ++ done_by r.owner ls
-    → ReportSays kinds r (λ listens. said_as listens r.dlci.number r.owner line seen) old new
-done_said kinds r line seen ls old new e g =
-    subst (λ (s : line_is.Seen). ReportSays kinds r (λ listens. said_as listens r.dlci.number r.owner line s) old new) (sym e) (said_so kinds r (done_by r.owner ls) old new g)
+pub on_both : {A E : Type 0} (P Q R : Type 0) (r : Result A E) → (P → Q → R) → OnOk r P → OnOk r Q → OnOk r R
+on_both P Q R (Ok a) f p q = f p q
+on_both P Q R (Err e) f p q = tt
 
 pub all_dropped : (n : ℕ) (xs : List ℕ) → length xs ≤ n → drop n xs ≡ []
 all_dropped zero [] h = refl
@@ -196,25 +190,34 @@ all_dropped (suc n) (x ∷ xs) h = all_dropped n xs (let e : suc (length xs) ≤
 
 -- ## What was said before
 
-behind : Act → Read → Read
-behind a r = record { kept = r.kept; window = r.window; acts = a ∷ r.acts }
+led : List Act → Read → Read
+led before r = record { kept = r.kept; window = r.window; acts = before ++ r.acts }
 
--- what is said goes behind an act of before
-each_behind : (dialect : Dialect) (listens : UrcKind → Bool) (d : ℕ) (owner : Option Asker) (a : Act) (r : Read) (octets : List ℕ) → read_each dialect listens d owner (behind a r) octets ≡ behind a (read_each dialect listens d owner r octets)
-unfolding behind
-each_behind dialect listens d owner a r [] = refl
-each_behind dialect listens d owner a r (c ∷ octets) = each_behind dialect listens d owner a (read_on dialect listens d owner r (c ∷ [])) octets
+on_led : (dialect : Dialect) (listens : UrcKind → Bool) (d : ℕ) (owner : Option Asker) (before : List Act) (r : Read) (octets : List ℕ) → read_on dialect listens d owner (led before r) octets ≡ led before (read_on dialect listens d owner r octets)
+unfolding led
+on_led dialect listens d owner before r octets =
+    ap (λ (acts : List Act). let v : Read = record { kept = kept_run (r.kept ++ octets); window = after_all dialect r.window (lines (r.kept ++ octets)); acts = acts } in v)
+    (append_assoc before r.acts (said_lines dialect listens d owner r.window (lines (r.kept ++ octets))))
 
--- a frame is read from what is kept of its connection, on a fork of its window
-pub reads_apart : (v : Core) (f : Frame) (kinds : List UrcKind) (r : Reading) (first last : Read) (held : Bool) → kinds ≡ v.kinds → r.dlci.number ≡ f.dlci → r.owner ≡ option_map asker_of (first_on f.dlci v.hand)
-    → first ≡ record { kept = (lane_at v f.dlci).kept; window = forked (lane_at v f.dlci).window; acts = [] } → ReadsAll (dialect_in v) kinds r f.info first last
-    → ReadsApart v f (record { kept = last.kept; window = last.window; held = held }) (Got f ∷ last.acts)
-unfolding ReadsAll ReadsApart behind
-reads_apart v f kinds r first last held k d o e reads listens h =
-    let start : Read = record { kept = (lane_at v f.dlci).kept; window = forked (lane_at v f.dlci).window; acts = [] } in
+-- what is said goes behind acts of before
+each_led : (dialect : Dialect) (listens : UrcKind → Bool) (d : ℕ) (owner : Option Asker) (before : List Act) (r : Read) (octets : List ℕ) → read_each dialect listens d owner (led before r) octets ≡ led before (read_each dialect listens d owner r octets)
+each_led dialect listens d owner before r [] = refl
+each_led dialect listens d owner before r (c ∷ octets) =
+    ap (λ (v : Read). read_each dialect listens d owner v octets) (on_led dialect listens d owner before r (c ∷ []))
+    ∙ each_led dialect listens d owner before (read_on dialect listens d owner r (c ∷ [])) octets
+
+-- a frame is read from what is kept of its connection
+pub reads_frame : (v : Core) (f : Frame) (kinds : List UrcKind) (r : Reading) (acts before : List Act) (last : Read) (held : Bool) → kinds ≡ v.kinds → r.dlci.number ≡ f.dlci → r.owner ≡ option_map asker_of (first_on f.dlci v.hand)
+    → ReadsAll (dialect_in v) kinds r f.info (record { kept = (lane_at v f.dlci).kept; window = (lane_at v f.dlci).window; acts = acts }) last → before ++ acts ≡ Got f ∷ []
+    → ReadsFrame v f (record { kept = last.kept; window = last.window; held = held }) (before ++ last.acts)
+unfolding ReadsAll ReadsFrame led
+reads_frame v f kinds r acts before last held k d o reads came listens h =
+    let start : Read = record { kept = (lane_at v f.dlci).kept; window = (lane_at v f.dlci).window; acts = acts } in
     let owner = option_map asker_of (first_on f.dlci v.hand) in
     let same : last ≡ read_each (dialect_in v) listens f.dlci owner start f.info
     = reads listens (subst (λ (x : List UrcKind). Listens listens x) (sym k) h)
-    ∙ (ap (λ (n : ℕ). read_each (dialect_in v) listens n r.owner first f.info) d
-    ∙ (ap (λ (x : Option Asker). read_each (dialect_in v) listens f.dlci x first f.info) o ∙ ap (λ (x : Read). read_each (dialect_in v) listens f.dlci owner x f.info) e)) in
-    ap (behind (Got f)) same ∙ sym (each_behind (dialect_in v) listens f.dlci owner (Got f) start f.info)
+    ∙ (ap (λ (n : ℕ). read_each (dialect_in v) listens n r.owner start f.info) d
+    ∙ ap (λ (x : Option Asker). read_each (dialect_in v) listens f.dlci x start f.info) o) in
+    ap (led before) same
+    ∙ (sym (each_led (dialect_in v) listens f.dlci owner before start f.info)
+    ∙ ap (λ (xs : List Act). let w : Read = record { kept = (lane_at v f.dlci).kept; window = (lane_at v f.dlci).window; acts = xs } in read_each (dialect_in v) listens f.dlci owner w f.info) came)

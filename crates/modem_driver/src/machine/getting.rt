@@ -36,14 +36,11 @@ impl Machine {
             return Ok(Some(true));
         }
         let stop = self.core.stop();
-        let Ok(()) = self
-            .core
-            .follow(frame, &mut self.fork, &mut self.said, &mut self.waiting)
-        else {
+        let Ok(()) = self.core.follow(frame, &mut self.draft, &mut self.waiting) else {
             return Err(SessionFault::NoMemory);
         };
-        self.course.note(stop, self.said.as_slice());
-        self.waiting.keep(&mut self.said);
+        self.course.note(stop, self.draft.said.acts.as_slice());
+        self.waiting.keep(&mut self.draft.said.acts);
         self.line_end.advance();
         Ok(Some(true))
     }

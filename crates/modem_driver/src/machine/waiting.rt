@@ -97,6 +97,9 @@ impl Waiting {
     pub(crate) fn keep(&mut self, acts: &mut Vec<Act>)
         ensures { Keeps self.old self.new (map act_of acts.old.items) }
     {
+        if acts.is_empty() {
+            return;
+        }
         for act in acts.drain(..) {
             self.put(act);
         }

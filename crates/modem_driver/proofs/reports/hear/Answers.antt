@@ -7,11 +7,11 @@ use Rattle.modem_history.specs.Acts.{Heard, act_of}
 use Rattle.modem_driver.proofs.lines.ReportedLines.{unheard, heard}
 use Rattle.modem_driver.proofs.reports.hear.Goals as goal
 
-pub returns-then-not-is_heard : goal.returns-then-not-is_heard
-returns-then-not-is_heard c = unheard c.args.kinds.now c.args.reading c.args.kind c.args.line.now (map act_of c.args.acts.now.items) c.is_heard.result c.if-not-is_heard.true c.is_heard.ensures
+pub returns-then-not-is_heard-clause-says : goal.returns-then-not-is_heard-clause-says
+returns-then-not-is_heard-clause-says c = unheard c.args.kinds.now c.args.reading c.args.kind c.args.line.now (map act_of c.args.acts.now.items) c.is_heard.result c.if-not-is_heard.true c.is_heard.ensures
 
-pub returns : goal.returns
-returns c =
+pub returns-clause-says : goal.returns-clause-says
+returns-clause-says c =
     let text : c.in_ok-text.text.items ≡ c.args.line.now = c.in_ok-text.ensures.items_if_clones_equal (λ x y e. e) in
     let more : map act_of c.push.new.self.items ≡ map act_of c.args.acts.now.items ++ Heard c.args.kind c.args.reading.dlci.number c.args.line.now ∷ []
     = ap (map act_of) c.in_ok-push.ensures.items

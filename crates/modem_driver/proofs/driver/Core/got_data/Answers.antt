@@ -1,36 +1,21 @@
 -- Data of an open connection is handled.
-use Rattle.std.proofs.Common.{◌≡◌, List, ◌∷◌, ◌∙◌, ap, sym, subst}
+use Rattle.std.proofs.Common.{◌≡◌, List, [], ◌∷◌, ◌++◌, ◌∙◌, ap}
 use Rattle.std.specs.Prelude.{map}
 use Rattle.mux_frame.specs.Frames.{Frame, frame_of}
-use Rattle.at_text.specs.Forks.{lines_so_far}
-use Rattle.modem_history.specs.Acts.{Act, Got, act_of}
-use Rattle.modem_driver.specs.Forks.{joined_acts}
-use Rattle.modem_driver.specs.Cores.{Handles, lane_at}
-use Rattle.modem_driver.specs.Holding.{KeepsHeld}
+use Rattle.modem_history.specs.declared.act.Act as code
+use Rattle.modem_history.specs.Acts.{Got, act_of}
 use Rattle.modem_driver.proofs.driver.Core.got_data.Goals as goal
 
 pub returns-clause-past : goal.returns-clause-past
 returns-clause-past c =
-    let f = frame_of c.args.frame in
-    let v = c.args.self.now in
-    let fork = c.read.new.fork in
-    let more = map act_of c.read.new.acts.items in
-    let acts = map act_of c.join_data.new.acts.items in
-    let came : map act_of c.insert.new.self.items ≡ Got f ∷ more
-    = ap (map act_of) c.in_ok-insert.ensures.items ∙ ap (λ (g : Frame). Got g ∷ more) c.in_ok-to_buf.ensures in
-    let behind : acts ≡ joined_acts (lines_so_far (lane_at v f.dlci).window) fork.window (Got f ∷ more)
-    = c.in_ok-join_data.ensures.acts ∙ ap (joined_acts (lines_so_far (lane_at v f.dlci).window) fork.window) came in
-    subst (λ (xs : List Act). Handles v c.join_data.new.self (Got f) xs) (sym behind) (c.in_ok-join_data.ensures.past (Got f ∷ more) c.in_ok-read.ensures.read)
+    let came : map act_of c.push.new.self.items ≡ Got (frame_of c.args.frame) ∷ []
+    = ap (map act_of) c.in_ok-push.ensures.items
+    ∙ (ap (λ (acts : List code.Act). map act_of (acts ++ code.TheVariants.Got c.in_ok-to_buf.field-0 ∷ [])) c.new-draft.ensures ∙ ap (λ (g : Frame). Got g ∷ []) c.in_ok-to_buf.ensures) in
+    c.in_ok-read.ensures.past [] came
 
 pub returns-clause-holds : goal.returns-clause-holds
 returns-clause-holds c =
-    let f = frame_of c.args.frame in
-    let v = c.args.self.now in
-    let fork = c.read.new.fork in
-    let more = map act_of c.read.new.acts.items in
-    let acts = map act_of c.join_data.new.acts.items in
-    let came : map act_of c.insert.new.self.items ≡ Got f ∷ more
-    = ap (map act_of) c.in_ok-insert.ensures.items ∙ ap (λ (g : Frame). Got g ∷ more) c.in_ok-to_buf.ensures in
-    let behind : acts ≡ joined_acts (lines_so_far (lane_at v f.dlci).window) fork.window (Got f ∷ more)
-    = c.in_ok-join_data.ensures.acts ∙ ap (joined_acts (lines_so_far (lane_at v f.dlci).window) fork.window) came in
-    subst (λ (xs : List Act). KeepsHeld v c.join_data.new.self (Got f) xs) (sym behind) (c.in_ok-join_data.ensures.holds (Got f ∷ more) c.in_ok-read.ensures.read)
+    let came : map act_of c.push.new.self.items ≡ Got (frame_of c.args.frame) ∷ []
+    = ap (map act_of) c.in_ok-push.ensures.items
+    ∙ (ap (λ (acts : List code.Act). map act_of (acts ++ code.TheVariants.Got c.in_ok-to_buf.field-0 ∷ [])) c.new-draft.ensures ∙ ap (λ (g : Frame). Got g ∷ []) c.in_ok-to_buf.ensures) in
+    c.in_ok-read.ensures.holds [] came

@@ -1,51 +1,77 @@
--- The information is read on a fork of what is kept of its connection.
-use Rattle.std.proofs.Common.{◌≡◌, ℕ, List, [], ◌∙◌, ap, refl, subst}
-use Rattle.std.specs.Prelude.{Option, option_map, map}
-use Rattle.at_text.specs.Rules.{Rules, dialect_of}
-use Rattle.at_text.specs.OpenWindow.{OpenWindow}
-use Rattle.at_text.specs.Forks.{forked}
+-- A frame of data that was read is handled.
+use Rattle.std.proofs.Common.{◌≡◌, ◌∙◌, ap, refl, subst, true, List, [], ◌∷◌, ◌++◌}
+use Rattle.std.specs.Prelude.{option_map, map}
+use Rattle.std.proofs.lemmas.Bool.{and_parts}
 use Rattle.mux_frame.specs.Frames.{frame_of}
-use Rattle.modem_desk.specs.declared.request.Request.{Request}
-use Rattle.modem_driver.specs.declared.reports.Reading.{Reading}
-use Rattle.modem_history.specs.Acts.{Act, act_of}
+use Rattle.modem_history.specs.Acts.{Act, Got, act_of}
 use Rattle.modem_history.specs.Calls.{first_on}
-use Rattle.modem_driver.specs.Lanes.{Lane}
-use Rattle.modem_driver.specs.Forks.{forked_lane}
-use Rattle.modem_driver.specs.Cores.{Core, lane_at}
+use Rattle.modem_driver.specs.declared.reports.Reading.{Reading}
+use Rattle.modem_driver.specs.Cores.{Core, Handles, lane_at}
 use Rattle.modem_driver.specs.Endings.{asker_of}
-use Rattle.modem_driver.specs.Reports.{Read, ReadsAll}
-use Rattle.modem_driver.proofs.lines.ReportedLines.{reads_apart}
+use Rattle.modem_driver.specs.Handing.{ReadsFrame}
+use Rattle.modem_driver.specs.Holding.{KeepsHeld}
+use Rattle.modem_driver.specs.Lanes.{Lane}
+use Rattle.modem_driver.specs.Receiving.{HasRoom, brings_data}
+use Rattle.modem_driver.specs.Reports.{Read}
+use Rattle.modem_driver.proofs.outgoing.CoreAfterFrame.{sound}
+use Rattle.modem_driver.proofs.frames.OtherFrames.{live_in, read_in}
+use Rattle.modem_driver.proofs.frames.DataStays.{data_stays, noted_in, noted_truly, data_room}
+use Rattle.modem_driver.proofs.frames.DataFrames.{DataCame, data_handles}
+use Rattle.modem_driver.proofs.frames.ReadFrames.{HasLane, data_came}
+use Rattle.modem_driver.proofs.holds.HoldsAndFrames.{data_holds}
+use Rattle.modem_driver.proofs.lines.ReportedLines.{reads_frame}
 use Rattle.modem_driver.proofs.driver.Core.read.Goals as goal
 
-pub returns-clause-held : goal.returns-clause-held
-returns-clause-held c =
+pub returns-clause-past : goal.returns-clause-past
+returns-clause-past c = λ lead is_first.
+    let k = c.self.inside in
     let f = frame_of c.args.frame in
-    let lane : record { kept = c.fork.inside.reader; window = c.fork.inside.window; held = c.fork.inside.held } ≡ forked_lane (lane_at c.args.self.now f.dlci)
-    = c.fork.view_is ∙ (c.fork_into.ensures ∙ ap (λ (v : Core). forked_lane (lane_at v f.dlci)) c.self.view_is) in
-    ap (λ (x : Lane). x.held) lane
+    let v : Core = record { station = k.station; lanes = k.lanes; hand = k.hand; rules = k.dialect; kinds = k.kinds.items; lost = k.lost } in
+    let mid : Core = record v { lanes = c.read.new.self } in
+    let new = c.go_on.new.self in
+    let lane = lane_at mid f.dlci in
+    let more = map act_of c.read.new.draft.said.acts.items in
+    let acts = lead ++ more in
+    let is_data : brings_data v f ≡ true = ap (λ (x : Core). brings_data x f) c.self.view_is ∙ c.requires.is_data in
+    let r : Reading = record { alloc = k.alloc; dlci = c.args.frame.dlci; owner = c.first_asker.result } in
+    let last : Read = record { kept = lane.kept; window = lane.window; acts = more } in
+    let reads : ReadsFrame v f lane acts
+    = reads_frame v f c.as_slice.result.now r (map act_of c.args.draft.now.said.acts.items) lead last lane.held c.as_slice.ensures.value refl (c.first_asker.ensures ∙ ap (option_map asker_of) c.from_first.ensures.first) c.in_ok-done.ensures.read is_first in
+    let quiet = (and_parts _ _ (read_in v f is_data)).1 in
+    let m : HasLane v mid f.dlci lane = ap (λ (ls : List Lane). let x : Core = record v { lanes = ls } in x) c.read.ensures.lanes in
+    let came : DataCame v new f (noted_in k.station f) lane k.station acts
+    = data_came v mid new f lane acts c.in_ok-done.done (noted_in k.station f) k.station (live_in v f is_data) (read_in v f is_data) c.args.frame.dlci.in_range
+    reads m c.in_ok-done.ensures.done (data_stays k.station f c.self.invariant.role_is quiet) (noted_truly k.station f c.args.frame.dlci.in_range) c.go_on.ensures in
+    subst (λ (x : Core). Handles x new (Got f) acts) c.self.view_is (data_handles v new f (noted_in k.station f) lane k.station acts (sound v k.n1 c.self.invariant) came)
 
-pub returns-clause-read : goal.returns-clause-read
-returns-clause-read c =
-    let old : Core = c.args.self.now in
+pub returns-clause-holds : goal.returns-clause-holds
+returns-clause-holds c = λ lead is_first.
+    let k = c.self.inside in
     let f = frame_of c.args.frame in
-    let reading : Reading = record { alloc = c.self.inside.alloc; dlci = c.args.frame.dlci; owner = c.first_asker.result } in
-    let first : Read = record { kept = c.fork.inside.reader; window = c.fork.inside.window; acts = map act_of c.args.acts.now.items } in
-    let last : Read = record { kept = c.read_octets.new.reader; window = c.read_octets.new.window; acts = map act_of c.read_octets.new.acts.items } in
-    let given : ReadsAll (dialect_of c.self.inside.dialect) c.as_slice.result.now reading f.info first last = c.in_ok-read_octets.ensures in
-    let rules : c.self.inside.dialect ≡ old.rules = ap (λ (v : Core). v.rules) c.self.view_is in
-    let reads : ReadsAll (dialect_of old.rules) c.as_slice.result.now reading f.info first last
-    = subst (λ (x : Rules). ReadsAll (dialect_of x) c.as_slice.result.now reading f.info first last) rules given in
-    let lane : record { kept = c.fork.inside.reader; window = c.fork.inside.window; held = c.fork.inside.held } ≡ forked_lane (lane_at old f.dlci)
-    = c.fork.view_is ∙ (c.fork_into.ensures ∙ ap (λ (v : Core). forked_lane (lane_at v f.dlci)) c.self.view_is) in
-    let kept : c.fork.inside.reader ≡ (lane_at old f.dlci).kept = ap (λ (x : Lane). x.kept) lane in
-    let window : c.fork.inside.window ≡ forked (lane_at old f.dlci).window = ap (λ (x : Lane). x.window) lane in
-    let acts : map act_of c.args.acts.now.items ≡ [] = ap (map act_of) c.requires.none in
-    let first_is : first ≡ record { kept = (lane_at old f.dlci).kept; window = forked (lane_at old f.dlci).window; acts = [] }
-    = ap (λ (x : List ℕ). let v : Read = record { kept = x; window = c.fork.inside.window; acts = map act_of c.args.acts.now.items } in v) kept
-    ∙ (ap (λ (x : Option OpenWindow). let v : Read = record { kept = (lane_at old f.dlci).kept; window = x; acts = map act_of c.args.acts.now.items } in v) window
-    ∙ ap (λ (x : List Act). let v : Read = record { kept = (lane_at old f.dlci).kept; window = forked (lane_at old f.dlci).window; acts = x } in v) acts) in
-    let owner : c.first_asker.result ≡ option_map asker_of (first_on f.dlci old.hand)
-    = c.first_asker.ensures ∙ (ap (option_map asker_of) c.from_first.ensures.first ∙ ap (λ (q : List Request). option_map asker_of (first_on f.dlci q)) (ap (λ (v : Core). v.hand) c.self.view_is)) in
-    let kinds : c.as_slice.result.now ≡ old.kinds
-    = c.as_slice.ensures.value ∙ ap (λ (v : Core). v.kinds) c.self.view_is in
-    reads_apart old f c.as_slice.result.now reading first last c.fork.inside.held kinds refl owner first_is reads
+    let v : Core = record { station = k.station; lanes = k.lanes; hand = k.hand; rules = k.dialect; kinds = k.kinds.items; lost = k.lost } in
+    let mid : Core = record v { lanes = c.read.new.self } in
+    let new = c.go_on.new.self in
+    let lane = lane_at mid f.dlci in
+    let more = map act_of c.read.new.draft.said.acts.items in
+    let acts = lead ++ more in
+    let is_data : brings_data v f ≡ true = ap (λ (x : Core). brings_data x f) c.self.view_is ∙ c.requires.is_data in
+    let r : Reading = record { alloc = k.alloc; dlci = c.args.frame.dlci; owner = c.first_asker.result } in
+    let last : Read = record { kept = lane.kept; window = lane.window; acts = more } in
+    let reads : ReadsFrame v f lane acts
+    = reads_frame v f c.as_slice.result.now r (map act_of c.args.draft.now.said.acts.items) lead last lane.held c.as_slice.ensures.value refl (c.first_asker.ensures ∙ ap (option_map asker_of) c.from_first.ensures.first) c.in_ok-done.ensures.read is_first in
+    let quiet = (and_parts _ _ (read_in v f is_data)).1 in
+    let m : HasLane v mid f.dlci lane = ap (λ (ls : List Lane). let x : Core = record v { lanes = ls } in x) c.read.ensures.lanes in
+    let came : DataCame v new f (noted_in k.station f) lane k.station acts
+    = data_came v mid new f lane acts c.in_ok-done.done (noted_in k.station f) k.station (live_in v f is_data) (read_in v f is_data) c.args.frame.dlci.in_range
+    reads m c.in_ok-done.ensures.done (data_stays k.station f c.self.invariant.role_is quiet) (noted_truly k.station f c.args.frame.dlci.in_range) c.go_on.ensures in
+    let past : Handles v new (Got f) acts = data_handles v new f (noted_in k.station f) lane k.station acts (sound v k.n1 c.self.invariant) came in
+    subst (λ (x : Core). KeepsHeld x new (Got f) acts) c.self.view_is (data_holds v new f lane k.station _ acts quiet c.read.ensures.held came.ends past)
+
+pub returns-clause-has_room : goal.returns-clause-has_room
+returns-clause-has_room c =
+    let k = c.self.inside in
+    let f = frame_of c.args.frame in
+    let v : Core = record { station = k.station; lanes = k.lanes; hand = k.hand; rules = k.dialect; kinds = k.kinds.items; lost = k.lost } in
+    let is_data : brings_data v f ≡ true = ap (λ (x : Core). brings_data x f) c.self.view_is ∙ c.requires.is_data in
+    subst (λ (x : Core). HasRoom x (Got f) true) c.self.view_is
+    (data_room v f (sound v k.n1 c.self.invariant) (live_in v f is_data) c.args.frame.dlci.in_range (and_parts _ _ (read_in v f is_data)).1)

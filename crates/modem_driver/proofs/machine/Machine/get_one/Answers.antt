@@ -40,7 +40,7 @@ returns-clause-gets c =
     let same = c.peek.follows.holds-at-none in
     let passed = c.advance-2.ensures.rest ∙ ap (λ (l : LineEnd). record l { deframer = fed }) same in
     let stop = option_map asker_of (find is_stop k.core.hand) in
-    let said = c.follow.new.said.items in
+    let said = c.follow.new.draft.said.acts.items in
     let more = map act_of said in
     let acts = Got f ∷ more in
     let course : c.note.new.self ≡ course_after k.course (is_answered stop acts) = noted k.course c.note.new.self c.stop-stop.result stop c.as_slice.result.now said c.note.ensures c.stop-stop.ensures c.as_slice.ensures.value ∙ ap (course_after k.course) (sym (came_answers stop f more)) in
