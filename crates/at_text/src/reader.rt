@@ -13,6 +13,9 @@ use std::marker::Model;
 /// How many octets of a line are kept.
 const LINE_LEN: usize = 512;
 
+/// From so many octets on, they are searched many at a time.
+const FAR: usize = 32;
+
 /// A line without its line end, cut to its first 512 octets (V.250, 5.7).
 #[derive(Clone, Copy)]
 pub struct Line<'a> {
@@ -26,10 +29,42 @@ pub fn run_len(octets: &[u8]) -> usize
     ensures before { list_any is_line_end (take result octets.now) ≡ false }
     ensures end { result < length octets.now → is_line_end (slice_index octets.now result) ≡ true }
 {
+    let low = near_text_len(octets);
+    low + end_in(&octets[low..])
+}
+
+/// The same, by a search of all octets.
+fn end_in(octets: &[u8]) -> usize
+    ensures within { result ≤ length octets.now }
+    ensures before { list_any is_line_end (take result octets.now) ≡ false }
+    ensures end { result < length octets.now → is_line_end (slice_index octets.now result) ≡ true }
+{
     if matches!(octets.first(), Some(b'\r' | b'\n')) {
         return 0;
     }
     memchr2(b'\r', b'\n', octets).unwrap_or(octets.len())
+}
+
+/// How many of the first octets are known to be no line end; none where octets are many.
+fn near_text_len(octets: &[u8]) -> usize
+    ensures within { result ≤ length octets.now }
+    ensures before { list_any is_line_end (take result octets.now) ≡ false }
+{
+    if octets.len() >= FAR {
+        return 0;
+    }
+    text_len(octets)
+}
+
+/// How many octets stand before the first that isn't above CR. No line end is above it.
+fn text_len(octets: &[u8]) -> usize
+    ensures within { result ≤ length octets.now }
+    ensures before { list_any is_line_end (take result octets.now) ≡ false }
+{
+    octets
+        .iter()
+        .position(|octet| *octet <= b'\r')
+        .unwrap_or(octets.len())
 }
 
 /// Reads lines. Contracts see what it keeps of the line that hasn't ended yet.

@@ -1,8 +1,10 @@
 -- What an octet does to the run that is kept.
-use Rattle.std.specs.Prelude.{◌≡◌, ℕ, ◌+◌, ◌<◌, ◌≤◌, min, take, Bool, true, false, List, [], ◌∷◌, ◌++◌, ◌||◌, zero, suc, Option, None, Some, unwrap_or, Result, Ok, Err, IsOk, OnOk, length, refl, if◌then◌else◌}
+use Rattle.std.specs.Prelude.{◌≡◌, ℕ, ◌+◌, ◌<◌, ◌≤◌, ◌-◌, nat_le, not, min, take, drop, Bool, true, false, List, [], ◌∷◌, ◌++◌, ◌||◌, zero, suc, Option, None, Some, unwrap_or, Result, Ok, Err, IsOk, OnOk, length, refl, if◌then◌else◌}
 use Rattle.std.proofs.Common.{arith, sym, ap, ◌∙◌}
-use Rattle.std.proofs.Math.Seq.{take-append-add}
-use Rattle.std.proofs.lemmas.List.{append-nil, take_min, length-take, take_all, take-append-le, length-append}
+use Rattle.std.specs.List.{prefix_len}
+use Rattle.std.proofs.lemmas.Grind.{common_steps}
+use Rattle.std.proofs.Math.Seq.{take-append-add, take-add}
+use Rattle.std.proofs.lemmas.List.{append-nil, take_min, length-take, take_all, take-append-le, length-append, length-drop}
 use Rattle.std.proofs.lemmas.List.Folds.{list_any-append}
 use Rattle.memchr.specs.Find.{IsFirstByte, Passes, is_byte2}
 use Rattle.at_text.specs.Lines.{is_line_end, cut, lines, kept_run}
@@ -96,3 +98,28 @@ none_first (c ∷ octets) (suc n) none l =
 pub free_before : (octets : List ℕ) (r : Option ℕ) (n : ℕ) → IsFirstByte (is_byte2 13 10) octets r → n ≡ unwrap_or r (length octets) → has_end (take n octets) ≡ false
 free_before octets None n none e = none_first octets n (λ k l. none k (omega arith) (let m : k < length octets = rw (sym e) l in m)) (omega (arith, e))
 free_before octets (Some k) n at e = rw e (none_first octets k (λ j l. at.0.before j (omega arith) l) (let h = at.0.high in omega (arith, h)))
+
+-- ## Where a text ends
+
+above : (c : ℕ) → nat_le c 13 ≡ false → is_line_end c ≡ false
+above c e = grind (arith, common_steps)
+
+-- no line end stands before the first octet that isn't above CR
+pub low_first : (octets : List ℕ) → has_end (take (prefix_len (λ c. not (nat_le c 13)) octets) octets) ≡ false
+low_first [] = refl
+low_first (c ∷ octets) = by_test (nat_le c 13) refl (low_first octets)
+  where
+    by_test : (b : Bool) → nat_le c 13 ≡ b → has_end (take (prefix_len (λ c. not (nat_le c 13)) octets) octets) ≡ false → has_end (take (if not b then 1 + prefix_len (λ c. not (nat_le c 13)) octets else 0) (c ∷ octets)) ≡ false
+    by_test true e later = refl
+    by_test false e later =
+        let n = prefix_len (λ c. not (nat_le c 13)) octets in
+        let next : 1 + n ≡ suc n = omega arith in
+        ap (λ (k : ℕ). has_end (take k (c ∷ octets))) next ∙ rw (above c e) later
+
+-- none in either part, none in both
+pub none_joined : (octets : List ℕ) (low more : ℕ) → low ≤ length octets → has_end (take low octets) ≡ false → has_end (take more (take (length octets - low) (drop low octets))) ≡ false → has_end (take (low + more) octets) ≡ false
+none_joined octets low more inside none later =
+    let rest : take (length octets - low) (drop low octets) ≡ drop low octets = take_all (length octets - low) (drop low octets) (rw length-drop (omega arith)) in
+    ap has_end (take-add low more octets)
+    ∙ (list_any-append is_line_end (take low octets) (take more (drop low octets))
+    ∙ rw none (ap (λ (xs : List ℕ). has_end (take more xs)) (sym rest) ∙ later))

@@ -1,6 +1,6 @@
--- No line end stands before the first.
-use Rattle.at_text.proofs.lines.KeptOctets.{free_before}
+-- No line end stands in either part.
+use Rattle.at_text.proofs.lines.KeptOctets.{none_joined}
 use Rattle.at_text.proofs.reader.run_len.Goals as goal
 
 pub returns-clause-before : goal.returns-clause-before
-returns-clause-before c = free_before c.args.octets.now c.memchr2.result c.unwrap_or.result c.memchr2.ensures c.unwrap_or.ensures
+returns-clause-before c = none_joined c.args.octets.now c.near_text_len-low.result c.end_in.result c.near_text_len-low.ensures.within c.near_text_len-low.ensures.before c.end_in.ensures.before
