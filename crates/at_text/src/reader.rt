@@ -29,6 +29,9 @@ pub fn run_len(octets: &[u8]) -> usize
     ensures before { list_any is_line_end (take result octets.now) ≡ false }
     ensures end { result < length octets.now → is_line_end (slice_index octets.now result) ≡ true }
 {
+    if starts_with_end(octets) {
+        return 0;
+    }
     let low = near_text_len(octets);
     low + end_in(&octets[low..])
 }
@@ -39,10 +42,17 @@ fn end_in(octets: &[u8]) -> usize
     ensures before { list_any is_line_end (take result octets.now) ≡ false }
     ensures end { result < length octets.now → is_line_end (slice_index octets.now result) ≡ true }
 {
-    if matches!(octets.first(), Some(b'\r' | b'\n')) {
+    if starts_with_end(octets) {
         return 0;
     }
     memchr2(b'\r', b'\n', octets).unwrap_or(octets.len())
+}
+
+/// Whether the first octet is a line end.
+fn starts_with_end(octets: &[u8]) -> bool
+    ensures { result ≡ true → (0 < length octets.now) × (is_line_end (slice_index octets.now 0) ≡ true) }
+{
+    matches!(octets.first(), Some(b'\r' | b'\n'))
 }
 
 /// How many of the first octets are known to be no line end; none where octets are many.
