@@ -287,8 +287,8 @@ impl Core {
         Ok(said.acts)
     }
 
-    /// As `got_data`, but without the act Got, by a draft of the caller's, in which what is said is left. It makes no copy of the frame,
-    /// and room where what is said can wait. Refusal: 1 NoMemory, which changes nothing else.
+    /// As `got_data`, but without the act Got, by a draft of the caller's, in which what is said is left. It makes no copy of the
+    /// frame, and room where what is said can wait. Refusal: 1 NoMemory, which changes nothing else.
     pub(crate) fn follow(
         &mut self,
         frame: FrameView<'_>,

@@ -2,7 +2,7 @@
 ghost use Rattle.std.specs.Prelude.{◌≡◌, ◌≤◌, ◌&&◌, [], false, length, map, position, is_some, is_none, IfOk, OnOk, OnErr};
 ghost use Rattle.std.specs.List.{list_any};
 ghost use Rattle.modem_history.specs.Acts.{act_of};
-ghost use Rattle.at_text.specs.InPlace.{Grows, back_at};
+ghost use Rattle.at_text.specs.InPlace.{Grows};
 ghost use Rattle.at_text.specs.Rules.{dialect_of};
 ghost use Rattle.modem_driver.specs.Reports.{ReadsAll};
 ghost use Rattle.modem_driver.specs.Settling.{tells_lines, filled, filled_answer, filled_first, settled, settled_acts, settled_lane, IsUntold};

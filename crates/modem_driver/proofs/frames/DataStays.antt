@@ -1,5 +1,5 @@
 -- A station stays as it is where data comes: it fits each past with that behind it.
-use Rattle.std.specs.Prelude.{◌≡◌, ℕ, ◌<◌, ◌==◌, ◌&&◌, not, Bool, true, false, List, [], ◌∷◌, refl, Option, None, Some, Ok, if◌then◌else◌}
+use Rattle.std.specs.Prelude.{◌≡◌, ℕ, ◌<◌, Bool, true, false, List, [], ◌∷◌, refl, Option, None, Some, Ok, if◌then◌else◌}
 use Rattle.std.specs.List.{list_any}
 use Rattle.std.proofs.Common.{◌∙◌, ap, sym, subst, arith}
 use Rattle.mux_frame.specs.Frames.{Frame}
@@ -17,7 +17,7 @@ use Rattle.mux_station.specs.Tables.{by_frame, have_room, octets_of}
 use Rattle.mux_station.specs.Noting.{noted_of}
 use Rattle.mux_station.specs.Sending.{StationSetting, Waiting, is_loss, station_view, called_frames, sent_after, probe_of, zero_stays}
 use Rattle.mux_station.specs.Stations.{Station, channel_at, setting_of, seen_in}
-use Rattle.mux_station.specs.Fitting.{ChannelFits, StationFits, StationHandles}
+use Rattle.mux_station.specs.Fitting.{StationFits, StationHandles}
 use Rattle.mux_station.proofs.states.StatesAfterActs.{untouched}
 use Rattle.mux_station.proofs.user_calls.CallFrames.{all_untouched, probe_needs}
 use Rattle.mux_station.proofs.user_calls.OpenAndClose.{stop_in_past}

@@ -1,6 +1,6 @@
 -- The acts that follow on a frame's coming.
-use Rattle.std.specs.Prelude.{suc, ◌≡◌, ℕ, ◌≤◌, Bool, true, false, List, [], ◌∷◌, length, map, refl, Option, None, Some, if◌then◌else◌}
-use Rattle.std.proofs.Common.{ap, arith}
+use Rattle.std.specs.Prelude.{◌≡◌, ℕ, ◌≤◌, List, [], ◌∷◌, length, map, refl, Option, None, Some}
+use Rattle.std.proofs.Common.{arith}
 use Rattle.std.proofs.lemmas.List.{length-map}
 use Rattle.mux_frame.specs.Frames.{Frame}
 use Rattle.modem_history.specs.declared.act.Act as code

@@ -1,11 +1,9 @@
 -- What is said of lines, whatever is listened to.
-use Rattle.std.specs.Prelude.{zero, suc, ◌≡◌, ℕ, ◌+◌, ◌≤◌, ◌↔◌, Bool, true, false, List, [], ◌∷◌, ◌++◌, ◌-◌, length, take, drop, refl, Option, option_map, Result, Ok, Err, OnOk, ◌⊎◌, if◌then◌else◌}
+use Rattle.std.specs.Prelude.{zero, suc, ◌≡◌, ℕ, ◌+◌, ◌≤◌, ◌↔◌, Bool, true, false, List, [], ◌∷◌, ◌++◌, ◌-◌, length, take, drop, refl, Option, option_map, Result, Ok, Err, OnOk, if◌then◌else◌}
 use Rattle.std.specs.List.{Contains}
-use Rattle.std.proofs.Common.{ap, sym, ◌∙◌, subst, arith, append-nil, append_assoc, length-append, inl, inr}
+use Rattle.std.proofs.Common.{ap, sym, ◌∙◌, subst, arith, append-nil, append_assoc, length-append}
 use Rattle.std.proofs.lemmas.List.{drop-drop, length-drop, take_all, take-append-drop}
-use Rattle.at_text.specs.declared.answer.AnswerLine.{AnswerLine}
 use Rattle.at_text.specs.declared.unsolicited.UrcKind.{UrcKind}
-use Rattle.at_text.specs.declared.window.Seen as line_is
 use Rattle.at_text.specs.Dialects.{Dialect}
 use Rattle.at_text.specs.Lines.{lines, kept_run, ReadsOn}
 use Rattle.at_text.specs.OpenWindow.{OpenWindow, seen_by, after_line}
@@ -17,7 +15,7 @@ use Rattle.modem_history.specs.Calls.{first_on}
 use Rattle.modem_driver.specs.Cores.{dialect_in, Core, lane_at}
 use Rattle.modem_driver.specs.Handing.{ReadsFrame}
 use Rattle.modem_driver.specs.Endings.{asker_of}
-use Rattle.modem_driver.specs.Reports.{Listens, heard_by, done_by, said_as, said_lines, Read, after_all, read_on, read_each, ReadsOctet, ReadsAll, ReportSays}
+use Rattle.modem_driver.specs.Reports.{Listens, heard_by, said_as, said_lines, Read, after_all, read_on, read_each, ReadsOctet, ReadsAll, ReportSays}
 
 pub nothing_said : (kinds : List UrcKind) (r : Reading) (xs : List Act) → ReportSays kinds r (λ listens. []) xs xs
 unfolding ReportSays

@@ -1,9 +1,8 @@
 -- An answer that is whole stands in its window until the frame is settled: what is said meanwhile.
-use Rattle.std.specs.Prelude.{suc, ◌≡◌, ℕ, ◌+◌, ◌||◌, ◌&&◌, Bool, true, false, List, [], ◌∷◌, ◌++◌, length, map, refl, Option, None, Some, position, slice_index_or, slice_set, ◌≤◌, is_some, is_none, ◌⊎◌, ◌↔◌, if◌then◌else◌}
+use Rattle.std.specs.Prelude.{suc, ◌≡◌, ℕ, ◌+◌, ◌||◌, ◌&&◌, Bool, true, false, List, [], ◌∷◌, ◌++◌, length, map, refl, Option, None, Some, position, slice_index_or, slice_set, ◌≤◌, is_some, is_none, ◌⊎◌, if◌then◌else◌}
 use Rattle.std.specs.List.{position_from, list_any}
 use Rattle.std.proofs.Common.{ap, sym, ◌∙◌, subst, arith, inl, inr}
 use Rattle.std.proofs.lemmas.Iterator.Adapters.{position_from-zero}
-use Rattle.std.proofs.lemmas.List.Folds.{list_any-append}
 use Rattle.std.proofs.lemmas.List.{append_assoc, length-map}
 use Rattle.at_text.specs.declared.answer.AnswerLine.{AnswerLine}
 use Rattle.at_text.specs.declared.unsolicited.UrcKind.{UrcKind}
@@ -15,13 +14,13 @@ use Rattle.at_text.specs.Dialects.{Dialect, is_solicited}
 use Rattle.at_text.specs.Seeing.{by_kind}
 use Rattle.at_text.specs.OpenWindow.{OpenWindow, seen_by, after_line}
 use Rattle.at_text.specs.Forks.{lines_so_far}
-use Rattle.at_text.specs.InPlace.{Grows, GrowsOn, said_where, left_where}
+use Rattle.at_text.specs.InPlace.{Grows, GrowsOn}
 use Rattle.modem_history.specs.declared.act.Act as code
 use Rattle.modem_history.specs.Acts.{act_of, Act, Heard}
 use Rattle.modem_driver.specs.declared.machine.course.Asker.{Asker}
 use Rattle.modem_driver.specs.declared.reports.Reading.{Reading}
-use Rattle.modem_driver.specs.Reports.{Listens, done_by, heard_by, said_as, ReportSays}
-use Rattle.modem_driver.specs.Settling.{tells_lines, filled, filled_first, settled_window, settled_acts, IsUntold, SaysPlaced}
+use Rattle.modem_driver.specs.Reports.{done_by, heard_by, said_as, ReportSays}
+use Rattle.modem_driver.specs.Settling.{tells_lines, filled, filled_first, settled_window, settled_acts, SaysPlaced}
 use Rattle.modem_driver.proofs.lines.ReportedLines.{nothing_said, said_so}
 
 -- ## Acts of which the first that tells an answer gets its lines

@@ -1,5 +1,5 @@
 -- None so far is a command on the connection.
-use Rattle.std.proofs.Common.{◌≡◌, ◌≤◌, take, length, false}
+use Rattle.std.proofs.Common.{◌≡◌, take, false}
 use Rattle.std.specs.List.{list_any}
 use Rattle.modem_history.specs.Requests.{commands_on}
 use Rattle.modem_driver.proofs.hand.command_from.Given as goal

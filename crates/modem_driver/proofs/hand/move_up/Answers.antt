@@ -1,6 +1,6 @@
 -- Each moves up in its turn.
-use Rattle.std.proofs.Common.{◌≡◌, ◌++◌, ◌+◌, ◌∙◌, ℕ, suc, take, map, length, sym, subst, arith}
-use Rattle.std.specs.Prelude.{drop, slice_set, slice_index_or}
+use Rattle.std.proofs.Common.{◌≡◌, ◌++◌, ◌+◌, ◌∙◌, ℕ, suc, take, map, sym, subst, arith}
+use Rattle.std.specs.Prelude.{drop, slice_set}
 use Rattle.modem_driver.specs.Hands.{moved_up}
 use Rattle.modem_driver.proofs.lists.CommandPlaces.{moved_next, moved_all}
 use Rattle.modem_driver.proofs.hand.move_up.Goals as goal

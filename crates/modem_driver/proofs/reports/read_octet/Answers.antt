@@ -1,12 +1,11 @@
 -- An octet ends a line or none.
-use Rattle.std.proofs.Common.{◌≡◌, sym, subst, refl, ◌∙◌, true, false, Bool}
-use Rattle.std.specs.Prelude.{map, None}
+use Rattle.std.proofs.Common.{sym, subst, refl, ◌∙◌, true, false, Bool}
+use Rattle.std.specs.Prelude.{map}
 use Rattle.at_text.specs.Rules.{dialect_of}
 use Rattle.at_text.specs.declared.window.Seen as line_is
-use Rattle.at_text.specs.OpenWindow.{seen_by}
 use Rattle.at_text.proofs.windows.PlacedLines.{grown_none}
 use Rattle.modem_history.specs.Acts.{act_of}
-use Rattle.modem_driver.specs.Reports.{Read, ReadsOctet, ReportSays, said_as}
+use Rattle.modem_driver.specs.Reports.{ReadsOctet, ReportSays, said_as}
 use Rattle.modem_driver.specs.Settling.{settled, settled_acts}
 use Rattle.modem_driver.proofs.lines.ReportedLines.{octet_ends, octet_none, on_ok}
 use Rattle.modem_driver.proofs.lines.WholeAnswers.{behind_says, none_after}

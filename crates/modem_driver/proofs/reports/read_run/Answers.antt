@@ -1,5 +1,5 @@
 -- A run is kept, and the octet behind it ends a line.
-use Rattle.std.proofs.Common.{◌≡◌, ◌++◌, ◌∷◌, [], ◌+◌, take, add-one, refl}
+use Rattle.std.proofs.Common.{◌≡◌, ◌++◌, ◌∷◌, [], ◌+◌, take, add-one}
 use Rattle.std.specs.Prelude.{map}
 use Rattle.std.proofs.Math.Seq.{take-suc}
 use Rattle.at_text.specs.Rules.{dialect_of}

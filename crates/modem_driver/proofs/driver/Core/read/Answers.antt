@@ -1,10 +1,9 @@
 -- A frame of data that was read is handled.
-use Rattle.std.proofs.Common.{◌≡◌, ◌∙◌, ap, refl, subst, true, List, [], ◌∷◌, ◌++◌}
+use Rattle.std.proofs.Common.{◌≡◌, ◌∙◌, ap, refl, subst, true, List, ◌++◌}
 use Rattle.std.specs.Prelude.{option_map, map}
 use Rattle.std.proofs.lemmas.Bool.{and_parts}
 use Rattle.mux_frame.specs.Frames.{frame_of}
-use Rattle.modem_history.specs.Acts.{Act, Got, act_of}
-use Rattle.modem_history.specs.Calls.{first_on}
+use Rattle.modem_history.specs.Acts.{Got, act_of}
 use Rattle.modem_driver.specs.declared.reports.Reading.{Reading}
 use Rattle.modem_driver.specs.Cores.{Core, Handles, lane_at}
 use Rattle.modem_driver.specs.Endings.{asker_of}

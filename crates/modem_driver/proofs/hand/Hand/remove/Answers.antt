@@ -1,5 +1,5 @@
 -- Those behind it move up.
-use Rattle.std.proofs.Common.{◌≤◌, ◌<◌, List, length, sym, subst, arith}
+use Rattle.std.proofs.Common.{◌<◌, List, length, sym, subst, arith}
 use Rattle.modem_desk.specs.declared.request.Request.{Request}
 use Rattle.modem_driver.proofs.lists.CommandPlaces.{kept_out}
 use Rattle.modem_driver.proofs.hand.Hand.remove.Goals as goal

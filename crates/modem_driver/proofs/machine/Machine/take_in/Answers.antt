@@ -1,8 +1,7 @@
 -- The octets behind those taken came.
-use Rattle.std.proofs.Common.{◌≡◌, ◌≤◌, ◌-◌, ℕ, List, length, take, drop, sym, subst, arith}
+use Rattle.std.proofs.Common.{◌≡◌, ◌≤◌, ◌-◌, ℕ, List, length, take, drop, subst, arith}
 use Rattle.std.proofs.lemmas.List.{length-drop, take_all}
-use Rattle.modem_driver.specs.EndpointSteps.{FeedsFrom, TakesFrom}
-use Rattle.modem_driver.specs.SessionStates.{Machine}
+use Rattle.modem_driver.specs.EndpointSteps.{FeedsFrom}
 use Rattle.modem_driver.proofs.endpoints.TakenOctets.{takes_handled, takes_more}
 use Rattle.modem_driver.proofs.machine.Machine.take_in.Goals as goal
 
