@@ -27,3 +27,4 @@ pub use error::DataError;
 pub use lane::MOST_TO_GO;
 pub use pipe::{Pipe, Reading};
 pub use relay::{Input, Relay};
+pub use switch::is_connect;

@@ -90,8 +90,8 @@ fn cut_at(octets: &[u8], lines: usize, from: usize) -> Cut
     }
 }
 
-/// Whether the line says that data follows.
-fn is_connect(line: &[u8]) -> bool
+/// Whether a line says that data follows: CONNECT, alone or before a blank and a text (V.250, 6.3.1; 27.007, 10.1.12).
+pub fn is_connect(line: &[u8]) -> bool
     ensures { result ≡ is_connect line.now }
 {
     line == b"CONNECT".as_slice() || line.starts_with(b"CONNECT ")

@@ -25,6 +25,7 @@ use Rattle.modem_sim.specs.declared.words.Domain.TheVariants.{Packet, Evolved}
 use Rattle.modem_sim.specs.declared.words.Form.TheVariants.{Operators}
 use Rattle.modem_sim.specs.declared.words.Word.{Word}
 use Rattle.modem_sim.specs.declared.words.Word.TheVariants.{Reset, Echo, Identity, Manufacturer, Product, Revision, Serial, Subscriber, Capabilities, Functionality, FunctionalityQuery, FunctionalityForms, RegForms, Report, ReportQuery, ReportForms, OperFormat, ContextForms, Activate, ActivityQuery, ActivityForms, Addresses, AddressForms, Dial, SetCharset, CharsetQuery, CharsetForms, LockForms, LockQuery, Unlock, Forms, ErrorsQuery, MultiplexerQuery}
+use Rattle.modem_data.specs.Switching.{is_connect}
 use Rattle.modem_sim.specs.CommandLines.{begins_with_at, commands_in}
 use Rattle.modem_sim.specs.Contexts.{active_after, is_active, is_defined, names, with_context}
 use Rattle.modem_sim.specs.SettingTexts.{activity_text, address_text, charset_text, context_forms, form_texts, lock_text, named_oper_text, numbers_text}
@@ -455,14 +456,10 @@ announced_as false true s = all_reports s true
 abbrev pub announced : ModemState → ModemState → List (List ℕ)
 announced before s = announced_as (is_registered before.lock before.oper) (is_registered s.lock s.oper) s
 
--- a call is put through by its CONNECT: what stands behind that on its connection is data (27.007, 10.1.12)
-abbrev pub puts_through : List ℕ → Bool
-puts_through code = bytes_eq code (codes "CONNECT")
-
--- the code with which a line ended puts a call through
+-- the code with which a line ended puts a call through: what stands behind its CONNECT on its connection is data (27.007, 10.1.12)
 abbrev pub is_through : Option (List ℕ) → Bool
 is_through None = false
-is_through (Some code) = puts_through code
+is_through (Some code) = is_connect code
 
 -- the reports that stand behind an answer; behind a CONNECT they are held, and are due with the next answer
 abbrev pub reports_now : (through : Bool) → List (List ℕ) → List AnswerLine
@@ -525,7 +522,7 @@ own_answer s line = if is_too_long line then None else own_lines s.own line
 
 -- a line of them is a CONNECT
 abbrev pub any_through : List AnswerLine → Bool
-any_through lines = list_any (λ (l : AnswerLine). puts_through l.text) lines
+any_through lines = list_any (λ (l : AnswerLine). is_connect l.text) lines
 
 -- an answer of its own is all that is said, and nothing is done; behind it come the lines of earlier ones that waited for this line
 abbrev pub own_said : List OwnLine → ModemState → Step

@@ -378,14 +378,14 @@ ReportsAreHeld =
           record (to_line (codes "AT+QGPS=1") []) {
             lines = later_line 0 (codes "OK") ∷ later_line 1 (codes "+QIND: 1") ∷ later_line 3 (codes "+QIND: 3") ∷ [];
           }
-          ∷ to_line (codes "ATD*98#") (codes "CONNECT" ∷ []) ∷ [];
+          ∷ to_line (codes "ATD*98#") (codes "CONNECT 150000000" ∷ []) ∷ [];
     })
     (codes "AT+CREG=1;+CGDCONT=1,\"IP\",\"a\";+COPS=2" ∷ codes "AT+QGPS=1" ∷ codes "AT+COPS=0;+CGACT=1,1;D*99#" ∷ codes "ATD*98#" ∷ codes "AT"
     ∷ codes "AT" ∷ [])
     ≡ (codes "OK" ∷ codes "+CREG: 0" ∷ [])
     ∷ ok
     ∷ (codes "CONNECT" ∷ [])
-    ∷ (codes "CONNECT" ∷ [])
+    ∷ (codes "CONNECT 150000000" ∷ [])
     ∷ (codes "OK" ∷ codes "+CREG: 1" ∷ codes "+QIND: 1" ∷ codes "+QIND: 3" ∷ [])
     ∷ ok
     ∷ []

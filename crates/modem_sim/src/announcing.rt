@@ -1,27 +1,21 @@
 //! Reports of a registration, behind an answer or behind the next one.
 ghost use Rattle.std.specs.Prelude.{◌≡◌, ◌++◌, map, OnOk};
 ghost use Rattle.std.specs.List.{list_any};
-ghost use Rattle.modem_sim.specs.Steps.{all_reports, announced, any_through, line_of, puts_through, report_texts, reports_held, reports_now, status_text};
+ghost use Rattle.modem_sim.specs.Steps.{all_reports, announced, any_through, line_of, report_texts, reports_held, reports_now, status_text};
 
 use crate::answers::push_line;
 use crate::state::ModemState;
 use crate::wording::status_text;
 use at_text::AnswerLine;
+use modem_data::is_connect;
 use std::alloc::{AllocError, Global};
 
-/// Whether a result code puts a call through: what stands behind it on its connection is data (27.007, 10.1.12).
-pub(crate) fn puts_through(code: &[u8]) -> bool
-    ensures { result ≡ puts_through code.now }
-{
-    code == b"CONNECT".as_slice()
-}
-
-/// Whether one of these lines does.
+/// Whether behind one of these lines on its connection data follows.
 pub(crate) fn any_through(lines: &[AnswerLine]) -> bool
     ensures { result ≡ any_through lines.now }
 {
     for line in lines {
-        if puts_through(line.text.as_slice()) {
+        if is_connect(line.text.as_slice()) {
             return true;
         }
     }

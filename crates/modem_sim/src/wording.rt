@@ -7,7 +7,7 @@ ghost use Rattle.modem_sim.specs.SettingTexts.{context_forms, lock_text, named_o
 ghost use Rattle.modem_sim.specs.Steps.{domain_name, line_commands, line_of, line_through, nothing_ran, ran_command, ran_next, ran_other, ran_word, refusal_as, registration_text, setting_told, status_text, through_by, told_as, word_code, word_refusal, word_told, worded_by, worded_step};
 
 use crate::activity::{numbers_line, push_activity, push_contexts_named, push_whole_contexts};
-use crate::announcing::{puts_through, report};
+use crate::announcing::report;
 use crate::answers::{error_text, push_line, push_quoted, push_told};
 use crate::command_lines::commands_in;
 use crate::error::SimError;
@@ -16,6 +16,7 @@ use crate::values::{errors_line, push_forms};
 use crate::words::{Charset, Domain, Word, word_of};
 use at_cmds::{Command, OperChoice};
 use at_text::{AnswerLine, Text};
+use modem_data::is_connect;
 use std::alloc::{AllocError, Global};
 use std::marker::Model;
 
@@ -388,7 +389,7 @@ impl Run {
         ensures { result ≡ is_through self.now.ended }
     {
         match &self.ended {
-            Some(code) => puts_through(code.as_slice()),
+            Some(code) => is_connect(code.as_slice()),
             None => false,
         }
     }

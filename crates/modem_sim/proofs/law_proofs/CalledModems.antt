@@ -7,7 +7,8 @@ use Rattle.modem_sim.specs.declared.state.ModemState.{ModemState}
 use Rattle.modem_sim.specs.declared.state.Words.{Words}
 use Rattle.modem_sim.specs.declared.words.Word.TheVariants.{Dial}
 use Rattle.modem_sim.specs.Reading.{command_of}
-use Rattle.modem_sim.specs.Steps.{announced_as, answered_by, dialled, is_registered, line_of, lock_error, nothing_ran, ran_next, ran_other, is_through, puts_through, ran_text, ran_unless, ran_word, reports_held, step, with_late, Ran, Step}
+use Rattle.modem_data.specs.Switching.{is_connect}
+use Rattle.modem_sim.specs.Steps.{announced_as, answered_by, dialled, is_registered, line_of, lock_error, nothing_ran, ran_next, ran_other, is_through, ran_text, ran_unless, ran_word, reports_held, step, with_late, Ran, Step}
 use Rattle.modem_sim.specs.WordLaws.{AnswersCalls, EndsAtCalls, HoldsBehindCalls, IsCall}
 use Rattle.modem_sim.proofs.law_proofs.WordedModems.{late_by, none_late, whole_line}
 
@@ -84,7 +85,7 @@ answers_calls s w line text cid some ready short own none divided is =
     whole_line s line w some short own
     ∙ ap (late_by s) divided
     ∙ ap by (call_ran s w text cid some ready is)
-    ∙ called_alone (puts_through (dialled cid s)) s cid none
+    ∙ called_alone (is_connect (dialled cid s)) s cid none
 
 -- ## Behind a CONNECT
 

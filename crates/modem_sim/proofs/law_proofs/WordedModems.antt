@@ -12,7 +12,8 @@ use Rattle.modem_sim.specs.declared.state.Words.{Words}
 use Rattle.at_cmds.specs.Cme.{cme_text}
 use Rattle.modem_sim.specs.OwnAnswers.{said_later, said_now, waits_on}
 use Rattle.modem_sim.specs.Reading.{is_attention, command_of}
-use Rattle.modem_sim.specs.Steps.{after_command, after_refusal, announced, answered_by, divided_by, is_through, is_too_long, line_commands, line_of, nothing_ran, own_answer, obeyed, obeyed_unless, puts_through, Ran, ran_command, ran_text, lock_error, radio_error, refusal_as, refusal_of, refused_by, settled, standard_step, step, Step, told_as, told_texts, through_by, with_late, worded_by}
+use Rattle.modem_data.specs.Switching.{is_connect}
+use Rattle.modem_sim.specs.Steps.{after_command, after_refusal, announced, answered_by, divided_by, is_through, is_too_long, line_commands, line_of, nothing_ran, own_answer, obeyed, obeyed_unless, Ran, ran_command, ran_text, lock_error, radio_error, refusal_as, refusal_of, refused_by, settled, standard_step, step, Step, told_as, told_texts, through_by, with_late, worded_by}
 use Rattle.modem_sim.specs.StateTexts.{oper_text}
 use Rattle.modem_sim.specs.SettingTexts.{named_oper_text}
 use Rattle.modem_sim.specs.WordLaws.{AnswersAsStandard, IsAsStandard, bare}
@@ -130,7 +131,7 @@ worded_of o s c = answered_by false s (ran_command o (nothing_ran s) c)
 
 -- no error puts a call through
 error_stays : (bare numbered : Bool) (number : ℕ)
-    → puts_through (if bare then codes "ERROR" else if numbered then codes "+CME ERROR: " ++ decimal number else codes "+CME ERROR: " ++ unwrap_or (cme_text number) []) ≡ false
+    → is_connect (if bare then codes "ERROR" else if numbered then codes "+CME ERROR: " ++ decimal number else codes "+CME ERROR: " ++ unwrap_or (cme_text number) []) ≡ false
 error_stays true numbered number = refl
 error_stays false true number = refl
 error_stays false false number = refl
