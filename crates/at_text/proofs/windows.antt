@@ -1,5 +1,4 @@
--- Windows: answers, forks, and that no line is lost.
+-- Windows: answers, lines in place, and that no line is lost.
 pub mod AnswerWindows
-pub mod WindowForks
 pub mod AllLines
 pub mod PlacedLines

@@ -8,7 +8,11 @@ use Rattle.at_text.specs.declared.window.Seen.TheVariants as seen
 use Rattle.at_text.specs.declared.window.WindowMark.{WindowMark}
 use Rattle.at_text.specs.Dialects.{Dialect, is_solicited}
 use Rattle.at_text.specs.OpenWindow.{OpenWindow, is_echo, with_line, seen_by}
-use Rattle.at_text.specs.Forks.{lines_so_far}
+
+-- the lines that the answer has so far
+abbrev pub lines_so_far : Option OpenWindow → List AnswerLine
+lines_so_far None = []
+lines_so_far (Some o) = o.lines
 
 -- what a line is, while an answer stays in its window
 abbrev pub placed_as : Seen → Placed

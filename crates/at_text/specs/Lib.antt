@@ -16,7 +16,6 @@ pub mod AnswerParts
 pub mod Windows
 pub mod Seeing
 pub mod OpenWindow
-pub mod Forks
 pub mod InPlace
 pub mod Whole
 pub mod Placing

@@ -95,37 +95,6 @@ impl AnswerLines {
         Ok(())
     }
 
-    /// Moves its lines to the front of `lines`, and keeps the memory that these had. Want of memory leaves both as they were.
-    pub(crate) fn lead(&mut self, lines: &mut AnswerLines) -> Result<(), AllocError>
-        ensures lines { OnOk result (lines.new ≡ self.old ++ lines.old) }
-        ensures left { OnOk result (self.new ≡ []) }
-        ensures err { OnErr result (self.new ≡ self.old) }
-        ensures same { OnErr result (lines.new ≡ lines.old) }
-    {
-        if self.len() == 0 {
-            return Ok(());
-        }
-        self.append(lines)?;
-        mem::swap(self, lines);
-        Ok(())
-    }
-
-    /// Moves these lines behind its own. Want of memory leaves both as they were.
-    fn append(&mut self, lines: &mut AnswerLines) -> Result<(), AllocError>
-        ensures ok { OnOk result (self.new ≡ self.old ++ lines.old) }
-        ensures left { OnOk result (lines.new ≡ []) }
-        ensures err { OnErr result (self.new ≡ self.old) }
-        ensures same { OnErr result (lines.new ≡ lines.old) }
-    {
-        make_room(&mut self.octets, lines.octets.len(), FIRST_OCTETS)?;
-        make_room(&mut self.ends, lines.ends.len(), FIRST_ENDS)?;
-        let before = self.octets.len();
-        let _ = self.octets.append(&mut lines.octets);
-        push_behind(&mut self.ends, before, lines.ends.as_slice());
-        lines.ends.clear();
-        Ok(())
-    }
-
     /// Lets go of the lines from this place on, and keeps their memory.
     pub(crate) fn truncate(&mut self, count: usize)
         ensures { self.new ≡ take count self.old }
@@ -175,17 +144,6 @@ fn start_of(ends: &[usize], place: usize) -> usize
     ensures { result ≡ slice_index (0 ∷ ends.now) place }
 {
     if place == 0 { 0 } else { ends[place - 1] }
-}
-
-/// Puts these ends behind others, each so much further on. There is room for them, and none is too far on to be told.
-fn push_behind(ends: &mut Vec<usize>, before: usize, more: &[usize])
-    requires room { vec_len ends.old + length more.now ≤ vec_capacity ends.old }
-    requires within { (i : ℕ) → i < length more.now → before + slice_index more.now i < 2 ^ 64 }
-    ensures { ends.new.items ≡ ends.old.items ++ map (λ end. before + end) more.now }
-{
-    for end in more {
-        let _ = ends.push(before + *end);
-    }
 }
 
 impl PartialEq for AnswerLines {

@@ -5,7 +5,6 @@ ghost use Rattle.at_text.specs.Lines.{ReadsOn};
 ghost use Rattle.at_text.specs.Dialects.{Dialect};
 ghost use Rattle.at_text.specs.Windows.{Mark, IsInTurn};
 ghost use Rattle.at_text.specs.OpenWindow.{OpenWindow};
-ghost use Rattle.at_text.specs.Forks.{IsWhole, SeesApart};
 ghost use Rattle.at_text.specs.Placing.{Part, PlacesLines};
 ghost use Rattle.at_text.specs.Whole.{NoneLost};
 ghost use Rattle.at_text.specs.Rows.{AreLines, AreFinals, AreReports, RingInside, CregBoth, CgregBoth, EarlyOk, EchoOnce, TwoCommands};
@@ -37,12 +36,4 @@ pub fn windows()
 /// The lines that are placed are those of all octets. Each has the same place, wherever the octets are cut.
 pub fn placing()
     ensures { (parts : List Part) → PlacesLines parts }
-{}
-
-/// A line is on a fork what it is on the window, but for the lines so far. With the window's lines so far before its own, a
-/// fork is the window that it was made of.
-pub fn forks()
-    ensures apart { (dialect : Dialect) (ls : List AnswerLine) (w : Option OpenWindow) (line : List ℕ)
-        → SeesApart dialect ls w line }
-    ensures whole { (w : Option OpenWindow) → IsWhole w }
 {}

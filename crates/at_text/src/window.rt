@@ -5,8 +5,7 @@ ghost use Rattle.at_text.specs.Rules.{dialect_of};
 ghost use Rattle.at_text.specs.Windows.{Mark, Begun};
 ghost use Rattle.at_text.specs.Seeing.{by_kind};
 ghost use Rattle.at_text.specs.OpenWindow.{OpenWindow, opened, FitsMarks, Sees, is_echo, with_line, solicited_by, after_solicited, seen_by, after_line};
-ghost use Rattle.at_text.specs.Forks.{lines_so_far, forked, led_by};
-ghost use Rattle.at_text.specs.InPlace.{placed_as, placed_by, after_placed, solicited_placed, said_where, left_where, Grows, mark_of, back_at};
+ghost use Rattle.at_text.specs.InPlace.{lines_so_far, placed_as, placed_by, after_placed, solicited_placed, said_where, left_where, Grows, mark_of, back_at};
 
 use crate::answer_lines::AnswerLines;
 use crate::command::{COMMAND_LEN, CommandLine};
@@ -115,16 +114,6 @@ impl Open {
         self.lines.push(line)?;
         self.fresh = false;
         Ok(())
-    }
-
-    /// Becomes the same as another, with none of its lines. The list of its own keeps its memory.
-    fn fork_from(&mut self, other: &Open)
-        ensures { self.new ≡ record other.now { lines = [] } }
-    {
-        self.command.clear();
-        let _ = self.command.try_extend_from_slice(other.command.as_slice());
-        self.lines.clear();
-        self.fresh = other.fresh;
     }
 
     fn copy(&self) -> Result<Open, AllocError>
@@ -242,51 +231,6 @@ impl Window {
             open,
             alloc: self.alloc,
         })
-    }
-
-    /// Makes `fork` a window of the same command, without the lines so far. Without a command here `fork` has none either.
-    /// Lines can be shown to a fork first, and the fork dropped. Where both windows have a command, `fork` keeps its memory.
-    /// `follow` later puts the lines so far before the fork's own. `lead` puts them before the lines of an answer that became
-    /// whole on the fork.
-    pub fn fork_into(&self, fork: &mut Window)
-        ensures { fork.new ≡ forked self.now }
-    {
-        if self.is_open {
-            fork.open.fork_from(&self.open);
-            fork.is_open = true;
-        } else {
-            fork.drop_command();
-        }
-    }
-
-    /// Moves this window's lines so far to the front of `lines`. Refused with 4 NoMemory, which leaves both as they were.
-    pub fn lead(&mut self, lines: &mut AnswerLines) -> Result<(), TextError>
-        ensures lines { OnOk result (lines.new ≡ lines_so_far self.old ++ lines.old) }
-        ensures left { OnOk result (self.new ≡ forked self.old) }
-        ensures refused { IfErr result (λ why. why ≡ TextError.NoMemory) }
-        ensures err { OnErr result (self.new ≡ self.old) }
-        ensures same { OnErr result (lines.new ≡ lines.old) }
-    {
-        if self.is_open {
-            self.open.lines.lead(lines)?;
-        }
-        Ok(())
-    }
-
-    /// Moves the lines so far of `before`, the earlier window, to the front of this window's own. Where this window has no
-    /// command under way, nothing changes. Refused with 4 NoMemory, which leaves both as they were.
-    pub fn follow(&mut self, before: &mut Window) -> Result<(), TextError>
-        ensures ok { OnOk result (self.new ≡ led_by (lines_so_far before.old) self.old) }
-        ensures left { OnOk result (
-            before.new ≡ (if is_some self.old then forked before.old else before.old)) }
-        ensures refused { IfErr result (λ why. why ≡ TextError.NoMemory) }
-        ensures err { OnErr result (self.new ≡ self.old) }
-        ensures same { OnErr result (before.new ≡ before.old) }
-    {
-        if self.is_open {
-            before.lead(&mut self.open.lines)?;
-        }
-        Ok(())
     }
 
     /// Says what the next line is by the codes of this dialect, as `see_by` does. An answer that is whole stays in the window,

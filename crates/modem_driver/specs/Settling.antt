@@ -6,8 +6,7 @@ use Rattle.at_text.specs.declared.answer.AnswerLine.{AnswerLine}
 use Rattle.at_text.specs.declared.unsolicited.UrcKind.{UrcKind}
 use Rattle.at_text.specs.declared.window.Placed.{Placed}
 use Rattle.at_text.specs.OpenWindow.{OpenWindow}
-use Rattle.at_text.specs.Forks.{lines_so_far}
-use Rattle.at_text.specs.InPlace.{said_where, left_where}
+use Rattle.at_text.specs.InPlace.{lines_so_far, said_where, left_where}
 use Rattle.modem_desk.specs.declared.request.Answer.{Answer}
 use Rattle.modem_desk.specs.declared.request.Answer.TheVariants.{Done}
 use Rattle.modem_history.specs.Acts.{Act, Told}

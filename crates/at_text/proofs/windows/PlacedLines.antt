@@ -1,11 +1,10 @@
 -- Lines placed in a window where an answer that is whole stays.
-use Rattle.std.specs.Prelude.{◌≡◌, ℕ, Bool, true, false, List, [], ◌∷◌, ◌++◌, take, length, refl, is_none, if◌then◌else◌, Option, Some, None}
-use Rattle.std.proofs.Common.{ap, sym, ◌∙◌, arith}
+use Rattle.std.specs.Prelude.{◌≡◌, ℕ, Bool, true, false, List, [], ◌∷◌, refl, is_none, if◌then◌else◌, Option, Some, None}
+use Rattle.std.proofs.Common.{ap, sym}
 use Rattle.std.proofs.lemmas.List.{append-nil}
 use Rattle.std.proofs.Math.Seq.{take-append_seam}
 use Rattle.at_text.specs.declared.answer.AnswerLine.{AnswerLine}
 use Rattle.at_text.specs.declared.unsolicited.UrcKind.{UrcKind}
-use Rattle.at_text.specs.declared.window.Seen.{Seen}
 use Rattle.at_text.specs.declared.window.Seen.TheVariants.{Echo, Kept, Done}
 use Rattle.at_text.specs.Dialects.{Dialect}
 use Rattle.at_text.specs.Seeing.{by_kind}

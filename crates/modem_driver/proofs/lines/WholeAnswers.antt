@@ -13,8 +13,7 @@ use Rattle.at_text.specs.declared.window.Seen as line_is
 use Rattle.at_text.specs.Dialects.{Dialect, is_solicited}
 use Rattle.at_text.specs.Seeing.{by_kind}
 use Rattle.at_text.specs.OpenWindow.{OpenWindow, seen_by, after_line}
-use Rattle.at_text.specs.Forks.{lines_so_far}
-use Rattle.at_text.specs.InPlace.{Grows, GrowsOn}
+use Rattle.at_text.specs.InPlace.{lines_so_far, Grows, GrowsOn}
 use Rattle.modem_history.specs.declared.act.Act as code
 use Rattle.modem_history.specs.Acts.{act_of, Act, Heard}
 use Rattle.modem_driver.specs.declared.machine.course.Asker.{Asker}

@@ -47,13 +47,13 @@ fn lines<R: Abort + Print>(rt: &R, long: &[u8]) {
 fn windows<R: Abort + Print>(rt: &R, alloc: Global, line: &CommandLine) {
     begin(
         rt,
-        "Window::new, Window::begin, Window::fork_into, Window::drop_command, Window::idle, CommandLine::text",
+        "Window::new, Window::begin, Window::mark, Window::go_back, Window::drop_command, Window::idle, CommandLine::text",
     );
     let mut window = Window::new(alloc);
-    let mut fork = Window::new(alloc);
     window.begin(line);
-    window.fork_into(&mut fork);
-    assert!(rt; !fork.idle());
+    let mark = window.mark();
+    window.go_back(mark);
+    assert!(rt; !window.idle());
     window.drop_command();
     assert!(rt; window.idle());
     assert!(rt; line.text() == b"AT+CSQ".as_slice());

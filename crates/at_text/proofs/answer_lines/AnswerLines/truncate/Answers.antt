@@ -1,4 +1,4 @@
-use Rattle.std.proofs.Common.{◌≡◌, ℕ, ◌<◌, List, ◌∷◌, length, get_or, ap, sym, subst, ◌∙◌, arith}
+use Rattle.std.proofs.Common.{ℕ, ◌<◌, List, ◌∷◌, length, get_or, ap, sym, subst, ◌∙◌, arith}
 use Rattle.at_text.proofs.AnswerTexts.{among_ends, first_fill, first_show}
 use Rattle.at_text.proofs.answer_lines.AnswerLines.truncate.Goals as goal
 

@@ -1,4 +1,4 @@
-use Rattle.std.specs.Prelude.{◌≡◌, Option}
+use Rattle.std.specs.Prelude.{Option}
 use Rattle.std.proofs.Common.{ap, sym, subst, ◌∙◌}
 use Rattle.at_text.specs.Rules.{dialect_of}
 use Rattle.at_text.specs.OpenWindow.{OpenWindow}
