@@ -1,5 +1,7 @@
 //! A client calls a simulated modem twice, and the data of both calls is a file's.
-use crate::calls::{CALL, CAME, CLOSED, CONNECT, CONTEXT, DISC, OK, OPENED, OPENS, expect, modem_on};
+use crate::calls::{
+    CALL, CAME, CLOSED, CONNECT, CONTEXT, DISC, OK, OPENED, OPENS, expect, modem_on,
+};
 use crate::files::{dlci, made};
 use data_files::{DataFile, FiledLine};
 use modem_data::{Begin, Relay, Until};
@@ -17,8 +19,7 @@ const CALLED: &[u8] = b"\xF9\x09\xEF\x17\r\nCONNECT\r\n)\xF9\xF9\x09\xEF\x05ok\x
 /// The client opens 2 again; the UA, and the MSC for 2.
 const OPENS_AGAIN: &[u8] = b"\xF9\x0B?\x01Y\xF9";
 
-const OPENED_AGAIN: &[u8] =
-    b"\xF9\x0Bs\x01\x92\xF9\xF9\x01\xEF\x09\xE3\x05\x0B\x8D\x9A\xF9";
+const OPENED_AGAIN: &[u8] = b"\xF9\x0Bs\x01\x92\xF9\xF9\x01\xEF\x09\xE3\x05\x0B\x8D\x9A\xF9";
 
 /// A line whose connection 2 carries the data of a file that has `ok`, one call after the other.
 fn filed(

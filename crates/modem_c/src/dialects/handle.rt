@@ -3,8 +3,8 @@ ghost use Rattle.std.specs.Prelude.{◌≡◌, ◌≢◌, None, Some, Option};
 ghost use Rattle.at_text.specs.Rules.{Rules};
 ghost use Rattle.modem_c.specs.HeldDialects.{held_coded, holds};
 
-use box_parts::Parts;
 use at_text::Dialect;
+use box_parts::Parts;
 use std::alloc::Global;
 use std::marker::Model;
 use std::ptr::null_mut;

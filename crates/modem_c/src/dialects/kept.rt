@@ -2,8 +2,8 @@
 ghost use Rattle.std.specs.Prelude.{◌≡◌, ◌≢◌, ◌↔◌, true, None, Some, IfSome};
 
 use crate::dialects::handle::Handle;
-use box_parts::Parts;
 use at_text::Dialect;
+use box_parts::Parts;
 use std::alloc::Global;
 use std::mem::replace;
 
