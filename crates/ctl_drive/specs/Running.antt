@@ -7,7 +7,7 @@ use Rattle.modem_desk.specs.declared.settling.Settled.{Settled}
 use Rattle.modem_desk.specs.Ends.{AreSubscribed, DriverView, IsWhole, place_of, subscription_of}
 use Rattle.modem_history.specs.Kinds.{standard_kinds}
 use Rattle.modem_history.specs.Sessions.{LineView}
-use Rattle.modem_driver.specs.DialectReplays.{own_kinds}
+use Rattle.modem_core.specs.DialectReplays.{own_kinds}
 use Rattle.modem_driver.specs.EntryTries.{IsRepliedTo}
 use Rattle.modem_driver.specs.SessionStates.{FitsAll, SessionState, beginning_by}
 use Rattle.ctl_drive.specs.Asking.{HasAsked, PlanView, ReadsAll}

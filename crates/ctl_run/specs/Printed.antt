@@ -5,9 +5,9 @@ use Rattle.mux_frame.specs.Frames.{Frame}
 use Rattle.mux_frame.specs.Reading.{Reads}
 use Rattle.modem_history.specs.Acts.{Act}
 use Rattle.at_text.specs.Rules.{Rules}
-use Rattle.modem_driver.specs.DialectReplays.{ReplaysBy}
-use Rattle.modem_driver.specs.Replays.{Replays}
-use Rattle.modem_driver.specs.declared.event.Event.{Event}
+use Rattle.modem_core.specs.DialectReplays.{ReplaysBy}
+use Rattle.modem_core.specs.Replays.{Replays}
+use Rattle.modem_core.specs.declared.event.Event.{Event}
 use Rattle.modem_desk.specs.declared.request.Outcome.{Outcome}
 use Rattle.modem_sim.specs.declared.script.Script.{Script}
 use Rattle.ctl_run.specs.Bench.{AreSubmitted}

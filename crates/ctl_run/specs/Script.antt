@@ -3,8 +3,8 @@ use Rattle.std.specs.Prelude.{◌≡◌, ◌≢◌, ℕ, ◌+◌, ◌≤◌, Lis
 use Rattle.hex.specs.Hex.{decode_of}
 use Rattle.at_text.specs.Commands.{refusal_of}
 use Rattle.modem_desk.specs.declared.request.Ask.TheVariants as ask
-use Rattle.modem_driver.specs.declared.event.Event.{Event}
-use Rattle.modem_driver.specs.declared.event.Event.TheVariants as event
+use Rattle.modem_core.specs.declared.event.Event.{Event}
+use Rattle.modem_core.specs.declared.event.Event.TheVariants as event
 use Rattle.ctl_text.specs.Words.{number_text}
 use Rattle.ctl_run.specs.declared.script.Order.{Order}
 use Rattle.ctl_run.specs.declared.script.Order.TheVariants as order

@@ -3,8 +3,8 @@ ghost use Rattle.std.specs.Prelude.{◌≡◌, ◌≢◌, ℕ, ◌≤◌, ◌<�
 ghost use Rattle.std.specs.String.{string_bytes};
 ghost use Rattle.modem_history.specs.Acts.{act_of};
 ghost use Rattle.modem_history.specs.Wholes.{UsesOnce};
-ghost use Rattle.modem_driver.specs.DialectReplays.{ReplaysBy};
-ghost use Rattle.modem_driver.specs.Replays.{requests};
+ghost use Rattle.modem_core.specs.DialectReplays.{ReplaysBy};
+ghost use Rattle.modem_core.specs.Replays.{requests};
 ghost use Rattle.ctl_text.specs.DialectTexts.{AreLinesOf};
 ghost use Rattle.ctl_text.specs.Input.{input_lines};
 ghost use Rattle.ctl_run.specs.Dialects.{HasText, IsDialectStop};

@@ -4,7 +4,7 @@ ghost use Rattle.std.specs.String.{string_bytes};
 ghost use Rattle.mux_frame.specs.Frames.{kept_frame};
 ghost use Rattle.mux_frame.specs.Reading.{Reads};
 ghost use Rattle.modem_history.specs.Acts.{act_of};
-ghost use Rattle.modem_driver.specs.Replays.{Replays, requests};
+ghost use Rattle.modem_core.specs.Replays.{Replays, requests};
 ghost use Rattle.modem_history.specs.Wholes.{UsesOnce};
 ghost use Rattle.ctl_run.specs.Dump.{IsNoDump};
 ghost use Rattle.ctl_text.specs.Input.{input_lines};

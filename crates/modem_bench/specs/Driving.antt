@@ -11,7 +11,7 @@ use Rattle.modem_driver.specs.declared.session.ending.Ended.TheVariants.{Stopped
 use Rattle.modem_driver.specs.declared.session.error.SessionFault.{SessionFault}
 use Rattle.modem_driver.specs.declared.session.polling.Progress.{Progress}
 use Rattle.modem_driver.specs.declared.session.polling.Progress.TheVariants.{Ended, Idle, More}
-use Rattle.modem_driver.specs.Cores.{dialect_in}
+use Rattle.modem_core.specs.Cores.{dialect_in}
 use Rattle.modem_driver.specs.Polls.{Polls, SessionGoesOn, end_in}
 use Rattle.modem_driver.specs.SessionStates.{SessionEnds, FitsAll, SessionState, TakesMore, end_of, session_view}
 use Rattle.modem_driver.specs.SessionTurns.{Faults, TakesTurn, fault_of}

@@ -1,6 +1,6 @@
 -- States of connections as they were told, a number for each.
 use Rattle.std.specs.Prelude.{◌≡◌, ◌≢◌, ℕ, ◌<◌, List, length, max, get_or, slice_set}
-use Rattle.modem_driver.specs.Cores.{state_shown}
+use Rattle.modem_core.specs.Cores.{state_shown}
 use Rattle.modem_driver.specs.Endpoints.{EndpointState}
 use Rattle.modem_c.specs.Numbers.{state_number}
 

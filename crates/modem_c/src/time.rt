@@ -3,7 +3,7 @@ ghost use Rattle.std.specs.Prelude.{◌≡◌, ◌≢◌, ◌<◌, ◌≤◌, �
 ghost use Rattle.std.specs.List.{list_any};
 ghost use Rattle.modem_desk.specs.Ends.{DriverView};
 ghost use Rattle.modem_history.specs.Sessions.{LineView};
-ghost use Rattle.modem_driver.specs.Cores.{state_shown};
+ghost use Rattle.modem_core.specs.Cores.{state_shown};
 ghost use Rattle.modem_driver.specs.Endpoints.{EndpointState, Loses, Refuses, Ticks, wants_time};
 ghost use Rattle.modem_driver.specs.Numbers.{session_fault_number};
 ghost use Rattle.modem_c.specs.Calls.{Goes, HasWaited, Holds, endpoint_of};

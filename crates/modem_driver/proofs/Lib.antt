@@ -1,14 +1,4 @@
-pub mod commands
-pub mod lists
-pub mod replays
-pub mod cores
-pub mod requests
-pub mod outgoing
-pub mod probes
 pub mod frames
-pub mod ticks
-pub mod lines
-pub mod holds
 pub mod law_proofs
 pub mod rows
 pub mod Entries

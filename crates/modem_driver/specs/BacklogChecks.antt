@@ -7,7 +7,7 @@ use Rattle.modem_history.specs.Acts.{Act, after}
 use Rattle.modem_history.specs.EveryTurn.{is_check}
 use Rattle.modem_history.specs.Sessions.{Beginning, LineView, FitsWith, driving, gots, backlog_in}
 use Rattle.modem_history.specs.Turns.{LacksMscRoom, outcomes_told, lines_heard, may_act}
-use Rattle.modem_driver.specs.Holding.{due_by}
+use Rattle.modem_core.specs.Holding.{due_by}
 use Rattle.modem_driver.specs.SessionStates.{Machine, MachineFits, MachineGoes, seen_by, end_of}
 use Rattle.modem_driver.specs.TurnSteps.{is_more}
 

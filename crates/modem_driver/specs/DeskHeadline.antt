@@ -14,7 +14,7 @@ use Rattle.modem_history.specs.Sessions as session
 use Rattle.modem_history.specs.Sessions.{Beginning, EndView, Finishes, Leftovers, SessionFits, SessionView, heard_as, heards, taken_since}
 use Rattle.modem_driver.specs.Grown.{HasGrown}
 use Rattle.modem_driver.specs.Headline.{AnswersOwn, HasOnePlace, HearsEach, Leaves, NoneAfterClose, Settlement}
-use Rattle.modem_driver.specs.Replays.{AreFull}
+use Rattle.modem_core.specs.Replays.{AreFull}
 use Rattle.modem_driver.specs.SessionStates.{end_of}
 use Rattle.modem_driver.specs.TurningAway.{Offline, TurnsAway, offline_from}
 

@@ -11,39 +11,13 @@ use Rattle.modem_history.specs.Acts.{Act, Told, after, is_for}
 use Rattle.modem_history.specs.Calls.{is_lost}
 use Rattle.modem_history.specs.Wholes.{taken_requests, outcomes}
 use Rattle.modem_history.specs.Sessions.{Beginning, SessionView, sents, octets_of_frames, caller_outcomes, at_place}
-use Rattle.modem_driver.specs.declared.machine.course.Asker.{Asker}
+use Rattle.modem_core.specs.Stops.{has_stopped}
 use Rattle.modem_driver.specs.declared.machine.course.Course.{Course}
 use Rattle.modem_driver.specs.declared.machine.course.Course.TheVariants as course
 use Rattle.modem_driver.specs.declared.session.ending.Ended.{Ended}
 use Rattle.modem_driver.specs.declared.session.ending.Ended.TheVariants as ended
 use Rattle.modem_driver.specs.declared.session.error.SessionFault.{SessionFault}
 use Rattle.modem_driver.specs.declared.session.error.SessionFault.TheVariants as fault
-
--- ## A Stop that has ended
-
-abbrev pub asks_stop : Ask → Bool
-asks_stop Stop = true
-asks_stop _ = false
-
--- the request asks for a Stop
-abbrev pub is_stop : Request → Bool
-is_stop q = asks_stop q.ask
-
--- by this answer a Stop has ended: it was answered, or given up at the fourth tick
-abbrev pub ends_stop : Answer → Bool
-ends_stop Stopped = true
-ends_stop NoAnswer = true
-ends_stop _ = false
-
--- the request is a Stop, and one of the outcomes answers it by Stopped or NoAnswer
-abbrev pub is_stopped_by : List Outcome → Request → Bool
-is_stopped_by os q = is_stop q && list_any (λ (o : Outcome). is_for q o && ends_stop o.answer) os
-
--- a Stop that was taken was answered by Stopped or NoAnswer
-abbrev pub has_stopped : List Act → Bool
-has_stopped past = list_any (is_stopped_by (outcomes past)) (taken_requests past)
-
--- ## The end
 
 -- the one list begins the other
 pub record Begins {X : Type 0} (xs ys : List X) : Type 0 where
@@ -80,20 +54,6 @@ abbrev pub KeepsEnd : (old new : Course) → Type 0
 KeepsEnd old new = (end : Result Ended SessionFault) → old ≡ course.Ended end → new ≡ course.Ended end
 
 -- ## How it is noted
-
--- the asker of a request: its caller, and its number there
-abbrev pub asker_of : Request → Asker
-asker_of q = record { caller = q.caller; number = q.number }
-
--- the act tells this asker that its Stop has ended
-abbrev pub is_end_of : Asker → Act → Bool
-is_end_of s (Told o) = ((s.caller == o.caller) && (s.number == o.number)) && ends_stop o.answer
-is_end_of s _ = false
-
--- one of the acts tells the asker of the Stop in hand that it has ended
-abbrev pub is_answered : Option Asker → List Act → Bool
-is_answered None acts = false
-is_answered (Some s) acts = list_any (is_end_of s) acts
 
 -- how far a session has come on the way to its end: an answered Stop takes it on
 abbrev pub course_after : Course → (answered : Bool) → Course

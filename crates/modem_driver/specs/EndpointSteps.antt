@@ -8,7 +8,7 @@ use Rattle.modem_history.specs.Acts.{Act, Sent}
 use Rattle.modem_history.specs.GoingOut.{next_out}
 use Rattle.modem_history.specs.Sessions.{Beginning, LineView, driving}
 use Rattle.modem_history.specs.Turns.{has_room_for, is_mark, may_act}
-use Rattle.modem_driver.specs.Running.{CoreIsIdle}
+use Rattle.modem_core.specs.Running.{CoreIsIdle}
 use Rattle.modem_driver.specs.SessionStates.{Machine, MachineMoves}
 use Rattle.modem_driver.specs.TurnSteps.{TurnState, StandingFits, turn_state, Leads}
 

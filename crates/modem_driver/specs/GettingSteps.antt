@@ -3,7 +3,7 @@ use Rattle.std.specs.Prelude.{◌≡◌, Bool, true, Some}
 use Rattle.mux_frame.specs.Frames.{Frame}
 use Rattle.modem_desk.specs.Ends.{DriverView}
 use Rattle.modem_history.specs.Sessions.{LineView}
-use Rattle.modem_driver.specs.Receiving.{brings_data}
+use Rattle.modem_core.specs.Receiving.{brings_data}
 use Rattle.modem_driver.specs.SessionStates.{Machine}
 use Rattle.modem_driver.specs.TurnSteps.{turn_state, Gets}
 

@@ -21,7 +21,7 @@ use Rattle.modem_history.specs.Sessions as session
 use Rattle.modem_history.specs.Sessions.{Beginning, Finishes, Leftovers, SessionFits, SessionView, driving, heard_as, heards, taken_since}
 use Rattle.modem_history.specs.Wholes.{HasOwnAnswer, IsPrefixOf, commands_for, is_same}
 use Rattle.modem_driver.specs.Grown.{HasGrown}
-use Rattle.modem_driver.specs.Replays.{AreFull}
+use Rattle.modem_core.specs.Replays.{AreFull}
 
 -- ## A run and its end
 

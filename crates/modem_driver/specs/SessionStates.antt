@@ -15,9 +15,10 @@ use Rattle.modem_desk.specs.Ends.{DriverView}
 use Rattle.modem_history.specs.Acts.{Act, in_hand}
 use Rattle.modem_history.specs.Sessions.{LineView, EndView, Beginning, SessionView, Leftovers, FitsWith, Finishes, GoesBy, driving, gots, heard_as}
 use Rattle.modem_history.specs.Turns.{GoesTick, IsTick, LosesLine, may_fail, outcomes_told, lines_heard}
-use Rattle.modem_driver.specs.Cores.{Core, Fits, IsSettingOf, core_by}
-use Rattle.modem_driver.specs.Holding.{HoldsFit}
-use Rattle.modem_driver.specs.Endings.{HasCome, KeepsEnd, is_stop}
+use Rattle.modem_core.specs.Cores.{Core, Fits, IsSettingOf, core_by}
+use Rattle.modem_core.specs.Holding.{HoldsFit}
+use Rattle.modem_driver.specs.Endings.{HasCome, KeepsEnd}
+use Rattle.modem_core.specs.Stops.{is_stop}
 use Rattle.modem_driver.specs.declared.machine.course.Course.{Course}
 use Rattle.modem_driver.specs.declared.machine.delays.Delay.{Delay}
 use Rattle.modem_driver.specs.WaitingTicks.{AreDelays}

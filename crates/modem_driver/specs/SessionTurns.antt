@@ -15,6 +15,7 @@ use Rattle.modem_history.specs.EveryTurn.{GoesTurn, GoesFault}
 use Rattle.modem_driver.specs.declared.session.error.SessionFault.{SessionFault}
 use Rattle.modem_driver.specs.declared.session.turn.Turn.{Turn}
 use Rattle.modem_driver.specs.Endings.{Begins, KeepsEnd}
+use Rattle.modem_core.specs.WaitingLists.{IsLeast, IsFirstOf}
 use Rattle.modem_driver.specs.SessionStates.{Machine, MachineLoses, SessionState, FitsInside, has_lost_line, session_view}
 use Rattle.modem_driver.specs.TurnSteps.{TurnState, Writes, ReadsOn}
 
@@ -23,18 +24,6 @@ abbrev pub standing_of : {X : Type 0} → (X → LineView) → SessionState X �
 standing_of look s = record { line = look s.line; driver = s.driver; machine = s.machine }
 
 -- ## Which answer it is
-
--- this caller has one of these outcomes, and no caller with a lower number has any
-pub record IsLeast (c : ℕ) (os : List Outcome) : Type 0 where
-  pub outcome : Outcome
-  pub first : take 1 (caller_outcomes c os) ≡ outcome ∷ []
-  pub least : list_all (λ (o : Outcome). nat_le c o.caller) os ≡ true
-
--- the first of these lines is of this kind
-pub record IsFirstOf (kind : UrcKind) (us : List Urc) : Type 0 where
-  pub line : Urc
-  pub first : take 1 us ≡ line ∷ []
-  pub is_of : line.kind ≡ kind
 
 -- all octets are written, and an outcome waits for this caller, the least
 pub record HasOutcome (k : Machine) (c : ℕ) : Type 0 where

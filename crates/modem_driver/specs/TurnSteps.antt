@@ -17,7 +17,7 @@ use Rattle.modem_history.specs.Sessions.{Beginning, LineView, SessionView, FitsW
 use Rattle.modem_history.specs.Turns.{Write, Read, Offers, ReadHasRoom, HoldsByBacklog, HoldsWhereRoom, octets_written, octets_read, request_given, calls_made, counted, outcomes_told, lines_heard, may_act, is_mark, amount, has_room_for}
 use Rattle.modem_history.specs.GoingOut.{next_out}
 use Rattle.modem_history.specs.EveryTurn.{GivesSome, ReadsWhereFed, count_at, is_check, octets_out, acts_out, goes_in, octets_offered, count_taken, stalled_after, empty_after, asked_in_vain}
-use Rattle.modem_driver.specs.Running.{CoreIsIdle}
+use Rattle.modem_core.specs.Running.{CoreIsIdle}
 use Rattle.modem_driver.specs.Endings.{KeepsEnd}
 use Rattle.modem_driver.specs.SessionStates.{AreFormed, Machine, MachineFits, seen_by, end_of}
 

@@ -14,8 +14,8 @@ use Rattle.modem_history.specs.Kinds.{of_kind}
 use Rattle.modem_history.specs.Sessions.{at_place, caller_outcomes}
 use Rattle.modem_history.specs.Turns.{amount, counted}
 use Rattle.modem_driver.specs.declared.session.turn.Turn.{Turn}
-use Rattle.modem_driver.specs.SessionTurns.{IsLeast, IsFirstOf}
-use Rattle.modem_driver.specs.WaitingLists.{WaitingLists}
+use Rattle.modem_core.specs.WaitingLists.{IsLeast, IsFirstOf}
+use Rattle.modem_core.specs.WaitingLists.{WaitingLists}
 
 -- the outcomes and the lines that wait for a place, each in its order
 pub record Offline : Type 0 where

@@ -1,4 +1,4 @@
-//! Laws of replays, the headline, ends of a session, and the calls of an endpoint.
+//! The headline, ends of a session, and the calls of an endpoint.
 ghost use Rattle.std.specs.Prelude.{◌≡◌, ℕ, true, false, List, []};
 ghost use Rattle.std.specs.List.{list_all, list_any};
 ghost use Rattle.modem_driver.specs.EndpointLaws.{OneHistory, TellsAll};
@@ -8,40 +8,12 @@ ghost use Rattle.modem_driver.specs.EndingRows.{ends_in, going_rows, stopped_row
 ghost use Rattle.modem_driver.specs.DeskHeadline.{DeskRun, IsDeskHeadline};
 ghost use Rattle.modem_driver.specs.Headline.{IsHeadline, Run, SendsFull};
 ghost use Rattle.modem_driver.specs.HeadlineRows.{AreRight, AreWrong, IsOtherOrder, right_places, wrong_places};
-ghost use Rattle.modem_driver.specs.Replays.{AreFull, Brought, Replays};
-ghost use Rattle.modem_driver.specs.ReplayRows.{NoReplay, NoReplayOfAny, WantsRoom, busy_again, busy_at_first, frame_invented, full_frames, full_queue, half_frames, lost_by_itself, one_request, request_dropped, test_comes, two_requests, while_opening};
-ghost use Rattle.modem_driver.specs.Room.{EachBeginsEmpty, FindsRoom, FitsEmpty, NeverWantsRoom};
-ghost use Rattle.modem_driver.specs.declared.event.Event.{Event};
 ghost use Rattle.modem_history.specs.Acts.{Act};
 ghost use Rattle.modem_history.specs.Sessions.{Beginning, LineView, SessionView};
 ghost use Rattle.modem_driver.specs.PollRows.{AreNoPolls, IsLostSession};
 ghost use Rattle.modem_driver.specs.LivePollRows.{AreNoLivePolls, AsksPerTurn, IsNewSession, NoTickInAPoll, NoTickIsAPoll, ReadsTheLine};
 ghost use Rattle.modem_driver.specs.TurningAway.{TurnsOn};
 ghost use Rattle.modem_driver.specs.PollLaws.{RunsInHistories, LostFails, NoLossIsKeptBack, NoLossIsStopped, CallsTheLine, LostGivesFailed};
-
-/// The requests taken, frames got, ticks and losses of a replay are those that its events bring, in their order, and no
-/// others. So no replay loses the line by itself, gets a frame of which no octet came, or drops a request. All data
-/// frames of a command but the last have N1 octets of information: at N1 31 a command of 41 octets leaves in frames of
-/// 31 and 10, not of 20 and 21. No control frame waits when a call begins, so what it calls for fits: no request is
-/// told Busy and no frame is refused for want of room, and a tick leaves no connection out.
-#[tactic(auto, using(crate::proofs::replays::FirstActs::brought, crate::proofs::replays::FirstActs::no_loss, crate::proofs::replays::FirstActs::no_invention, crate::proofs::replays::FirstActs::no_request_dropped, crate::proofs::replays::FullFrames::full, crate::proofs::replays::FullFrames::no_halves, crate::proofs::replays::EmptyQueues::begin_empty, crate::proofs::replays::EmptyQueues::fits_empty, crate::proofs::replays::RoomInReplays::never_wants_room, crate::proofs::replays::RoomInReplays::busy_wanted, crate::proofs::replays::RoomInReplays::busy_under_way, crate::proofs::replays::RoomInReplays::place_wanted))]
-pub fn replays()
-    ensures brought { (n1 : ℕ) (events : List Event) (acts : List Act)
-        → Replays n1 events acts → Brought n1 events acts }
-    ensures no_loss { NoReplay two_requests lost_by_itself }
-    ensures no_invention { NoReplay one_request frame_invented }
-    ensures none_dropped { NoReplay two_requests request_dropped }
-    ensures full { (n1 : ℕ) (events : List Event) (acts : List Act)
-        → Replays n1 events acts → AreFull n1 acts }
-    ensures filled { AreFull 31 full_frames }
-    ensures no_halves { NoReplayOfAny half_frames }
-    ensures room { (n1 : ℕ) (events : List Event) (acts : List Act) → EachBeginsEmpty n1 events acts }
-    ensures fits { (n1 : ℕ) → FitsEmpty n1 }
-    ensures never { (n1 : ℕ) (events : List Event) (acts : List Act) → NeverWantsRoom n1 events acts }
-    ensures busy { WantsRoom [] busy_at_first }
-    ensures busy_again { FindsRoom 31 while_opening busy_again }
-    ensures place { WantsRoom full_queue test_comes }
-{}
 
 /// The headline, of every run whose desk was settled with the driver's end that `finish` gave and with all its callers.
 /// At every moment the octets that left on a connection since it opened are a prefix of its callers' command lines
@@ -50,7 +22,7 @@ pub fn replays()
 /// holds each of its outcomes once. In every history of a session all data frames of a command but the last have N1
 /// octets of information. The definitions refuse a request with two places or with none, and commands that left in
 /// another order.
-#[tactic(auto, using(crate::proofs::law_proofs::Headlines::headline, crate::proofs::replays::FullFrames::sends_full, crate::proofs::rows::HeadlineRowFacts::all_right_places, crate::proofs::rows::HeadlineRowFacts::all_wrong_places, crate::proofs::rows::HeadlineRowFacts::other_order))]
+#[tactic(auto, using(crate::proofs::law_proofs::Headlines::headline, crate::proofs::law_proofs::Headlines::sends_full, crate::proofs::rows::HeadlineRowFacts::all_right_places, crate::proofs::rows::HeadlineRowFacts::all_wrong_places, crate::proofs::rows::HeadlineRowFacts::other_order))]
 pub fn headlines()
     ensures headline { (run : Run) → IsHeadline run }
     ensures full { (b : Beginning) (v : SessionView) (past : List Act) → SendsFull b v past }

@@ -1,9 +1,9 @@
 //! What a session keeps beside its line and its desk's end.
 ghost use Rattle.std.specs.Prelude.{◌≡◌, ◌≢◌, ◌↔◌, ◌+◌, ◌<◌, ◌≤◌, ◌⊎◌, ◌++◌, [], true, false, length, option_to_list, None, IfOk, IsErrOf, OnOk, OnErr};
 ghost use Rattle.line_end.specs.LineEnds.{new_end};
-ghost use Rattle.modem_driver.specs.Cores.{Fits};
+ghost use Rattle.modem_core.specs.Cores.{Fits};
 ghost use Rattle.modem_driver.specs.Endings.{KeepsEnd};
-ghost use Rattle.modem_driver.specs.Holding.{HoldsFit};
+ghost use Rattle.modem_core.specs.Holding.{HoldsFit};
 ghost use Rattle.modem_driver.specs.SessionStates.{machine_by, new_machine, MachineLoses, MachineTicks};
 ghost use Rattle.modem_driver.specs.declared.session.error.SessionError.TheVariants as why;
 ghost use Rattle.modem_driver.specs.declared.session.error.SessionFault.TheVariants as fault;
@@ -15,7 +15,6 @@ pub(crate) mod delays;
 mod exchanging;
 mod getting;
 mod handing;
-pub(crate) mod line_queue;
 mod octets_in;
 mod octets_out;
 mod placing;
@@ -23,16 +22,13 @@ mod requests;
 mod sending;
 mod taking;
 mod time;
-pub(crate) mod waiting;
 
-use crate::driver::Core;
 use crate::machine::course::Course;
 use crate::machine::delays::Delays;
-use crate::machine::waiting::Waiting;
 use crate::session::{SessionError, SessionFault};
-use crate::settling::Draft;
 use at_text::{Dialect, UrcKind};
 use line_end::LineEnd;
+use modem_core::{Core, Draft, Waiting};
 use modem_desk::{Outcome, Request, Urc};
 use mux_frame::{Dlci, FrameError};
 use std::alloc::Global;
@@ -133,7 +129,7 @@ impl Machine {
         ensures failed { (result ≡ Err fault.Failed) ↔ (self.old.core.lost ≡ true) }
         ensures only { OnErr result (result ≡ Err fault.Failed) }
     {
-        if self.core.lost {
+        if self.core.is_lost() {
             return Err(SessionFault::Failed);
         }
         let delays = self.delays_after_tick();

@@ -4,9 +4,9 @@ use Rattle.std.proofs.Common.{ap, ◌∙◌, arith, eqb-true}
 use Rattle.std.proofs.lemmas.Bool.{and_parts}
 use Rattle.modem_desk.specs.declared.request.Request.{Request}
 use Rattle.modem_history.specs.Wholes.{is_same, UsesOnce}
-use Rattle.modem_driver.specs.declared.event.Event.{Event}
-use Rattle.modem_driver.specs.declared.event.Event.TheVariants as event
-use Rattle.modem_driver.specs.Replays.{requests}
+use Rattle.modem_core.specs.declared.event.Event.{Event}
+use Rattle.modem_core.specs.declared.event.Event.TheVariants as event
+use Rattle.modem_core.specs.Replays.{requests}
 use Rattle.ctl_run.specs.Script.{IsScript}
 
 -- each has this number or a greater one

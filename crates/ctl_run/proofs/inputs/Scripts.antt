@@ -4,8 +4,8 @@ use Rattle.std.proofs.Common.{sym, ap, arith, ◌∙◌}
 use Rattle.std.proofs.lemmas.Bool.{eqb-true, false≢true}
 use Rattle.std.proofs.lemmas.List.{append_assoc, append-nil}
 use Rattle.modem_desk.specs.declared.request.Request.{Request}
-use Rattle.modem_driver.specs.declared.event.Event.{Event}
-use Rattle.modem_driver.specs.declared.event.Event.TheVariants as event
+use Rattle.modem_core.specs.declared.event.Event.{Event}
+use Rattle.modem_core.specs.declared.event.Event.TheVariants as event
 use Rattle.ctl_run.specs.declared.script.Order.TheVariants as order
 use Rattle.ctl_text.specs.Input.{input_lines}
 use Rattle.ctl_run.specs.Script.{IsNoOrder, IsScript, Says}

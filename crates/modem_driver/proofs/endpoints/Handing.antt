@@ -15,14 +15,14 @@ use Rattle.modem_desk.specs.Ends.{DriverView, Announces, Appends}
 use Rattle.at_text.specs.Kinds.{kind_place}
 use Rattle.modem_history.specs.Kinds.{is_listened}
 use Rattle.modem_history.specs.Sessions.{LineView, at_place, heard_as}
-use Rattle.modem_driver.specs.Placing.{Gave, Stay, goes_first, of_key, caller_of, place_of}
+use Rattle.modem_core.specs.Placing.{Gave, Stay, goes_first, of_key, caller_of, place_of}
 use Rattle.modem_driver.specs.Endpoints.{EndpointState, GivesLine, GivesOutcome, LeadsOver, Leaves}
 use Rattle.modem_driver.specs.SessionStates.{Machine, seen_by, end_of}
 use Rattle.modem_driver.proofs.sessions.steps.DeskOffers.{grows_told, heard_more, none_beyond, told_more}
 use Rattle.at_text.proofs.SameKinds.{same_place}
 use Rattle.modem_driver.proofs.sessions.steps.LineOctets.{loss_with}
-use Rattle.modem_driver.proofs.sessions.steps.OutcomeCounts.{is_callers}
-use Rattle.modem_driver.proofs.sessions.steps.RemainingItems.{stay_all}
+use Rattle.modem_core.proofs.sessions.steps.OutcomeCounts.{is_callers}
+use Rattle.modem_core.proofs.sessions.steps.RemainingItems.{stay_all}
 use Rattle.modem_driver.proofs.sessions.polls.StopProgress.{begins_whole, come_on, grows_none}
 use Rattle.modem_driver.proofs.sessions.steps.WaitingDeliveries.{told_part, heard_part, sent_part, received_part}
 

@@ -16,14 +16,14 @@ use Rattle.modem_history.specs.Requests.{are_distinct, is_apart}
 use Rattle.modem_history.specs.Acts.{Act}
 use Rattle.modem_history.specs.Sessions.{Beginning, LineView, taken_since}
 use Rattle.modem_history.proofs.law_proofs.SessionLaws.{since_more}
-use Rattle.modem_driver.specs.Cores.{Fits}
-use Rattle.modem_driver.specs.Holding.{HoldsFit}
+use Rattle.modem_core.specs.Cores.{Fits}
+use Rattle.modem_core.specs.Holding.{HoldsFit}
 use Rattle.modem_driver.specs.EndpointSteps.{HandLacksRoom, HandlesFrames}
 use Rattle.modem_driver.specs.Endpoints.{EndpointFits, Begins, BeginsBy, LeadsOver, Numbers, Refuses, TakesRequest, is_numbered, with_taken}
 use Rattle.modem_driver.specs.SessionStates.{Machine, machine_by, new_machine, seen_by, end_of}
 use Rattle.modem_driver.specs.TurnTakes.{MachineTakes, TakesNext}
 use Rattle.modem_driver.proofs.endpoints.WholeCalls.{handled_all, handled_alone}
-use Rattle.modem_driver.proofs.sessions.steps.OutcomeCounts.{is_caller}
+use Rattle.modem_core.proofs.sessions.steps.OutcomeCounts.{is_caller}
 use Rattle.modem_driver.proofs.sessions.steps.StartAndTick.{begins_over, least_n1, machine_begins}
 
 -- ## The beginning

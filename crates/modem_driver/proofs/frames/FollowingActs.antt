@@ -6,9 +6,9 @@ use Rattle.mux_frame.specs.Frames.{Frame}
 use Rattle.modem_history.specs.declared.act.Act as code
 use Rattle.modem_history.specs.Acts.{Act, Took, Got, Sent, Told, Heard, Tick, Lost, Held, Freed, Given, act_of}
 use Rattle.modem_history.specs.Turns.{lines_heard}
-use Rattle.modem_driver.specs.declared.machine.course.Asker.{Asker}
-use Rattle.modem_driver.specs.Endings.{is_answered}
-use Rattle.modem_driver.specs.WaitingLists.{WaitingLists, Keeps}
+use Rattle.modem_core.specs.declared.asker.Asker.{Asker}
+use Rattle.modem_core.specs.Stops.{is_answered}
+use Rattle.modem_core.specs.WaitingLists.{WaitingLists, Keeps}
 
 -- that the frame came answers no Stop
 pub came_answers : (s : Option Asker) (f : Frame) (acts : List Act) → is_answered s (Got f ∷ acts) ≡ is_answered s acts

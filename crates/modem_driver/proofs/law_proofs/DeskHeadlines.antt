@@ -28,7 +28,7 @@ use Rattle.modem_history.proofs.outcomes.SingleOutcomes.{of_its_caller, uses_onc
 use Rattle.modem_history.proofs.requests.UntoldRequests.{all_answer, hand_is}
 use Rattle.modem_driver.specs.DeskHeadline.{AnnouncedOver, DeskRun, Follow, HoldsOver, IsDeskHeadline, IsDeskSettled, IsSpell, Rest, RestsOf, Spell, SpellHeadline, outcomes_over}
 use Rattle.modem_driver.specs.TurningAway.{line_lost}
-use Rattle.modem_driver.proofs.replays.FullFrames.{turns_are_full}
+use Rattle.modem_core.proofs.replays.FullFrames.{turns_are_full}
 use Rattle.modem_driver.proofs.law_proofs.GrownHistories.{fits_in}
 use Rattle.modem_driver.proofs.law_proofs.Headlines.{any_more, answers_own, hears_each, of_its_own, order_of, own_answers, subscription_at, while_open}
 use Rattle.modem_driver.proofs.law_proofs.RequestNumbers.{numbered_once}

@@ -35,7 +35,7 @@ use Rattle.modem_history.proofs.outcomes.OwnAnswers.{tells_own}
 use Rattle.modem_history.proofs.outcomes.SingleOutcomes.{of_its_caller, uses_once}
 use Rattle.modem_history.proofs.requests.UntoldRequests.{all_answer, hand_is}
 use Rattle.modem_driver.specs.Headline.{AnswersOwn, Announces, HasEnd, HasOnePlace, HearsEach, Holds, InSubmittedOrder, IsHeadline, IsSettled, NoneAfterClose, Run, outcomes_of}
-use Rattle.modem_driver.proofs.replays.FullFrames.{turns_are_full}
+use Rattle.modem_core.proofs.replays.FullFrames.{turns_are_full}
 use Rattle.modem_driver.proofs.law_proofs.GrownHistories.{fits_in}
 use Rattle.modem_driver.proofs.law_proofs.RequestNumbers.{numbered_once}
 use Rattle.modem_driver.proofs.law_proofs.RequestPlaces.{counted_own, is_counted, one_place}
@@ -264,3 +264,8 @@ headline run s =
       announces = announces_each run s e;
       holds = holds_each run s e;
     }
+
+-- so it is of every session
+pub sends_full : (b : Beginning) (v : SessionView) (past : List Act) → SendsFull b v past
+unfolding SendsFull
+sends_full b v past f = turns_are_full (driving b) past (laws_of f.history).in_turn

@@ -27,7 +27,7 @@ use Rattle.modem_driver.specs.Polls.{MakesTurn, MovesOn, RunsTurns, ends, goes_o
 use Rattle.modem_driver.specs.PollLaws.{IsSession, MovesThrough, NoLossIsKeptBack, NoLossIsStopped, all_through, ended_through, fails_through, rests_through, through_none, through_once}
 use Rattle.modem_driver.specs.PollRows.{bare_desk, first_line, lost_session}
 use Rattle.modem_driver.specs.LivePollRows.{AreNoLivePolls, AsksPerTurn, IsNewSession, NoTickInAPoll, NoTickIsAPoll, ReadsTheLine, after_flags, after_idle, lost_and_stopped, new_session, ticks_in}
-use Rattle.modem_driver.proofs.cores.NewCore.{new_fits}
+use Rattle.modem_core.proofs.cores.NewCore.{new_fits}
 use Rattle.modem_driver.proofs.sessions.polls.PollLaws.{no_loss_is_kept_back, no_loss_is_stopped}
 use Rattle.at_text.specs.Dialects.{standard}
 use Rattle.at_text.specs.Rules.{no_rules}

@@ -15,7 +15,7 @@ use Rattle.modem_driver.specs.SessionStates.{beginning_of}
 use Rattle.modem_driver.specs.PollLaws.{IsSession, LostFails, LostGivesFailed}
 use Rattle.modem_driver.specs.PollRows.{AreNoPolls, IsLostSession, bare_desk, first_line, lost_session}
 use Rattle.at_text.proofs.NoRules.{no_rules_standard}
-use Rattle.modem_driver.proofs.sessions.steps.Kinds.{in_listened, listened_in}
+use Rattle.modem_core.proofs.sessions.steps.Kinds.{in_listened, listened_in}
 use Rattle.modem_driver.proofs.sessions.polls.PollLaws.{lost_fails, lost_gives_failed}
 use Rattle.modem_history.specs.Rules.{call, nothing}
 

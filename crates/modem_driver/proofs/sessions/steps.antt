@@ -1,15 +1,8 @@
 -- Each step of a turn, and what it is made of: the session fits its history as before.
 pub mod MachineParts
-pub mod LongerHistories
-pub mod OutcomeCounts
 pub mod OneFrame
-pub mod ListenedLines
-pub mod RemainingItems
 pub mod WaitingDeliveries
-pub mod Kinds
-pub mod CollectedActs
 pub mod WaitedTicks
-pub mod LineCounts
 pub mod CoreCalls
 pub mod StartAndTick
 pub mod LineOctets
@@ -22,10 +15,5 @@ pub mod TakenRequests
 pub mod QueuedInformation
 pub mod NextFrame
 pub mod FrameAtHand
-pub mod FirstWaiting
-pub mod Amounts
-pub mod FirstOffers
-pub mod CallerOffers
-pub mod ListenerOffers
 pub mod DeskOffers
 pub mod Backlogs

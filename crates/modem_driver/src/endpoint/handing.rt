@@ -1,6 +1,6 @@
 //! Hands out outcomes and unsolicited lines, and at the end what is left.
 ghost use Rattle.std.specs.Prelude.{◌≡◌, ◌∷◌, [], take, IfSome, IfNone, MatchOption};
-ghost use Rattle.modem_driver.specs.Cores.{state_shown};
+ghost use Rattle.modem_core.specs.Cores.{state_shown};
 ghost use Rattle.modem_driver.specs.Endpoints.{GivesLine, GivesOutcome, Leaves};
 
 use crate::endpoint::Endpoint;
@@ -23,7 +23,7 @@ impl Endpoint {
         ensures none { IfNone result (self.now.machine.unplaced ≡ []) }
         ensures some { IfSome result (λ o. take 1 self.now.machine.unplaced ≡ o.now ∷ []) }
     {
-        self.machine.waiting.outcomes.front()
+        self.machine.waiting.first_outcome()
     }
 
     /// Removes and gives the first outcome that waits, if any. It takes no memory.
@@ -39,7 +39,7 @@ impl Endpoint {
         ensures none { IfNone result (self.now.machine.unannounced ≡ []) }
         ensures some { IfSome result (λ u. take 1 self.now.machine.unannounced ≡ u.now ∷ []) }
     {
-        self.machine.waiting.lines.front()
+        self.machine.waiting.first_line()
     }
 
     /// Removes and gives the first unsolicited line that waits, if any. It takes no memory. The next `handle_input`

@@ -27,7 +27,7 @@ impl Endpoint {
         ensures memory { result ≡ Err fault.NoMemory → HasData self.new.machine }
     {
         let handled = self.machine.handle_frames();
-        if self.machine.core.lost {
+        if self.machine.core.is_lost() {
             return Err(SessionFault::Failed);
         }
         handled?;
@@ -56,7 +56,7 @@ impl Endpoint {
         ensures memory { result ≡ Err fault.NoMemory → HasData self.new.machine }
     {
         let frames = self.machine.handle_frames();
-        if self.machine.core.lost {
+        if self.machine.core.is_lost() {
             return Err(SessionFault::Failed);
         }
         frames?;

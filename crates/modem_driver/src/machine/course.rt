@@ -2,20 +2,15 @@
 ghost use Rattle.std.specs.Prelude.{◌≡◌, map};
 ghost use Rattle.std.specs.List.{list_any};
 ghost use Rattle.modem_history.specs.Acts.{act_of};
-ghost use Rattle.modem_driver.specs.Endings.{ends_stop, is_end_of, is_answered, course_after};
+ghost use Rattle.modem_core.specs.Stops.{ends_stop, is_end_of, is_answered};
+ghost use Rattle.modem_driver.specs.Endings.{course_after};
 ghost use Rattle.modem_driver.specs.Polls.{has_ended, is_stopped};
 
 use crate::machine::Machine;
 use crate::session::{Ended, SessionFault};
+use modem_core::Asker;
 use modem_desk::Answer;
 use modem_history::Act;
-
-/// The asker of a request: its caller, and its number there.
-#[derive(Clone, Copy)]
-pub(crate) struct Asker {
-    pub caller: u8,
-    pub number: u64,
-}
 
 /// How far a session has come on the way to its end.
 #[derive(Clone, Copy)]
@@ -103,9 +98,9 @@ impl Machine {
         ensures { result ≡ has_ended self.now }
     {
         self.course.is_stopped()
-            && !self.core.lost
+            && !self.core.is_lost()
             && self.line_end.is_written()
-            && self.core.station.queue_len() == 0
+            && self.core.queue_len() == 0
             && self.waiting.count() == 0
     }
 }

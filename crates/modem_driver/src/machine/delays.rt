@@ -2,9 +2,8 @@
 ghost use Rattle.std.specs.Prelude.{◌≡◌, ◌<◌};
 ghost use Rattle.modem_driver.specs.WaitingTicks.{delay_after, is_same, ticks_kept, ticks_shown, CountsTick};
 
-use crate::hand::{Hand, first_asker};
 use crate::machine::Machine;
-use crate::machine::course::Asker;
+use modem_core::{Asker, Hand, first_asker};
 use mux_frame::Dlci;
 
 /// The asker of the command that a tick found first in hand on a connection, and how many ticks in a row did. The count
@@ -74,13 +73,13 @@ impl Machine {
     pub(crate) fn delays_after_tick(&self) -> Delays
         ensures { CountsTick self.now.delays result self.now.core.hand }
     {
-        counted(self.delays, &self.core.hand)
+        counted(self.delays, self.core.hand())
     }
 
     /// How many ticks the first command in hand on a connection has waited, if there is one.
     pub(crate) fn waiting_ticks(&self, dlci: Dlci) -> Option<u64>
         ensures { result ≡ ticks_shown self.now.delays self.now.core.hand dlci.number }
     {
-        ticks_shown(&self.delays, &self.core.hand, dlci)
+        ticks_shown(&self.delays, self.core.hand(), dlci)
     }
 }

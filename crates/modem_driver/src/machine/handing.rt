@@ -11,7 +11,7 @@ impl Machine {
             (λ o. (self.old.unplaced ≡ o ∷ self.new.unplaced)
             × (self.new ≡ record self.old { unplaced = self.new.unplaced })) }
     {
-        self.waiting.outcomes.pop_front()
+        self.waiting.next_outcome()
     }
 
     /// Removes and gives the first line that waits, if any.
@@ -20,6 +20,6 @@ impl Machine {
             (λ u. (self.old.unannounced ≡ u ∷ self.new.unannounced)
             × (self.new ≡ record self.old { unannounced = self.new.unannounced })) }
     {
-        self.waiting.lines.pop_front()
+        self.waiting.next_line()
     }
 }

@@ -19,7 +19,7 @@ impl Machine {
     pub(crate) fn wants_tick(&self) -> bool
         ensures { result ≡ list_any wants_time self.now.core.hand }
     {
-        self.core.hand.as_slice().iter().any(wants_time)
+        self.core.hand().as_slice().iter().any(wants_time)
     }
 
     /// A call on the line has failed, and so it is lost: everyone in hand is told so. The condition is that it wasn't lost

@@ -1,7 +1,7 @@
 //! Why a session isn't made, and how a turn fails.
 ghost use Rattle.std.specs.Prelude.{◌≡◌};
 
-use crate::error::CoreError;
+use modem_core::CoreError;
 use modem_desk::DriverEnd;
 use serial_line::SerialLine;
 use std::alloc::AllocError;

@@ -3,10 +3,8 @@ ghost use Rattle.std.specs.Prelude.{◌≡◌, ◌+◌, ◌<◌, ◌≤◌, ◌+
 ghost use Rattle.std.specs.VecDeque.{deque_capacity};
 ghost use Rattle.modem_driver.specs.TurningAway.{line_lost, offline_from, PassSays, PassesAway, RefusesOne};
 
-use crate::hand::IN_HAND;
-use crate::machine::line_queue::LineQueue;
-use crate::machine::waiting::Waiting;
 use crate::session::turn::Turn;
+use modem_core::{IN_HAND, Waiting};
 use modem_desk::{Answer, DriverEnd, Outcome, Request, Urc};
 use std::alloc::{AllocError, Global};
 use std::collections::VecDeque;
@@ -86,21 +84,19 @@ fn make_room(
     Ok((outcomes, lines))
 }
 
-impl Waiting {
-    /// The desk is asked for a request, where fewer than 128 outcomes wait. The LineLost of one that comes waits
-    /// behind the others. Whether one came.
-    fn refuse_one<R: Wait>(&mut self, rt: &R, driver: &mut DriverEnd) -> bool
-        ensures { RefusesOne self.old self.new driver.old driver.new result }
-    {
-        if self.count() >= IN_HAND {
-            return false;
-        }
-        let Some(request) = driver.next(rt) else {
-            return false;
-        };
-        self.outcomes.push_back_reserved(line_lost(&request));
-        true
+/// The desk is asked for a request, where fewer than 128 outcomes wait. The LineLost of one that comes waits behind the
+/// others. Whether one came.
+fn refuse_one<R: Wait>(waiting: &mut Waiting, rt: &R, driver: &mut DriverEnd) -> bool
+    ensures { RefusesOne waiting.old waiting.new driver.old driver.new result }
+{
+    if waiting.count() >= IN_HAND {
+        return false;
     }
+    let Some(request) = driver.next(rt) else {
+        return false;
+    };
+    waiting.put_outcome(line_lost(&request));
+    true
 }
 
 impl Offline {
@@ -129,10 +125,7 @@ impl Offline {
         lose_all(&mut outcomes, in_hand);
         put_all(&mut lines, unannounced);
         Ok(Offline {
-            waiting: Waiting {
-                outcomes,
-                lines: LineQueue::of(lines),
-            },
+            waiting: Waiting::of(outcomes, lines),
         })
     }
 
@@ -158,7 +151,7 @@ impl Offline {
     pub fn turn_away<R: Wait>(&mut self, rt: &R, driver: &mut DriverEnd) -> Turn
         ensures { PassesAway self.old self.new driver.old driver.new result }
     {
-        let took = self.waiting.refuse_one(rt, driver);
+        let took = refuse_one(&mut self.waiting, rt, driver);
         let told = self.waiting.place_outcomes(driver);
         let announced = self.waiting.place_lines(driver);
         self.answer(took | told | announced)

@@ -33,7 +33,7 @@ impl<L: SerialLine, R: Wait + Drop> Session<L, R> {
     fn is_lost(&self) -> bool
         ensures { result ≡ has_lost_line self.now }
     {
-        self.machine.core.lost
+        self.machine.core.is_lost()
     }
 
     /// Whether a call on the line has failed.
@@ -133,7 +133,7 @@ impl<L: SerialLine, R: Wait + Drop> Session<L, R> {
         ensures loses { LosesOr result (standing_of (line_by L.received L.sent L.calls L.failures L.empty_reads L.stalled_writes) self.old)
             (standing_of (line_by L.received L.sent L.calls L.failures L.empty_reads L.stalled_writes) self.new) }
     {
-        if self.machine.core.lost {
+        if self.machine.core.is_lost() {
             return SessionFault::Failed;
         }
         self.machine.lose();

@@ -16,8 +16,8 @@ use Rattle.modem_history.specs.EveryTurn.{GoesFault}
 use Rattle.modem_history.proofs.calls.StatesAfterActs.{after_both}
 use Rattle.modem_driver.specs.SessionStates.{Machine, MachineGoes, MachineLoses, end_of}
 use Rattle.modem_driver.specs.TurnSteps.{TurnState, StandingFits, Leads, Places, view_of, inside}
-use Rattle.modem_driver.proofs.sessions.steps.CollectedActs.{told_both}
-use Rattle.modem_driver.proofs.sessions.steps.ListenedLines.{heard_both}
+use Rattle.modem_core.proofs.sessions.steps.CollectedActs.{told_both}
+use Rattle.modem_core.proofs.sessions.steps.ListenedLines.{heard_both}
 use Rattle.modem_driver.proofs.sessions.steps.LineLoss.{fail_all}
 use Rattle.modem_driver.proofs.sessions.steps.OneFrame.{few_both}
 use Rattle.modem_driver.proofs.sessions.meanings.WholeTurns.{Went, placed, went_placed, taken_still, offers_what_waits, offers_on, same_desk}

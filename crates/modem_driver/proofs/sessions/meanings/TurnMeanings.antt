@@ -14,13 +14,13 @@ use Rattle.modem_history.specs.Kinds.{of_kind}
 use Rattle.modem_history.specs.Sessions.{Beginning, driving, caller_outcomes, backlog_in}
 use Rattle.modem_history.specs.Turns.{TurnAnswer, IsAtRest, Means, says_moved, IsWriterFull, HoldsByBacklog, HoldsWhereRoom, Write, Offers, has_room_for, octets_written}
 use Rattle.modem_history.specs.EveryTurn.{GoesTurn}
-use Rattle.modem_driver.specs.Cores.{Core}
+use Rattle.modem_core.specs.Cores.{Core}
 use Rattle.modem_history.specs.GoingOut.{next_out}
-use Rattle.modem_driver.specs.Running.{CoreIsIdle}
+use Rattle.modem_core.specs.Running.{CoreIsIdle}
 use Rattle.modem_driver.specs.SessionStates.{Machine}
 use Rattle.modem_driver.specs.TurnSteps.{TurnState, StandingFits, Leads, view_of, inside}
 use Rattle.modem_driver.specs.SessionTurns.{Answers}
-use Rattle.modem_driver.proofs.outgoing.QuietHistories.{drained_quiet}
+use Rattle.modem_core.proofs.outgoing.QuietHistories.{drained_quiet}
 use Rattle.modem_driver.proofs.sessions.steps.CoreCalls.{is_run}
 use Rattle.modem_driver.proofs.sessions.meanings.EveryStep.{takes_steps}
 use Rattle.modem_driver.proofs.sessions.meanings.TurnAnswers.{Run, Still, all_exchange, all_acts, went_out, went_got, went_all, has_moved_all, is_still, sound_five, not_lost, none_queued, all_given, all_sent, all_got}

@@ -22,8 +22,8 @@ use Rattle.modem_driver.specs.Endings.{Begins, KeepsEnd}
 use Rattle.modem_driver.specs.SessionStates.{Machine}
 use Rattle.modem_driver.specs.SessionTurns.{HasTurned}
 use Rattle.modem_driver.specs.TurnSteps.{TurnState, StandingFits, Leads, Adds, AddsAll, Places, Writes, ReadsOn, TakesOne, view_of}
-use Rattle.modem_driver.proofs.sessions.steps.CollectedActs.{told_both}
-use Rattle.modem_driver.proofs.sessions.steps.ListenedLines.{heard_both}
+use Rattle.modem_core.proofs.sessions.steps.CollectedActs.{told_both}
+use Rattle.modem_core.proofs.sessions.steps.ListenedLines.{heard_both}
 use Rattle.modem_driver.proofs.sessions.steps.OneFrame.{few_both}
 
 -- ## One step after the other

@@ -40,16 +40,16 @@ use Rattle.modem_history.proofs.requests.CommandsInStep.{left_in}
 use Rattle.modem_history.proofs.requests.StepOfRequest.{if_none, took_hand}
 use Rattle.modem_history.proofs.requests.RequestsAfterCalls.{distinct_ends}
 use Rattle.modem_history.proofs.requests.UntoldRequests.{all_answer, hand_is, no_outcome}
-use Rattle.modem_driver.proofs.requests.TakenRequests.{asked_frames, distinct_with, live_of, once_now}
-use Rattle.modem_driver.proofs.sessions.steps.CollectedActs.{told_both}
-use Rattle.modem_driver.specs.Cores as cores
-use Rattle.modem_driver.specs.Cores.{Core, MayCome, Runs, RunsUnless, may_wait, state_shown}
-use Rattle.modem_driver.specs.Endings.{asker_of, asks_stop, ends_stop, has_stopped, is_answered, is_end_of, is_stop, is_stopped_by}
+use Rattle.modem_core.proofs.requests.TakenRequests.{asked_frames, distinct_with, live_of, once_now}
+use Rattle.modem_core.proofs.sessions.steps.CollectedActs.{told_both}
+use Rattle.modem_core.specs.Cores as cores
+use Rattle.modem_core.specs.Cores.{Core, MayCome, Runs, RunsUnless, may_wait, state_shown}
+use Rattle.modem_core.specs.Stops.{asker_of, asks_stop, ends_stop, has_stopped, is_answered, is_end_of, is_stop, is_stopped_by}
 use Rattle.modem_history.proofs.law_proofs.SessionLaws.{distinct_taken}
 use Rattle.modem_driver.specs.SessionStates.{Machine, seen_by, end_of}
-use Rattle.modem_driver.proofs.sessions.steps.LongerHistories.{outcomes_after, taken_after}
+use Rattle.modem_core.proofs.sessions.steps.LongerHistories.{outcomes_after, taken_after}
 use Rattle.modem_driver.proofs.sessions.steps.CoreCalls.{FitsMachine}
-use Rattle.modem_driver.proofs.sessions.steps.OutcomeCounts.{any_left, none_of}
+use Rattle.modem_core.proofs.sessions.steps.OutcomeCounts.{any_left, none_of}
 use Rattle.modem_driver.proofs.sessions.polls.StopProgress.{NoneEnds}
 use Rattle.modem_driver.proofs.sessions.polls.StopsInHand.{any_same, ends, ends_by, later_ends, still_stopped, stopped_both, stops_left, unless_ends}
 use Rattle.modem_history.proofs.rules.MadeLaws.{laws_of}

@@ -15,13 +15,14 @@ use Rattle.modem_history.specs.Sessions.{Beginning, SessionView, at_place}
 use Rattle.modem_history.specs.Turns.{outcomes_told}
 use Rattle.modem_history.proofs.calls.StatesAfterActs.{after_both}
 use Rattle.modem_history.proofs.requests.RequestsInHand.{found_tests}
-use Rattle.modem_driver.specs.declared.machine.course.Asker.{Asker}
+use Rattle.modem_core.specs.declared.asker.Asker.{Asker}
 use Rattle.modem_driver.specs.declared.machine.course.Course.{Course}
 use Rattle.modem_driver.specs.declared.machine.course.Course.TheVariants.{GoesOn, Stopped, Ended}
 use Rattle.modem_driver.specs.declared.session.ending.Ended.TheVariants as ended
 use Rattle.modem_driver.specs.declared.session.error.SessionFault.TheVariants as fault
-use Rattle.modem_driver.specs.Endings.{Begins, HasCome, HasEnded, KeepsEnd, asker_of, course_after, ends_stop, has_stopped, is_answered, is_end_of, is_stop, is_stopped_by}
-use Rattle.modem_driver.proofs.sessions.steps.LongerHistories.{outcomes_after}
+use Rattle.modem_driver.specs.Endings.{Begins, HasCome, HasEnded, KeepsEnd, course_after}
+use Rattle.modem_core.specs.Stops.{asker_of, ends_stop, has_stopped, is_answered, is_end_of, is_stop, is_stopped_by}
+use Rattle.modem_core.proofs.sessions.steps.LongerHistories.{outcomes_after}
 
 pub any_of : (s : Asker) (acts : List code.Act) → list_any (λ (a : code.Act). is_end_of s (act_of a)) acts ≡ list_any (is_end_of s) (map act_of acts)
 any_of s [] = refl

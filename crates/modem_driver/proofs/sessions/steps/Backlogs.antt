@@ -20,15 +20,15 @@ use Rattle.modem_history.specs.Lawful.{Lawful}
 use Rattle.modem_history.specs.Sessions.{Beginning, LineView, SessionView, driving, backlog_in, gots, heard_as}
 use Rattle.modem_history.specs.Turns.{HoldsByBacklog, HoldsWhereRoom, LacksMscRoom, outcomes_told, lines_heard, may_act}
 use Rattle.modem_history.proofs.calls.StatesAfterActs.{after_both}
-use Rattle.modem_driver.specs.Holding.{CallsForNothing, due_by, flow_due}
+use Rattle.modem_core.specs.Holding.{CallsForNothing, due_by, flow_due}
 use Rattle.modem_driver.specs.BacklogChecks.{ChecksOne, SettlesOne}
-use Rattle.modem_driver.specs.LineQueues.{AreFewOnEach}
+use Rattle.modem_core.specs.LineQueues.{AreFewOnEach}
 use Rattle.modem_history.specs.EveryTurn.{is_check}
 use Rattle.modem_driver.specs.SessionStates.{Machine, MachineGoes, seen_by, end_of}
 use Rattle.modem_driver.specs.TurnSteps.{Leads, AddsAll, Checks, turn_state, is_more}
 use Rattle.modem_driver.proofs.sessions.steps.CoreCalls.{FitsMachine}
-use Rattle.modem_driver.proofs.sessions.steps.CollectedActs.{told_both}
-use Rattle.modem_driver.proofs.sessions.steps.ListenedLines.{heard_both}
+use Rattle.modem_core.proofs.sessions.steps.CollectedActs.{told_both}
+use Rattle.modem_core.proofs.sessions.steps.ListenedLines.{heard_both}
 use Rattle.modem_driver.proofs.sessions.steps.OneFrame.{none_both}
 use Rattle.modem_driver.proofs.sessions.meanings.TurnFaults.{none_loses}
 use Rattle.modem_driver.proofs.sessions.steps.OneBacklog.{checks_one}

@@ -18,13 +18,14 @@ use Rattle.modem_history.proofs.outcomes.SingleOutcomes.{uses_once}
 use Rattle.modem_history.proofs.law_proofs.SessionLaws.{distinct_taken, since_are}
 use Rattle.modem_driver.specs.WaitingTicks.{AreDelays}
 use Rattle.modem_driver.proofs.sessions.steps.WaitedTicks.{delays_after}
-use Rattle.modem_driver.specs.Cores.{MayCome, GoesOn, IsRun}
-use Rattle.modem_driver.specs.Holding.{HoldsFit}
-use Rattle.modem_driver.specs.Endings.{HasCome, is_stop}
+use Rattle.modem_core.specs.Cores.{MayCome, GoesOn, IsRun}
+use Rattle.modem_core.specs.Holding.{HoldsFit}
+use Rattle.modem_driver.specs.Endings.{HasCome}
+use Rattle.modem_core.specs.Stops.{is_stop}
 use Rattle.modem_driver.specs.SessionStates.{Machine, MachineFits, seen_by, end_of}
-use Rattle.modem_driver.proofs.sessions.steps.LongerHistories.{taken_after, given_after, room_after, turn_after, has_listener}
-use Rattle.modem_driver.proofs.sessions.steps.OutcomeCounts.{is_caller, hand_counts, callers_told}
-use Rattle.modem_driver.proofs.sessions.steps.ListenedLines.{Hear, all_listened}
+use Rattle.modem_core.proofs.sessions.steps.LongerHistories.{taken_after, given_after, room_after, turn_after, has_listener}
+use Rattle.modem_core.proofs.sessions.steps.OutcomeCounts.{is_caller, hand_counts, callers_told}
+use Rattle.modem_core.proofs.sessions.steps.ListenedLines.{Hear, all_listened}
 use Rattle.modem_driver.proofs.sessions.steps.WaitingDeliveries.{told_part, heard_part, sent_part}
 use Rattle.modem_driver.proofs.sessions.polls.StopsInHand.{said_stops}
 use Rattle.modem_history.proofs.rules.MadeLaws.{laws_of, takes_octet}

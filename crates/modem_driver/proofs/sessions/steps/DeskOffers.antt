@@ -19,11 +19,11 @@ use Rattle.modem_history.specs.Kinds.{of_kind, is_listened}
 use Rattle.modem_history.specs.Sessions.{Beginning, LineView, SessionView, FitsTold, FitsHeard, at_place, caller_outcomes, heard_as}
 use Rattle.modem_history.specs.EveryTurn.{count_at}
 use Rattle.modem_history.specs.Turns.{amount, counted}
-use Rattle.modem_driver.specs.Placing.{of_key, Gave, Stay, Placed, TellsAlone, AnnouncesAlone, caller_of, place_of, IsRingOf, IsCaller, IsListenerOf, IsHeard, Rings, caller_rings, listener_rings}
+use Rattle.modem_core.specs.Placing.{of_key, Gave, Stay, Placed, TellsAlone, AnnouncesAlone, caller_of, place_of, IsRingOf, IsCaller, IsListenerOf, IsHeard, Rings, caller_rings, listener_rings}
 use Rattle.modem_driver.specs.Endings.{Begins}
 use Rattle.modem_driver.specs.SessionStates.{Machine, seen_by, end_of}
 use Rattle.modem_driver.specs.TurnSteps.{Leads, Places, turn_state}
-use Rattle.modem_driver.proofs.sessions.steps.OutcomeCounts.{is_callers, is_caller}
+use Rattle.modem_core.proofs.sessions.steps.OutcomeCounts.{is_callers, is_caller}
 use Rattle.modem_driver.proofs.sessions.polls.StopProgress.{Grows, begins_whole, come_on}
 use Rattle.modem_driver.proofs.sessions.steps.LineOctets.{loss_with}
 use Rattle.modem_driver.proofs.sessions.steps.WaitingDeliveries.{sent_part, received_part}

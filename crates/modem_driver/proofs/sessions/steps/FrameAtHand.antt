@@ -16,20 +16,21 @@ use Rattle.modem_history.specs.Calls.{calls, seen, is_lost}
 use Rattle.modem_history.specs.Sessions.{Beginning, LineView, FitsLoss, FitsReceived, driving, gots, heard_as}
 use Rattle.modem_history.specs.Turns.{lines_heard}
 use Rattle.modem_history.proofs.calls.CalledActs.{calls_said}
-use Rattle.modem_driver.specs.Cores.{Core, Handles, GoesOn}
-use Rattle.modem_driver.specs.Holding.{HoldsFit, KeepsHeld}
-use Rattle.modem_driver.specs.Endings.{HasCome, asker_of, course_after, is_answered, is_stop}
-use Rattle.modem_driver.specs.Receiving.{HasRoom, brings_data}
-use Rattle.modem_driver.specs.Running.{CoreIsIdle}
+use Rattle.modem_core.specs.Cores.{Core, Handles, GoesOn}
+use Rattle.modem_core.specs.Holding.{HoldsFit, KeepsHeld}
+use Rattle.modem_driver.specs.Endings.{HasCome, course_after}
+use Rattle.modem_core.specs.Stops.{asker_of, is_answered, is_stop}
+use Rattle.modem_core.specs.Receiving.{HasRoom, brings_data}
+use Rattle.modem_core.specs.Running.{CoreIsIdle}
 use Rattle.modem_driver.specs.SessionStates.{Machine, seen_by, end_of}
 use Rattle.modem_driver.specs.TurnSteps.{Leads, Adds, AddsAll}
 use Rattle.modem_driver.specs.GettingSteps.{HasData, MachineGets}
-use Rattle.modem_driver.specs.WaitingLists.{WaitingLists, Keeps}
-use Rattle.modem_driver.proofs.sessions.steps.LongerHistories.{gots_after, losses_after, lost_after}
+use Rattle.modem_core.specs.WaitingLists.{WaitingLists, Keeps}
+use Rattle.modem_core.proofs.sessions.steps.LongerHistories.{gots_after, losses_after, lost_after}
 use Rattle.modem_driver.proofs.sessions.steps.CoreCalls.{FitsMachine, IsBare, KeepsMore, call_fits, few_told, may_come}
 use Rattle.modem_driver.proofs.sessions.polls.StopProgress.{come_noted, ended_after, grows_none}
 use Rattle.modem_driver.proofs.sessions.steps.OneBacklog.{said_may}
-use Rattle.modem_driver.proofs.sessions.steps.ListenedLines.{calls_hear}
+use Rattle.modem_core.proofs.sessions.steps.ListenedLines.{calls_hear}
 use Rattle.modem_driver.proofs.sessions.steps.NextFrame.{stands_in}
 use Rattle.modem_driver.proofs.sessions.steps.OneFrame.{one_few, said_none}
 use Rattle.modem_driver.proofs.sessions.polls.EndedStops.{none_noted}

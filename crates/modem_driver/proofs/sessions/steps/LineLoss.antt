@@ -16,15 +16,15 @@ use Rattle.modem_history.specs.Calls.{Setting, HistoryView, calls, calls_seeing,
 use Rattle.modem_history.specs.Sessions.{FitsLoss, driving, gots}
 use Rattle.modem_history.specs.Turns.{lines_heard, outcomes_told, may_act, may_fail}
 use Rattle.modem_history.proofs.calls.CalledActs.{calls_said}
-use Rattle.modem_driver.specs.Cores.{Core, Fits, Handles, GoesOn, RunsUnless}
-use Rattle.modem_driver.specs.Holding.{HoldsFit, KeepsHeld}
+use Rattle.modem_core.specs.Cores.{Core, Fits, Handles, GoesOn, RunsUnless}
+use Rattle.modem_core.specs.Holding.{HoldsFit, KeepsHeld}
 use Rattle.modem_driver.specs.SessionStates.{Machine, MachineGoes, MachineLoses, seen_by, end_of}
-use Rattle.modem_driver.specs.WaitingLists.{WaitingLists, Keeps}
-use Rattle.modem_driver.proofs.sessions.steps.LongerHistories.{gots_after, losses_after, lost_after, taken_after}
+use Rattle.modem_core.specs.WaitingLists.{WaitingLists, Keeps}
+use Rattle.modem_core.proofs.sessions.steps.LongerHistories.{gots_after, losses_after, lost_after, taken_after}
 use Rattle.modem_driver.proofs.sessions.steps.CoreCalls.{FitsMachine, IsBare, KeepsMore, call_fits, few_told, may_come}
 use Rattle.modem_driver.proofs.sessions.polls.StopProgress.{come_on, grows_none}
 use Rattle.modem_driver.proofs.sessions.steps.OneBacklog.{said_may}
-use Rattle.modem_driver.proofs.sessions.steps.ListenedLines.{calls_hear, lines_of_call}
+use Rattle.modem_core.proofs.sessions.steps.ListenedLines.{calls_hear, lines_of_call}
 use Rattle.modem_driver.proofs.sessions.steps.WaitingDeliveries.{received_part}
 use Rattle.modem_driver.proofs.sessions.steps.OneFrame.{said_none}
 use Rattle.modem_driver.proofs.sessions.polls.StopsInHand.{ends, ends_by, later_ends, none_ends, unless_ends}

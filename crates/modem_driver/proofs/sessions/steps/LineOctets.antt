@@ -10,8 +10,8 @@ use Rattle.modem_desk.specs.Ends.{DriverView}
 use Rattle.modem_history.specs.Acts.{Act, in_hand}
 use Rattle.modem_history.specs.Requests.{are_distinct}
 use Rattle.modem_history.specs.Sessions.{Beginning, LineView, EndView, SessionView, SessionFits, FitsLoss, FitsReceived, FitsSent, gots, given_on, last_octets, heard_as, driving}
-use Rattle.modem_driver.specs.Cores.{Core, Fits, IsSettingOf}
-use Rattle.modem_driver.specs.Holding.{HoldsFit}
+use Rattle.modem_core.specs.Cores.{Core, Fits, IsSettingOf}
+use Rattle.modem_core.specs.Holding.{HoldsFit}
 use Rattle.modem_driver.specs.Endings.{HasCome}
 use Rattle.modem_driver.specs.WaitingTicks.{AreDelays}
 use Rattle.modem_driver.specs.declared.machine.delays.Delay.{Delay}

@@ -24,23 +24,23 @@ use Rattle.modem_history.specs.Sessions.{Beginning, LineView, TakesWithRoom, dri
 use Rattle.modem_history.specs.Turns.{outcomes_told, lines_heard, may_act}
 use Rattle.modem_driver.specs.WaitingTicks.{AreDelays}
 use Rattle.modem_driver.specs.declared.machine.delays.Delay.{Delay}
-use Rattle.modem_driver.specs.Cores.{Core}
-use Rattle.modem_driver.specs.CoreGoing.{StandsIn, GoesOut, CoreGoesOn, gone_on}
+use Rattle.modem_core.specs.Cores.{Core}
+use Rattle.modem_core.specs.CoreGoing.{StandsIn, GoesOut, CoreGoesOn, gone_on}
 use Rattle.modem_history.specs.EveryTurn.{acts_out, octets_out, goes_in}
 use Rattle.modem_history.specs.GoingOut.{SendsInTurn, next_out, out_by, next_to_send, data_of, with_out, after_out}
-use Rattle.modem_driver.specs.Holding.{HoldsFit, KeepsHeldOut}
-use Rattle.modem_driver.specs.Running.{CoreIsIdle}
+use Rattle.modem_core.specs.Holding.{HoldsFit, KeepsHeldOut}
+use Rattle.modem_core.specs.Running.{CoreIsIdle}
 use Rattle.modem_driver.specs.SessionStates.{Machine, seen_by, end_of}
 use Rattle.modem_driver.specs.TurnSteps.{SendsOn, AddsAll, Leads, is_more, turn_state, view_of}
 use Rattle.modem_driver.specs.SendingSteps.{MachineSends}
-use Rattle.modem_driver.proofs.sessions.steps.LongerHistories.{has_listener}
+use Rattle.modem_core.proofs.sessions.steps.LongerHistories.{has_listener}
 use Rattle.modem_driver.proofs.sessions.steps.CoreCalls.{FitsMachine, is_run}
 use Rattle.modem_driver.proofs.sessions.polls.StopProgress.{come_on, grows_none}
 use Rattle.modem_driver.proofs.sessions.steps.WaitingDeliveries.{told_part, heard_part, received_part}
 use Rattle.modem_driver.proofs.sessions.steps.QueuedInformation.{queue_plain}
 use Rattle.mux_station.proofs.law_proofs.ControlFrames.{is_plain}
 use Rattle.modem_driver.proofs.sessions.polls.StopsInHand.{ends, none_ends}
-use Rattle.modem_driver.specs.Endings.{is_stop}
+use Rattle.modem_core.specs.Stops.{is_stop}
 use Rattle.modem_history.specs.Rules.{goes_out}
 
 -- ## What goes out of a history

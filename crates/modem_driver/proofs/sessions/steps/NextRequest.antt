@@ -18,7 +18,7 @@ use Rattle.modem_driver.specs.SessionStates.{AreFormed, Machine, seen_by, end_of
 use Rattle.modem_driver.specs.TurnSteps.{StandingFits, Leads, AddsAll, TakesOne, turn_state}
 use Rattle.modem_driver.specs.TurnTakes.{MachineTakes, TakesNext}
 use Rattle.modem_driver.proofs.law_proofs.RequestNumbers.{taken_once}
-use Rattle.modem_driver.proofs.sessions.steps.OutcomeCounts.{is_caller}
+use Rattle.modem_core.proofs.sessions.steps.OutcomeCounts.{is_caller}
 use Rattle.modem_driver.proofs.sessions.polls.StopProgress.{come_on, grows_none}
 use Rattle.modem_driver.proofs.sessions.steps.LineOctets.{loss_with}
 use Rattle.modem_driver.proofs.sessions.steps.WaitingDeliveries.{told_part, heard_part, sent_part, received_part}

@@ -24,8 +24,8 @@ use Rattle.modem_history.proofs.calls.CalledActs.{Saids, calls_said}
 use Rattle.modem_driver.specs.WaitingTicks.{AreDelays}
 use Rattle.modem_driver.specs.declared.machine.delays.Delay.{Delay}
 use Rattle.modem_driver.proofs.sessions.steps.WaitedTicks.{delays_flow}
-use Rattle.modem_driver.specs.Cores.{Core, GoesOn, Fits, Runs, RunsUnless, IsSettingOf}
-use Rattle.modem_driver.specs.Holding.{HoldsFit, Flows, FlowsOn, HasNoRoom, LacksRoom, NeverDue, MayAsk, acts_due, due_by, flow_due, flow_act}
+use Rattle.modem_core.specs.Cores.{Core, GoesOn, Fits, Runs, RunsUnless, IsSettingOf}
+use Rattle.modem_core.specs.Holding.{HoldsFit, Flows, FlowsOn, HasNoRoom, LacksRoom, NeverDue, MayAsk, acts_due, due_by, flow_due, flow_act}
 use Rattle.modem_driver.specs.Endings.{HasCome}
 use Rattle.modem_driver.specs.BacklogChecks.{ChecksOne, SettlesOne}
 use Rattle.modem_history.specs.EveryTurn.{is_check}
@@ -35,12 +35,12 @@ use Rattle.mux_station.specs.Messages.{msc}
 use Rattle.mux_station.proofs.user_calls.ProbeStopFlowOffer.{no_close_down}
 use Rattle.modem_driver.specs.TurnSteps.{is_more}
 use Rattle.modem_driver.specs.SessionStates.{Machine, MachineGoes, seen_by, end_of}
-use Rattle.modem_driver.proofs.cores.StationPasts.{queue_seen}
-use Rattle.modem_driver.proofs.sessions.steps.LongerHistories.{gots_after, losses_after, lost_after, taken_after}
+use Rattle.modem_core.proofs.cores.StationPasts.{queue_seen}
+use Rattle.modem_core.proofs.sessions.steps.LongerHistories.{gots_after, losses_after, lost_after, taken_after}
 use Rattle.modem_driver.proofs.sessions.steps.CoreCalls.{FitsMachine, IsBare, KeepsMore, call_fits, is_run}
 use Rattle.modem_driver.proofs.sessions.polls.StopProgress.{come_on, grows_none}
 use Rattle.modem_driver.proofs.sessions.steps.LineOctets.{session_with, loss_with}
-use Rattle.modem_driver.proofs.sessions.steps.ListenedLines.{calls_hear}
+use Rattle.modem_core.proofs.sessions.steps.ListenedLines.{calls_hear}
 use Rattle.modem_driver.proofs.sessions.steps.WaitingDeliveries.{received_part, sent_part}
 use Rattle.modem_driver.proofs.sessions.polls.StopsInHand.{ends, none_ends}
 

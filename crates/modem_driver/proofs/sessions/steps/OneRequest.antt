@@ -18,18 +18,18 @@ use Rattle.modem_history.proofs.calls.CalledActs.{calls_said}
 use Rattle.modem_history.proofs.outcomes.SingleOutcomes.{uses_once}
 use Rattle.modem_history.proofs.law_proofs.SessionLaws.{since_are, since_more}
 use Rattle.modem_driver.proofs.sessions.steps.WaitedTicks.{delays_after}
-use Rattle.modem_driver.specs.Cores.{Core, Handles, GoesOn, MayCome}
-use Rattle.modem_driver.specs.Holding.{HoldsFit, KeepsHeld}
+use Rattle.modem_core.specs.Cores.{Core, Handles, GoesOn, MayCome}
+use Rattle.modem_core.specs.Holding.{HoldsFit, KeepsHeld}
 use Rattle.modem_driver.specs.SessionStates.{Machine, seen_by, end_of}
 use Rattle.modem_driver.specs.TurnSteps.{Adds}
 use Rattle.modem_driver.specs.TurnTakes.{MachineTakes, TakesNext}
-use Rattle.modem_driver.specs.WaitingLists.{WaitingLists, Keeps}
-use Rattle.modem_driver.proofs.sessions.steps.LongerHistories.{gots_after, taken_after, given_after, losses_after, lost_after}
+use Rattle.modem_core.specs.WaitingLists.{WaitingLists, Keeps}
+use Rattle.modem_core.proofs.sessions.steps.LongerHistories.{gots_after, taken_after, given_after, losses_after, lost_after}
 use Rattle.modem_driver.proofs.sessions.steps.CoreCalls.{FitsMachine, callers_taken, is_run}
-use Rattle.modem_driver.proofs.sessions.steps.OutcomeCounts.{is_caller, hand_counts, callers_told}
+use Rattle.modem_core.proofs.sessions.steps.OutcomeCounts.{is_caller, hand_counts, callers_told}
 use Rattle.modem_driver.proofs.sessions.polls.StopProgress.{come_on, grows_none}
 use Rattle.modem_driver.proofs.sessions.steps.OneBacklog.{said_may}
-use Rattle.modem_driver.proofs.sessions.steps.ListenedLines.{calls_hear, lines_of_call, all_listened}
+use Rattle.modem_core.proofs.sessions.steps.ListenedLines.{calls_hear, lines_of_call, all_listened}
 use Rattle.modem_driver.proofs.sessions.steps.WaitingDeliveries.{told_part, heard_part, sent_part, received_part}
 use Rattle.modem_driver.proofs.sessions.steps.OneFrame.{said_few}
 use Rattle.modem_driver.proofs.sessions.polls.EndedStops.{took_none, took_stops}

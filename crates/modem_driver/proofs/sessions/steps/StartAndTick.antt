@@ -12,20 +12,21 @@ use Rattle.modem_history.specs.SessionLaws.{BeginsFitting}
 use Rattle.modem_history.specs.Turns.{lines_heard}
 use Rattle.modem_history.proofs.calls.CalledActs.{calls_said}
 use Rattle.modem_history.proofs.law_proofs.SessionLaws.{begins_fitting}
-use Rattle.modem_driver.specs.Cores.{dialect_in, Core, Fits, Handles, GoesOn}
-use Rattle.modem_driver.specs.Holding.{HoldsFit, KeepsHeld}
-use Rattle.modem_driver.specs.Endings.{HasCome, asker_of, course_after, is_answered, is_stop}
+use Rattle.modem_core.specs.Cores.{dialect_in, Core, Fits, Handles, GoesOn}
+use Rattle.modem_core.specs.Holding.{HoldsFit, KeepsHeld}
+use Rattle.modem_driver.specs.Endings.{HasCome, course_after}
+use Rattle.modem_core.specs.Stops.{asker_of, is_answered, is_stop}
 use Rattle.modem_driver.specs.SessionStates.{SessionState, Machine, MachineFits, MachineGoes, MachineTicks, Ticks, machine_by, beginning_by, seen_by, end_of}
 use Rattle.modem_driver.specs.declared.session.error.SessionError.{SessionError}
-use Rattle.modem_driver.specs.WaitingLists.{WaitingLists, Keeps}
+use Rattle.modem_core.specs.WaitingLists.{WaitingLists, Keeps}
 use Rattle.modem_driver.specs.WaitingTicks.{AreDelays, CountsTick}
 use Rattle.modem_driver.specs.declared.machine.delays.Delay.{Delay}
 use Rattle.modem_driver.proofs.sessions.steps.WaitedTicks.{delays_none, delays_tick}
-use Rattle.modem_driver.proofs.sessions.steps.LongerHistories.{gots_after, losses_after, lost_after}
+use Rattle.modem_core.proofs.sessions.steps.LongerHistories.{gots_after, losses_after, lost_after}
 use Rattle.modem_driver.proofs.sessions.steps.CoreCalls.{FitsMachine, IsBare, KeepsMore, call_fits, may_come}
 use Rattle.modem_driver.proofs.sessions.polls.StopProgress.{come_noted, grows_none}
-use Rattle.modem_driver.proofs.sessions.steps.Kinds.{listened_in, in_listened}
-use Rattle.modem_driver.proofs.sessions.steps.ListenedLines.{calls_hear, lines_of_call}
+use Rattle.modem_core.proofs.sessions.steps.Kinds.{listened_in, in_listened}
+use Rattle.modem_core.proofs.sessions.steps.ListenedLines.{calls_hear, lines_of_call}
 use Rattle.modem_driver.proofs.sessions.steps.WaitingDeliveries.{received_part}
 use Rattle.modem_driver.proofs.sessions.polls.EndedStops.{none_noted}
 use Rattle.modem_history.specs.Lawful.{Lawful}

@@ -12,7 +12,7 @@ use Rattle.modem_driver.specs.declared.session.error.SessionFault.{SessionFault}
 use Rattle.modem_driver.specs.SessionStates.{AreFormed, TakesMore}
 use Rattle.modem_driver.specs.SessionTurns.{LosesOr}
 use Rattle.modem_driver.specs.TurnSteps.{TurnState, Places, Checks, SendsOn, Writes, Gets, ReadsOn, TakesOne}
-use Rattle.modem_driver.proofs.sessions.steps.OutcomeCounts.{is_caller}
+use Rattle.modem_core.proofs.sessions.steps.OutcomeCounts.{is_caller}
 
 -- ## None, and one after the other
 

@@ -8,13 +8,13 @@ use Rattle.modem_desk.specs.declared.request.Request.{Request}
 use Rattle.modem_history.specs.Acts.{Act, Took, Got, Sent, Told, Heard, Tick, Lost, Held, Freed, Given, after, in_hand}
 use Rattle.modem_history.specs.Wholes.{is_said}
 use Rattle.modem_history.proofs.calls.CalledActs.{Saids}
-use Rattle.modem_driver.specs.Holding.{flow_act}
+use Rattle.modem_core.specs.Holding.{flow_act}
 use Rattle.modem_desk.specs.Ends.{DriverView}
 use Rattle.modem_history.specs.Sessions.{Beginning, LineView}
 use Rattle.modem_driver.specs.Endpoints.{EndpointFits, EndpointState}
 use Rattle.modem_driver.specs.SessionStates.{FitsAll, Machine, SessionState}
 use Rattle.modem_driver.specs.WaitingTicks.{AreDelays, CountsTick, delay_after, delay_at, first_command, is_first, is_same, one_more, ticks_kept, ticks_shown, ticks_waited, waiting_ticks}
-use Rattle.modem_driver.specs.declared.machine.course.Asker.{Asker}
+use Rattle.modem_core.specs.declared.asker.Asker.{Asker}
 use Rattle.modem_driver.specs.declared.machine.delays.Delay.{Delay}
 
 out : {P : Type 0} → false ≡ true → P

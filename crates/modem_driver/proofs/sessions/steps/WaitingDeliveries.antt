@@ -14,8 +14,8 @@ use Rattle.modem_history.specs.Kinds.{of_kind}
 use Rattle.modem_history.specs.Wholes.{outcomes}
 use Rattle.modem_history.specs.Sessions.{Beginning, SessionView, FitsTold, FitsHeard, FitsSent, FitsReceived, caller_outcomes, at_place, gots, given_on, heard_as, octets_of_frames, last_octets}
 use Rattle.modem_history.specs.Turns.{outcomes_told, lines_heard}
-use Rattle.modem_driver.proofs.sessions.steps.LongerHistories.{outcomes_after, heards_after, heard_of, is_heard_as, kind_heard, listened_heard, has_listener}
-use Rattle.modem_driver.proofs.sessions.steps.OutcomeCounts.{is_callers}
+use Rattle.modem_core.proofs.sessions.steps.LongerHistories.{outcomes_after, heards_after, heard_of, is_heard_as, kind_heard, listened_heard, has_listener}
+use Rattle.modem_core.proofs.sessions.steps.OutcomeCounts.{is_callers}
 use Rattle.modem_driver.proofs.sessions.meanings.HeardOrder.{behind_more}
 
 -- outcomes that were told wait behind the others

@@ -5,8 +5,8 @@ use Rattle.modem_driver.specs.Endpoints.{EndpointState, Refuses}
 use Rattle.modem_driver.proofs.endpoints.Requests.{always_err, refuses, refused_by}
 use Rattle.modem_driver.proofs.endpoint.Endpoint.tick.Goals as goal
 
-pub returns-then-self-clause-refused : goal.returns-then-self-clause-refused
-returns-then-self-clause-refused c =
+pub returns-then-is_lost-clause-refused : goal.returns-then-is_lost-clause-refused
+returns-then-is_lost-clause-refused c =
     let e = c.self.inside in
     subst (λ (v : EndpointState). Refuses v (record { machine = c.handle_frames-handled.new.self; next = e.next })) c.self.view_is
     (refuses e.machine c.handle_frames-handled.new.self e.next c.handle_frames-handled.ensures.handles)

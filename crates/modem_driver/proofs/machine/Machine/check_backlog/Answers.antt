@@ -2,8 +2,8 @@
 use Rattle.std.proofs.Common.{◌≡◌, sym, ◌∙◌, subst, ℕ, Bool, false, refl}
 use Rattle.std.specs.Prelude.{not, length, ◌==◌, is_some, Option, Some, None}
 use Rattle.modem_history.specs.Sessions.{backlog_in}
-use Rattle.modem_driver.specs.Cores.{Core}
-use Rattle.modem_driver.specs.Holding.{Flows, HasNoRoom, NeverDue, due_in, acts_due}
+use Rattle.modem_core.specs.Cores.{Core}
+use Rattle.modem_core.specs.Holding.{Flows, HasNoRoom, NeverDue, due_in, acts_due}
 use Rattle.modem_driver.specs.BacklogChecks.{ChecksOne}
 use Rattle.modem_driver.specs.SessionStates.{Machine}
 use Rattle.modem_driver.proofs.sessions.steps.OneBacklog.{checks_one, checks_never, checks_full}

@@ -1,9 +1,9 @@
 -- One connection after the other is checked.
 use Rattle.std.proofs.Common.{subst, arith, ℕ}
 use Rattle.std.specs.Prelude.{false, refl}
-use Rattle.modem_driver.specs.Holding.{CallsForNothing}
+use Rattle.modem_core.specs.Holding.{CallsForNothing}
 use Rattle.modem_driver.specs.BacklogChecks.{ChecksOne}
-use Rattle.modem_driver.specs.LineQueues.{AreFewOnEach}
+use Rattle.modem_core.specs.LineQueues.{AreFewOnEach}
 use Rattle.modem_driver.specs.SessionStates.{Machine}
 use Rattle.modem_driver.proofs.sessions.steps.Backlogs.{checks_few, checks_first, checks_more, checks_all, same_number}
 use Rattle.modem_driver.proofs.machine.Machine.check_backlogs.Goals as goal

@@ -7,11 +7,12 @@ use Rattle.line_end.specs.LineEnds.{LineEnd}
 use Rattle.modem_history.specs.Acts.{Got, act_of}
 use Rattle.modem_history.specs.Turns.{lines_heard}
 use Rattle.modem_driver.specs.declared.machine.course.Course.{Course}
-use Rattle.modem_driver.specs.Endings.{asker_of, course_after, is_answered, is_stop}
+use Rattle.modem_core.specs.Stops.{asker_of, is_answered, is_stop}
+use Rattle.modem_driver.specs.Endings.{course_after}
 use Rattle.modem_driver.specs.SessionStates.{Machine}
 use Rattle.modem_desk.specs.declared.request.Urc.{Urc}
-use Rattle.modem_driver.specs.Doing.{acts_since, stop_in}
-use Rattle.modem_driver.proofs.cores.DoneCalls.{keeps_since}
+use Rattle.modem_core.specs.Doing.{acts_since, stop_in}
+use Rattle.modem_core.proofs.cores.DoneCalls.{keeps_since}
 use Rattle.modem_driver.specs.GettingSteps.{HasData, MachineGets}
 use Rattle.modem_driver.proofs.sessions.polls.StopProgress.{noted}
 use Rattle.modem_driver.proofs.sessions.steps.FrameAtHand.{gets_moved, gets_none, has_data, keeps_from, none_at_hand, stays_at_hand}

@@ -4,9 +4,9 @@ use Rattle.std.specs.Prelude.{List}
 use Rattle.line_end.specs.LineEnds.{LineEnd}
 use Rattle.modem_desk.specs.declared.request.Urc.{Urc}
 use Rattle.modem_history.specs.Acts.{Lost}
-use Rattle.modem_driver.specs.Doing.{acts_since}
+use Rattle.modem_core.specs.Doing.{acts_since}
 use Rattle.modem_driver.specs.SessionStates.{Machine, MachineLoses}
-use Rattle.modem_driver.proofs.cores.DoneCalls.{keeps_since}
+use Rattle.modem_core.proofs.cores.DoneCalls.{keeps_since}
 use Rattle.modem_driver.proofs.sessions.steps.LineLoss.{loses}
 use Rattle.modem_driver.proofs.sessions.steps.MachineParts.{at_end, machine_of}
 use Rattle.modem_driver.proofs.machine.Machine.lose_line.Goals as goal

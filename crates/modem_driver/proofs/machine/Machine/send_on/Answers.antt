@@ -3,7 +3,7 @@ use Rattle.std.proofs.Common.{◌≡◌, sym, ◌∙◌, subst, [], false}
 use Rattle.std.specs.Prelude.{◌≢◌}
 use Rattle.line_end.specs.LineEnds.{LineEnd}
 use Rattle.mux_station.specs.GivenFrames.{outgoing_of}
-use Rattle.modem_driver.specs.Cores.{Core}
+use Rattle.modem_core.specs.Cores.{Core}
 use Rattle.modem_driver.specs.SessionStates.{Machine}
 use Rattle.modem_driver.specs.SendingSteps.{MachineSends}
 use Rattle.modem_driver.proofs.sessions.steps.NextFrame.{send_goes, send_busy, send_none, some_wait, none_wait}

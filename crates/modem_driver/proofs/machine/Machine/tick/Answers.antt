@@ -5,11 +5,12 @@ use Rattle.modem_desk.specs.declared.request.Urc.{Urc}
 use Rattle.modem_history.specs.Acts.{Tick}
 use Rattle.modem_driver.specs.declared.machine.course.Course.{Course}
 use Rattle.modem_driver.specs.declared.machine.Machine.TheInside.{Inside}
-use Rattle.modem_driver.specs.Doing.{acts_since, stop_in}
-use Rattle.modem_driver.specs.Endings.{course_after, is_answered}
+use Rattle.modem_core.specs.Doing.{acts_since, stop_in}
+use Rattle.modem_driver.specs.Endings.{course_after}
+use Rattle.modem_core.specs.Stops.{is_answered}
 use Rattle.modem_driver.specs.SessionStates.{Machine, MachineTicks}
 use Rattle.modem_driver.specs.WaitingTicks.{CountsTick}
-use Rattle.modem_driver.proofs.cores.DoneCalls.{keeps_since}
+use Rattle.modem_core.proofs.cores.DoneCalls.{keeps_since}
 use Rattle.modem_driver.proofs.sessions.steps.StartAndTick.{tick_goes}
 use Rattle.modem_driver.proofs.sessions.steps.MachineParts.{machine_of}
 use Rattle.modem_driver.proofs.machine.Machine.tick.Goals as goal
@@ -20,7 +21,7 @@ returns-clause-ticks c =
     let old : Machine = machine_of k in
     let core = c.tick-answered.new.core in
     let w = c.tick-answered.new.self in
-    let live : k.core.lost ≡ false = sym (ap (λ (v : Inside). v.core.lost) c.self-inside.view_is) ∙ c.if-self.false in
+    let live : k.core.lost ≡ false = sym c.is_lost.ensures ∙ c.if-is_lost.false in
     let does = c.tick-answered.ensures.does in
     let acts = acts_since Tick k.core core does.told in
     let course : c.go_on.new.self ≡ course_after k.course (is_answered (stop_in k.core) acts) = c.go_on.ensures ∙ ap (course_after k.course) does.answered_is in

@@ -1,0 +1,12 @@
+pub mod commands
+pub mod lists
+pub mod replays
+pub mod cores
+pub mod requests
+pub mod outgoing
+pub mod probes
+pub mod frames
+pub mod ticks
+pub mod lines
+pub mod holds
+pub mod sessions

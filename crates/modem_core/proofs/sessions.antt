@@ -1,0 +1,2 @@
+-- What sessions fit, call by call.
+pub mod steps

@@ -1,0 +1,65 @@
+-- What a core keeps after a frame has gone out.
+use Rattle.std.specs.Prelude.{◌≡◌, ◌<◌, ℕ, ◌+◌, IfSome, nat_le, List, length, Option, None, Some, option_map, is_none, slice_set, if◌then◌else◌}
+use Rattle.std.specs.List.{sum_by}
+use Rattle.at_text.specs.OpenWindow.{opened}
+use Rattle.mux_station.specs.Acts as station
+use Rattle.mux_station.specs.Stations.{Station, Channel, channel_at}
+use Rattle.mux_station.specs.Fitting as station_fits
+use Rattle.mux_station.specs.Giving.{next_sender, station_after, SendsNext}
+use Rattle.mux_station.specs.GivenFrames.{Outgoing}
+use Rattle.modem_history.specs.Acts.{Act}
+use Rattle.modem_history.specs.Information.{line_of}
+use Rattle.modem_history.specs.Calls.{Setting, first_on}
+use Rattle.modem_core.specs.Cores.{Core, Fits, IsRun, IsSettingOf, lane_at}
+use Rattle.modem_history.specs.GoingOut.{next_out, after_out}
+
+-- a history that the core fits, and that may go on
+pub record StandsIn (s : Setting) (v : Core) (past : List Act) : Type 0 where
+  pub setting : IsSettingOf s v
+  pub fits : Fits v past
+  pub run : IsRun s past
+
+-- a command's window begins, where none is open
+abbrev pub begun_by : Core → ℕ → Option (List ℕ) → Core
+begun_by v d None = v
+begun_by v d (Some line) =
+    if is_none (lane_at v d).window
+    then record v { lanes = slice_set v.lanes d (record (lane_at v d) { window = Some (opened line) }) }
+    else v
+
+-- where all octets that wait on d fit into the next frame, the window of the first command on d begins
+abbrev pub begun_on : Core → Option ℕ → Core
+begun_on v None = v
+begun_on v (Some d) =
+    if nat_le (length (channel_at v.station d).waiting) v.station.n1
+    then begun_by v d (option_map line_of (first_on d v.hand)) else v
+
+-- the core, with the window begun of the command whose last octets go out next
+abbrev pub begun_next : Core → Core
+begun_next v = begun_on v (next_sender v.station v.station.queue)
+
+-- the core after the next frame has gone out
+abbrev pub gone_on : Core → Core
+gone_on v = if v.lost then v else record (begun_next v) { station = station_after v.station v.station.queue }
+
+-- what goes out is what every history that the core fits says
+unfoldable pub GoesOut : Core → Option Outgoing → Type 0
+GoesOut v o = (s : Setting) (past : List Act) → StandsIn s v past → o ≡ next_out s past
+
+-- after the next frame has gone out the core fits every history with it, which goes on lawful and complete
+unfoldable pub CoreGoesOn : Core → Type 0
+CoreGoesOn v = (s : Setting) (past : List Act) → StandsIn s v past → StandsIn s (gone_on v) (after_out s past)
+
+-- the connection whose data is next may send it, by each past that the station fits
+unfoldable pub SendsTruly : Station → Type 0
+SendsTruly v =
+    (d : ℕ) (seen : List station.Act) → next_sender v v.queue ≡ Some d → station_fits.StationFits v seen
+    → SendsNext v.role d seen
+
+-- what may still go out: the frames in the control queue, and the octets in the send rings
+abbrev pub left_to_go : Core → ℕ
+left_to_go v = length v.station.queue + sum_by (λ (c : Channel). length c.waiting) v.station.channels
+
+-- each frame that goes out leaves less to go
+abbrev pub LeavesLess : Core → Option Outgoing → Type 0
+LeavesLess v o = IfSome o (λ f. left_to_go (gone_on v) < left_to_go v)

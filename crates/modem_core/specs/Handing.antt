@@ -1,0 +1,52 @@
+-- The next command of a connection is handed to the station.
+use Rattle.std.specs.Prelude.{◌≡◌, ℕ, ◌≤◌, Bool, true, false, List, [], ◌∷◌, length, Option, None, Some, option_map}
+use Rattle.mux_frame.specs.Frames.{Frame}
+use Rattle.mux_station.specs.Acts as station
+use Rattle.mux_station.specs.Stations.{Station, setting_of, offer_refused}
+use Rattle.mux_station.specs.Fitting as station_fits
+use Rattle.at_text.specs.declared.unsolicited.UrcKind.{UrcKind}
+use Rattle.modem_history.specs.Acts.{Act, Got}
+use Rattle.modem_history.specs.Information.{line_of}
+use Rattle.modem_history.specs.Calls.{first_on}
+use Rattle.modem_history.specs.Requests.{commands_on, without_first}
+use Rattle.modem_core.specs.Lanes.{Lane}
+use Rattle.modem_core.specs.Cores.{dialect_in, Core, lane_at}
+use Rattle.modem_core.specs.Stops.{asker_of}
+use Rattle.modem_core.specs.Reports.{Listens, read_each}
+
+-- octets are offered on d: the station takes them where it doesn't refuse them
+pub record Offers (old new : Station) (d : ℕ) (octets : List ℕ) : Type 0 where
+  pub setting : setting_of new ≡ setting_of old
+  pub taken : None ≡ offer_refused old d octets
+      → station_fits.StationHandles old new (station.Called (station.Offer d octets))
+
+-- a command line is offered, and its CR
+pub record OffersLine (old new : Station) (d : ℕ) (line : List ℕ) : Type 0 where
+  pub between : Station
+  pub text : Offers old between d line
+  pub end : Offers between new d (13 ∷ [])
+  pub short : length line ≤ 256
+
+abbrev pub HandsOn : Station → Station → ℕ → Option (List ℕ) → Type 0
+HandsOn old new d None = new ≡ old
+HandsOn old new d (Some line) = OffersLine old new d line
+
+-- a command on d has its answer: it is in hand no more, and the next one is offered
+pub record EndsCommand (old new : Core) (d : ℕ) : Type 0 where
+  pub station : Station
+  pub new_is : new ≡ record old { station = station; hand = without_first (commands_on d) old.hand }
+  pub next : HandsOn old.station station d
+      (option_map line_of (first_on d (without_first (commands_on d) old.hand)))
+
+-- the core ends the command under way on d where that has its answer, and else stays
+abbrev pub EndedBy : Bool → Core → Core → ℕ → Type 0
+EndedBy true kept new d = EndsCommand kept new d
+EndedBy false kept new d = new ≡ kept
+
+-- the lane of the connection, and the acts, once the information is read
+unfoldable pub ReadsFrame : Core → Frame → Lane → List Act → Type 0
+ReadsFrame v f lane acts =
+    (listens : UrcKind → Bool) → Listens listens v.kinds
+    → record { kept = lane.kept; window = lane.window; acts = acts }
+    ≡ read_each (dialect_in v) listens f.dlci (option_map asker_of (first_on f.dlci v.hand))
+    (record { kept = (lane_at v f.dlci).kept; window = (lane_at v f.dlci).window; acts = Got f ∷ [] }) f.info

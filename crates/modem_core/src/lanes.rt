@@ -1,0 +1,142 @@
+//! What is kept of all connections.
+ghost use Rattle.std.specs.Prelude.{◌≡◌, ◌≤◌, ◌&&◌, ℕ, false, true, is_none, is_some, length, map, replicate, slice_set, IfOk, OnErr, OnOk};
+ghost use Rattle.std.specs.List.{list_any};
+ghost use Rattle.at_text.specs.Rules.{dialect_of};
+ghost use Rattle.modem_history.specs.Acts.{act_of};
+ghost use Rattle.modem_core.specs.Reports.{ReadsAll};
+ghost use Rattle.modem_core.specs.Settling.{tells_lines};
+ghost use Rattle.modem_core.specs.Lanes.{begun, lane_in, new_lane, turned};
+
+use crate::lane::Lane;
+use crate::line_queue::LineQueue;
+use crate::reports::Reading;
+use crate::settling::Draft;
+use at_text::{CommandLine, Dialect, UrcKind};
+use mux_frame::Dlci;
+use std::alloc::{AllocError, Global};
+use std::marker::Model;
+
+/// The lanes of the connections 0 to 61, and whether the other end of one may be held from sending.
+#[derive(Drop)]
+pub(crate) struct Lanes {
+    each: Vec<Lane>,
+    may_hold: bool,
+}
+
+impl Model for Lanes {
+    ghost use Rattle.std.specs.Prelude.{List};
+    ghost use Rattle.modem_core.specs.Lanes.{Lane, AreLanes};
+
+    ghost Value = { List Lane };
+
+    ghost view = { λ l. l.each.items };
+
+    ghost invariant = { λ l. AreLanes l.each.items l.may_hold };
+}
+
+/// The lanes of all connections.
+fn new_lanes(alloc: Global) -> Result<Vec<Lane>, AllocError>
+    ensures { IfOk result (λ ls. ls.items ≡ replicate 62 new_lane) }
+{
+    let mut lanes = Vec::with_capacity(alloc, Dlci::COUNT)?;
+    for _ in 0..Dlci::COUNT {
+        lanes.push(Lane::new(alloc))?;
+    }
+    Ok(lanes)
+}
+
+/// Whether the other end of one of them is held.
+fn any_held(lanes: &[Lane]) -> bool
+    ensures { result ≡ list_any (λ l. l.held) lanes.now }
+{
+    lanes.iter().any(|lane| lane.held)
+}
+
+impl Lanes {
+    /// Nothing has come on any, and none is held.
+    pub(crate) fn new(alloc: Global) -> Result<Lanes, AllocError>
+        ensures { IfOk result (λ ls. ls ≡ replicate 62 new_lane) }
+    {
+        let each = new_lanes(alloc)?;
+        Ok(Lanes {
+            each,
+            may_hold: false,
+        })
+    }
+
+    /// Whether it is known that none is held.
+    pub(crate) fn holds_none(&self) -> bool
+        ensures { result ≡ true → (d : ℕ) → (lane_in self.now d).held ≡ false }
+    {
+        !self.may_hold
+    }
+
+    /// Whether one is held.
+    pub(crate) fn is_held(&self, dlci: Dlci) -> bool
+        ensures { result ≡ (lane_in self.now dlci.number).held }
+    {
+        self.each[usize::from(dlci.number())].held
+    }
+
+    /// One is held from now on, or no longer.
+    pub(crate) fn turn(&mut self, dlci: Dlci, held: bool)
+        ensures { self.new ≡ turned self.old dlci.number held }
+    {
+        let lane = &mut self.each[usize::from(dlci.number())];
+        lane.held = held;
+        self.may_hold = held || any_held(self.each.as_slice());
+    }
+
+    /// Everything of one starts afresh.
+    pub(crate) fn start(&mut self, dlci: Dlci)
+        ensures { self.new ≡ slice_set self.old dlci.number new_lane }
+    {
+        let lane = &mut self.each[usize::from(dlci.number())];
+        lane.start();
+    }
+
+    /// The window of one begins with this command, where none is open.
+    pub(crate) fn begin(&mut self, dlci: Dlci, line: &CommandLine)
+        ensures { self.new ≡ begun self.old dlci.number line.now }
+    {
+        let lane = &mut self.each[usize::from(dlci.number())];
+        if lane.window.idle() {
+            lane.window.begin(line);
+        }
+    }
+
+    /// Reads octets of one, and says whether a command that was under way there has ended. Want of memory changes nothing.
+    pub(crate) fn read(
+        &mut self,
+        reading: Reading,
+        dialect: &Dialect,
+        kinds: &[UrcKind],
+        octets: &[u8],
+        draft: &mut Draft,
+        lines: &mut LineQueue,
+    ) -> Result<bool, AllocError>
+        requires { list_any tells_lines (map act_of draft.old.said.acts.items) ≡ false }
+        ensures lanes { self.new ≡ slice_set self.old reading.dlci.number (lane_in self.new reading.dlci.number) }
+        ensures read { OnOk result (ReadsAll (dialect_of dialect.now) kinds.now reading octets.now (record {
+          kept = (lane_in self.old reading.dlci.number).kept;
+          window = (lane_in self.old reading.dlci.number).window;
+          acts = map act_of draft.old.said.acts.items;
+        }) (record {
+          kept = (lane_in self.new reading.dlci.number).kept;
+          window = (lane_in self.new reading.dlci.number).window;
+          acts = map act_of draft.new.said.acts.items;
+        })) }
+        ensures held { (lane_in self.new reading.dlci.number).held ≡ (lane_in self.old reading.dlci.number).held }
+        ensures done { IfOk result (λ done.
+            done ≡ (is_some (lane_in self.old reading.dlci.number).window && is_none (lane_in self.new reading.dlci.number).window)) }
+        ensures room { OnOk result (length draft.new.said.acts.items ≤ lines.new.room) }
+        ensures lines { lines.new.items ≡ lines.old.items }
+        ensures err { OnErr result (self.new ≡ self.old) }
+    {
+        let lane = &mut self.each[usize::from(reading.dlci.number())];
+        let may_hold = self.may_hold || lane.held;
+        let done = lane.read(reading, dialect, kinds, octets, draft, lines)?;
+        self.may_hold = may_hold;
+        Ok(done)
+    }
+}

@@ -1,9 +1,0 @@
--- A call and all that goes out after it.
-use Rattle.std.proofs.Common.{refl, map}
-use Rattle.modem_history.specs.Acts.{act_of, Lost}
-use Rattle.modem_driver.specs.Running.{running_of}
-use Rattle.modem_driver.proofs.replays.Pieces.{steps}
-use Rattle.modem_driver.proofs.replaying.Running.lost.Goals as goal
-
-pub returns-clause-steps : goal.returns-clause-steps
-returns-clause-steps c = steps Lost (running_of c.args.self.now) (running_of c.go_on.new.self) c.lost.new.self (map act_of c.in_ok-acts.acts.items) refl c.in_ok-acts.ensures.past c.in_ok-go_on.ensures.sends
