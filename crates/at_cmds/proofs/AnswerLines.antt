@@ -39,6 +39,7 @@ final_long text =
     (λ is. tt)
     (λ others. if_some (starts_with nat_eq text (codes "+CME ERROR:")) (Some (Cme (number_in (drop 11 text)))) None (IsLong text) (long_start text) (λ none. tt)))
 
+-- a line that says a CME number has the whole name of that code, 11 octets
 pub cme_long : (text : List ℕ) (n : Option ℕ) → final_of text ≡ Some (Cme n) → 11 ≤ length text
 cme_long text n is = holds_of (final_of text) (IsLong text) (final_long text) (Cme n) is
 

@@ -33,6 +33,7 @@ start_before start (end ∷ ends) len (suc i) f inside = start_before end ends l
 
 -- ## Lines
 
+-- there are as many lines as ends
 pub count_ended : (start : ℕ) (ends text : List ℕ) → length (lines_ended start ends text) ≡ length ends
 count_ended start [] text = refl
 count_ended start (end ∷ ends) text = ap suc (count_ended end ends text)
@@ -79,6 +80,7 @@ fill_behind : (start : ℕ) (ends : List ℕ) (n m : ℕ) → Fill start ends m 
 fill_behind start [] n m f = ap (λ (k : ℕ). n + k) f
 fill_behind start (end ∷ ends) n m f = (let first = f.0 in omega (arith, first), fill_behind end ends n m f.1)
 
+-- and all their ends fill both texts
 pub fill_both : (start : ℕ) (ends more_ends : List ℕ) (n m : ℕ) → Fill start ends n → Fill 0 more_ends m
     → Fill start (ends ++ map (λ end. n + end) more_ends) (n + m)
 fill_both start [] more_ends n m f g = subst (λ (k : ℕ). Fill k (map (λ end. n + end) more_ends) (n + m)) (omega (arith, f)) (fill_behind 0 more_ends n m g)
@@ -86,12 +88,14 @@ fill_both start (end ∷ ends) more_ends n m f g = (f.0, fill_both end ends more
 
 -- ## One line more
 
+-- a line behind the others, with its end, is one line more
 pub ended_more : (ends text line : List ℕ) → Fill 0 ends (length text)
     → lines_ended 0 (ends ++ (length text + length line) ∷ []) (text ++ line) ≡ lines_ended 0 ends text ++ line_of line ∷ []
 ended_more ends text line f =
     ended_both 0 ends (length line ∷ []) text line f
     ∙ ap (λ (octets : List ℕ). lines_ended 0 ends text ++ line_of octets ∷ []) (take_all (length line - 0) line (omega arith))
 
+-- and the ends with its own fill the text with it
 pub fill_more : (ends : List ℕ) (n m : ℕ) → Fill 0 ends n → Fill 0 (ends ++ (n + m) ∷ []) (n + m)
 fill_more ends n m f = fill_both 0 ends (m ∷ []) n m f (omega arith, refl)
 
@@ -112,11 +116,13 @@ range_taken text a b e ordered below within =
     sym (range_front (take e text) (drop e text) a b ordered (rw (length-take-le e text within) below))
     ∙ ap (λ (xs : List ℕ). slice_range xs a b) (take-append-drop e text)
 
+-- the first of some ends fill the text up to the last of them
 pub fill_first : (start : ℕ) (ends : List ℕ) (len count : ℕ) → Fill start ends len → count < length ends → Fill start (take count ends) (get_or (start ∷ ends) count 0)
 fill_first start ends len zero f inside = refl
 fill_first start [] len (suc count) f inside = absurd (omega (arith, inside))
 fill_first start (end ∷ ends) len (suc count) f inside = (f.0, fill_first end ends len count f.1 (omega (arith, inside)))
 
+-- and the text up to there has just those lines
 pub ended_first : (start : ℕ) (ends text : List ℕ) (count : ℕ) → Fill start ends (length text) → count < length ends
     → lines_ended start (take count ends) (take (get_or (start ∷ ends) count 0) text) ≡ take count (lines_ended start ends text)
 ended_first start ends text zero f inside = refl
@@ -134,6 +140,7 @@ first_fill ends octets new_ends new_octets count end f inside end_is octets_are 
     let within = end_placed 0 ends (length octets) count f inside in
     rw (ends_are, octets_are, end_is, length-take-le (get_or (0 ∷ ends) count 0) octets within) (fill_first 0 ends (length octets) count f inside)
 
+-- and shows the first lines
 pub first_show : (lines : List AnswerLine) (ends octets new_ends new_octets : List ℕ) (count end : ℕ) → Fill 0 ends (length octets) → lines_ended 0 ends octets ≡ lines
     → count < length ends → end ≡ get_or (0 ∷ ends) count 0 → new_octets ≡ take end octets → new_ends ≡ take count ends
     → lines_ended 0 new_ends new_octets ≡ take count lines
@@ -195,6 +202,7 @@ pub among_ends : (lines : List AnswerLine) (ends text : List ℕ) (i : ℕ) → 
 among_ends lines ends text i shows inside =
     let count = sym (ap length shows) ∙ count_ended 0 ends text in omega (arith, count, inside)
 
+-- the octets between a line's start and its end are the line at its place
 pub shown_at : (lines : List AnswerLine) (ends text line : List ℕ) (i : ℕ) → lines_ended 0 ends text ≡ lines → i < length lines
     → line ≡ slice_range text (get_or (0 ∷ ends) i 0) (get_or ends i 0) → line_of line ≡ get_or lines i (line_of line)
 shown_at lines ends text line i shows inside is =
@@ -207,6 +215,7 @@ pub first_shown : (start end : ℕ) (ends rest text : List ℕ) → ends ≡ end
     → lines_ended start ends text ≡ line_of (slice_range text start end) ∷ lines_ended end rest text
 first_shown start end ends rest text is = ap (λ (es : List ℕ). lines_ended start es text) is
 
+-- the first ends behind its start, and those left fill the rest
 pub first_fills : (start end len : ℕ) (ends rest : List ℕ) → ends ≡ end ∷ rest → Fill start ends len → (start ≤ end) × Fill end rest len
 first_fills start end len ends rest is f = subst (λ (es : List ℕ). Fill start es len) is f
 
@@ -217,6 +226,7 @@ pushed_fills ends octets new_ends new_octets line end octets_are end_is ends_are
     let len : length new_octets ≡ length octets + length line = ap length octets_are ∙ length-append octets line in
     rw (ends_are, end_is, len) (fill_more ends (length octets) (length line) f)
 
+-- shows as one line more
 pub pushed_shows : (lines : List AnswerLine) (ends octets new_ends new_octets line : List ℕ) (end : ℕ) → new_octets ≡ octets ++ line → end ≡ length new_octets → new_ends ≡ ends ++ end ∷ []
     → Fill 0 ends (length octets) → lines_ended 0 ends octets ≡ lines → lines_ended 0 new_ends new_octets ≡ lines ++ line_of line ∷ []
 pushed_shows lines ends octets new_ends new_octets line end octets_are end_is ends_are f shows =
@@ -233,6 +243,7 @@ appended_fills ends octets more_ends more new_ends new_octets before before_is o
     let len : length new_octets ≡ length octets + length more = ap length octets_are ∙ length-append octets more in
     rw (ends_are, before_is, len) (fill_both 0 ends more_ends (length octets) (length more) f g)
 
+-- show as more lines
 pub appended_shows : (lines more_lines : List AnswerLine) (ends octets more_ends more new_ends new_octets : List ℕ) (before : ℕ) → before ≡ length octets
     → new_octets ≡ octets ++ more → new_ends ≡ ends ++ map (λ end. before + end) more_ends
     → Fill 0 ends (length octets) → lines_ended 0 ends octets ≡ lines → lines_ended 0 more_ends more ≡ more_lines
@@ -256,14 +267,17 @@ one_end_more ends before_ends more before i end inside is so_far =
 
 -- ## Equality
 
+-- two values are equal, ends and texts, just where their lines are
 pub shown_apart : (lines others : List AnswerLine) (ends text more_ends more : List ℕ) → lines_ended 0 ends text ≡ lines → lines_ended 0 more_ends more ≡ others
     → Fill 0 ends (length text) → Fill 0 more_ends (length more)
     → (pointwise nat_eq ends more_ends && pointwise nat_eq text more) ≡ pointwise (λ (x y : AnswerLine). bytes_eq x.text y.text) lines others
 shown_apart lines others ends text more_ends more shows others_show f g =
     told_apart ends text more_ends more f g ∙ ap₂ (λ (ls ms : List AnswerLine). pointwise (λ (x y : AnswerLine). bytes_eq x.text y.text) ls ms) shows others_show
 
+-- where the ends are equal, the texts decide
 pub both_hold : (a b r : Bool) → a ≡ true → r ≡ b → r ≡ (a && b)
 both_hold a b r is e = rw is e
 
+-- where they aren't, the values are unequal
 pub first_fails : (a b r : Bool) → a ≡ false → r ≡ false → r ≡ (a && b)
 first_fails a b r is e = rw is e

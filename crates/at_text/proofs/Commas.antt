@@ -12,11 +12,13 @@ past_no_comma : (b : Bool) (text : List ℕ) (r : Option (List ℕ)) → ¬ (b �
 past_no_comma true text r absent h = absurd (absent refl)
 past_no_comma false text r absent h = h
 
+-- where no octet is a comma, nothing follows one
 pub after_no_comma : (text : List ℕ) → ((k : ℕ) → k < length text → ¬ IsComma text k) → after_comma text ≡ None
 after_no_comma [] none = refl
 after_no_comma (c ∷ text) none =
     past_no_comma (is_comma c) text None (none 0 (omega arith)) (after_no_comma text (λ k l. none (suc k) (omega (arith, l))))
 
+-- where a first one is, what stands behind it follows
 pub after_first_comma : (text : List ℕ) (k : ℕ) → k < length text → ((j : ℕ) → j < k → ¬ IsComma text j) → IsComma text k → after_comma text ≡ Some (drop (suc k) text)
 after_first_comma [] k l none is = absurd (omega (arith, l))
 after_first_comma (c ∷ text) zero l none is = rw is refl
@@ -24,9 +26,11 @@ after_first_comma (c ∷ text) (suc k) l none is =
     past_no_comma (is_comma c) text (Some (drop (suc k) text)) (none 0 (omega arith))
     (after_first_comma text k (omega (arith, l)) (λ j m. none (suc j) (omega (arith, m))) is)
 
+-- a search that finds no comma says that nothing follows one
 pub behind_none : (text : List ℕ) → IsFirst (IsComma text) 0 (length text) None → after_comma text ≡ None
 behind_none text none = after_no_comma text (λ k l. none k (omega arith) l)
 
+-- one that finds it says where what follows stands
 pub behind_some : (text : List ℕ) (k : ℕ) → IsFirst (IsComma text) 0 (length text) (Some k) → after_comma text ≡ Some (take (length text - (k + 1)) (drop (k + 1) text))
 behind_some text k at =
     let all : take (length text - (k + 1)) (drop (k + 1) text) ≡ drop (k + 1) text = take_all (length text - (k + 1)) (drop (k + 1) text) (rw length-drop (omega arith)) in

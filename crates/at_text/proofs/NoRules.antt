@@ -28,6 +28,7 @@ same_kinds finals kinds other c e =
     subst (λ (k : List ℕ → Option UrcKind). (d : Called k) → made finals kinds c ≡ made finals k d) e
     (λ d. ap (made finals kinds) (called_once kinds c d))
 
+-- a dialect without rules of its own is the standard's
 pub no_rules_standard : dialect_of no_rules ≡ standard
 no_rules_standard =
     let finals : (λ (line : List ℕ). is_some (final_by no_rules line)) ≡ is_final = fun_ext (λ line. ap is_some (or_none (final_of line))) in

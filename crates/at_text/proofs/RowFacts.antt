@@ -2,9 +2,11 @@
 use Rattle.std.specs.Prelude.{refl}
 use Rattle.at_text.specs.Rows.{AreLines, AreFinals, AreReports, RingInside, CregBoth, CgregBoth, EarlyOk, EchoOnce, TwoCommands}
 
+-- the worked texts have these lines
 pub are_lines : AreLines
 are_lines = record { two = refl; none = refl; by_lf = refl; rest = refl }
 
+-- these lines are final codes, or aren't
 pub are_finals : AreFinals
 are_finals = record {
   good = refl;
@@ -20,6 +22,7 @@ are_finals = record {
   nothing = refl;
 }
 
+-- these are reports, or answers of queries
 pub are_reports : AreReports
 are_reports = record {
   status = refl;
@@ -33,20 +36,26 @@ are_reports = record {
   packet_query = refl;
 }
 
+-- a RING inside an answer is unsolicited, and no part of it
 pub ring_inside : RingInside
 ring_inside = record { each = refl; all = refl }
 
+-- a +CREG report goes to its listener, the answer of the query to its command
 pub creg_both : CregBoth
 creg_both = record { each = refl; all = refl }
 
+-- so it is of +CGREG
 pub cgreg_both : CgregBoth
 cgreg_both = record { each = refl; all = refl }
 
+-- an OK without a command is Other
 pub early_ok : EarlyOk
 early_ok = record { each = refl; all = refl }
 
+-- of two lines that repeat the command the first alone is its echo
 pub echo_once : EchoOnce
 echo_once = record { each = refl; all = refl }
 
+-- the answers of two commands are told apart by their final codes
 pub two_commands : TwoCommands
 two_commands = record { each = refl; all = refl }

@@ -13,6 +13,7 @@ apart place number small e = let same : place ≡ 7 + number = eqb-true place (7
 apart_too : (place number : ℕ) → place < 7 → nat_eq (7 + number) place ≡ true → ⊥
 apart_too place number small e = let same : 7 + number ≡ place = eqb-true (7 + number) place e in omega (arith, small, same)
 
+-- kinds at one place are equal
 pub same_place : (k m : UrcKind) → is_same_kind k m ≡ true → k ≡ m
 same_place Ring Ring e = refl
 same_place Ring Cring e = cc
@@ -79,6 +80,7 @@ same_place (Own k) Ciev e = absurd (apart_too 5 k (omega arith) e)
 same_place (Own k) Other e = absurd (apart_too 6 k (omega arith) e)
 same_place (Own k) (Own m) e = let both : 7 + k ≡ 7 + m = eqb-true (7 + k) (7 + m) e in ap Own (omega (arith, both))
 
+-- each kind is the same as itself
 pub same_itself : (k : UrcKind) → is_same_kind k k ≡ true
 same_itself Ring = refl
 same_itself Cring = refl

@@ -28,13 +28,16 @@ one_if : (b : Bool) (u : UnderWay) → length (if b then u ∷ [] else []) ≤ 1
 one_if true u = omega arith
 one_if false u = omega arith
 
+-- where no line is under way, no connection has two
 pub apart_none : AreApart []
 unfolding AreApart
 apart_none d = omega arith
 
+-- numbers that compare equal are equal
 pub equal : (m n : ℕ) → (m == n) ≡ true → m ≡ n
 equal m n h = search rules
 
+-- and those that don't aren't
 pub unequal : (m n : ℕ) → (m == n) ≡ false → n ≢ m
 unequal m n h e = true≢false (sym (ap (λ (k : ℕ). m == k) e ∙ same m) ∙ h)
   where
@@ -62,6 +65,7 @@ fewer_if d (u ∷ us) = by_test (on d u) (filter (on d) us)
     by_test true found = omega arith
     by_test false found = omega arith
 
+-- and none has two where one line isn't under way any more
 pub apart_fewer : (us : List UnderWay) (at : ℕ) → AreApart us → AreApart (take at us ++ drop (at + 1) us)
 unfolding AreApart
 apart_fewer us at h d =

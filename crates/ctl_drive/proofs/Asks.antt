@@ -25,9 +25,11 @@ use Rattle.ctl_drive.proofs.Said.{names_at, names_none}
 apart : true ≡ false → ⊥
 apart e = cc
 
+-- nothing more is asked
 pub asks_none : (p : PlanView) (rs : List Request) (said : Option (List ℕ)) → AsksOn p p rs rs said said
 asks_none p rs said = record { on = λ first silent h. h }
 
+-- what is asked by two steps is asked by both together
 pub asks_then : (p q r : PlanView) (a b c : List Request) (u v w : Option (List ℕ)) → AsksOn p q a b u v → AsksOn q r b c v w → AsksOn p r a c u w
 asks_then p q r a b c u v w g h = record { on = λ first silent k. h.on first silent (g.on first silent k) }
 
@@ -35,6 +37,7 @@ asks_then p q r a b c u v w g h = record { on = λ first silent k. h.on first si
 pub stops_here : (p q : PlanView) (a b : List Request) (u v : Option (List ℕ)) → AsksOn p q a b u v → StopsOn p a u v
 stops_here p q a b u v h = record { last = q; submitted = b; asks = h }
 
+-- it stopped behind what was asked first
 pub stops_then : (p q : PlanView) (a b : List Request) (u v w : Option (List ℕ)) → AsksOn p q a b u v → StopsOn q b v w → StopsOn p a u w
 stops_then p q a b u v w g h = record { last = h.last; submitted = h.submitted; asks = asks_then p q h.last a b h.submitted u v w g h.asks }
 
@@ -139,6 +142,7 @@ submitted_more new old r e d =
     ap (submitted_on d) e ∙ flat_map-append (λ (q : Request). text_on d q.ask) old (r ∷ [])
     ∙ ap (λ (l : List (List ℕ)). submitted_on d old ++ l) (append-nil (text_on d r.ask))
 
+-- so there is one request more
 pub one_longer : (new old : List Request) (r : Request) → new ≡ old ++ r ∷ [] → length new ≡ length old + 1
 one_longer new old r e = ap (length {A = Request}) e ∙ length-append old (r ∷ [])
 
@@ -251,6 +255,7 @@ asked_all input p rs silent said h stops well =
 pub has_asked : (input : Option (List ℕ)) (p : PlanView) (begun ended : List Request) (silent said : Option (List ℕ)) → begun ≡ [] → AsksOn (plan_begun input) p begun ended silent said → HasAsked input p ended silent said
 has_asked input p begun ended silent said none asks = asks.on input silent (subst (λ (rs : List Request). HasAsked input (plan_begun input) rs silent silent) (sym none) (asked_none input silent))
 
+-- without a fault, where the multiplexer is to end, the whole input was read and asked, and its bad lines were named
 pub all_asked : (input : Option (List ℕ)) (p : PlanView) (rs : List Request) (silent said : Option (List ℕ)) (was_bad : Bool) → HasAsked input p rs silent said → was_bad ≡ p.was_bad → p.stopping ≡ true → p.input.failed ≡ false → ReadsAll input rs was_bad silent said
 all_asked input p rs silent said was_bad h same stops well = subst (λ (b : Bool). ReadsAll input rs b silent said) (sym same) (asked_all input p rs silent said h stops well)
 
@@ -262,6 +267,7 @@ names_read input p rs silent said h = record { input = p.input; lines = h.lines;
 pub names_nothing : (input silent : Option (List ℕ)) → NamesRead input silent silent
 names_nothing input silent = names_read input (plan_begun input) [] silent silent (asked_none input silent)
 
+-- of a plan that stopped after it had begun, the bad ones of the lines read were named
 pub names_stopped : (input : Option (List ℕ)) (p : PlanView) (begun : List Request) (silent said : Option (List ℕ)) → p ≡ plan_begun input → begun ≡ [] → StopsOn p begun silent said → NamesRead input silent said
 names_stopped input p begun silent said same none stops =
     let h : StopsOn (plan_begun input) begun silent said = subst (λ (q : PlanView). StopsOn q begun silent said) same stops in
@@ -269,6 +275,7 @@ names_stopped input p begun silent said same none stops =
 
 -- ## Something is asked beside the lines
 
+-- it is no command, so nothing that waits goes; a Stop is asked where all is through
 pub asks_after : (a : Control) (old new : PlanView) (rs ss : List Request) (said : Option (List ℕ)) → (a ≡ control.Stop → IsThrough old) → new ≡ after_asking a old → ((d : ℕ) → submitted_on d ss ≡ submitted_on d rs) → AsksOn old new rs ss said said
 asks_after control.Stop old new rs ss said through same none = asks_stops old new rs ss said (through refl) same none
 asks_after (control.Open d) old new rs ss said through same none = asks_same old new rs ss said same none

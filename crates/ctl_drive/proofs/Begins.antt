@@ -30,6 +30,7 @@ use Rattle.ctl_drive.proofs.Aparts.{apart_none}
 use Rattle.ctl_drive.proofs.WantedStates.{long_states, none_told_more}
 use Rattle.ctl_drive.specs.Showing.{AreApart, HasShown, IsAsked, IsLine, IsRightPiece, count_asked, count_on}
 
+-- a session over the line, on a new desk whose users have done nothing, begins a drive
 pub begins : {X : Type 0} (look : X → LineView) (rules : Rules) (n1 : ℕ) (line : X) (d : DriverView) (s : SessionState X) (users : Users)
     → FitsAll (beginning_by (dialect_of rules) n1 (look line) d) look s [] → (s.line ≡ line) × (s.driver ≡ d) → IsNewDesk rules d → IsWhole d.desk (map place_of (users.caller ∷ []))
     → AreSubscribed d.desk (map subscription_of users.listeners.items) → ((out : Option (List ℕ)) → HasShown out out users) → users.caller.submitted ≡ [] → KeepsOrder users.channels users.caller → users.dialect ≡ rules → Begins look rules n1 line s users
@@ -85,12 +86,14 @@ from_if look rules n1 line s users input before after silent said (Ok x) b h =
     drove_from look rules n1 line x.0 s users input before after silent said h.through x.1.fault x.1.was_bad x.1.left b h.driven h.bad_is
 from_if look rules n1 line s users input before after silent said (Err why) b h = tt
 
+-- where the multiplexer was entered before, the line was driven so
 pub drove_if : {X : Type 0} (look : X → LineView) (rules : Rules) (text : List ℕ) (n1 : ℕ) (first line : X) (input before after silent said : Option (List ℕ)) (r : Result (X × Driven) DriveFault)
     → HasEntered n1 text (look first) (look line) → IfOk r (λ r. DroveFrom look rules n1 line r.0 input before after silent said r.1.fault r.1.was_bad r.1.left)
     → IfOk r (λ r. Drove look rules text n1 first r.0 input before after silent said r.1.fault r.1.was_bad r.1.left)
 drove_if look rules text n1 first line input before after silent said (Ok x) entered h = record { first = line; entered = entered; from = h }
 drove_if look rules text n1 first line input before after silent said (Err why) entered h = tt
 
+-- however it ended, the bad ones of the lines that were read were named
 pub named_if : {X : Type 0} (look : X → LineView) (rules : Rules) (n1 : ℕ) (first : X) (users : Users) (input before after silent said : Option (List ℕ)) (r : Result (X × Driven) DriveFault)
     → IfOk r (λ r. DroveFrom look rules n1 first r.0 input before after silent said r.1.fault r.1.was_bad r.1.left) → users.caller.submitted ≡ [] → OnErr r (StopsOn (plan_begun input) users.caller.submitted silent said)
     → NamesRead input silent said
@@ -136,15 +139,19 @@ pub record AreUsers (kinds : List UrcKind) (d : DriverView) (cs : List CallerVie
   pub channels : u.channels ≡ wanted_states wanted (replicate 62 state.Untold)
   pub counts : u.counts ≡ replicate 62 0
 
+-- their caller is the only one of the desk
 pub whole_users : (kinds : List UrcKind) (d : DriverView) (cs : List CallerView) (ls : List ListenerView) (u : Users) → AreUsers kinds d cs ls u → IsWhole d.desk (map place_of (u.caller ∷ []))
 whole_users kinds d cs ls u h = subst (λ (x : List CallerView). IsWhole d.desk (map place_of x)) h.callers h.opened.whole
 
+-- their listeners are subscribed there
 pub subscribed_users : (kinds : List UrcKind) (d : DriverView) (cs : List CallerView) (ls : List ListenerView) (u : Users) → AreUsers kinds d cs ls u → AreSubscribed d.desk (map subscription_of u.listeners.items)
 subscribed_users kinds d cs ls u h = subst (λ (x : List ListenerView). AreSubscribed d.desk (map subscription_of x)) (sym h.listeners) h.opened.subscribed
 
+-- the caller has submitted nothing
 pub none_submitted : (kinds : List UrcKind) (d : DriverView) (cs : List CallerView) (ls : List ListenerView) (u : Users) → AreUsers kinds d cs ls u → u.caller.submitted ≡ []
 none_submitted kinds d cs ls u h = (h.opened.callers.1 0 u.caller (ap (λ (x : List CallerView). get_elem? x 0) h.callers)).3.0
 
+-- nothing is printed of them yet
 pub new_users : (kinds : List UrcKind) (d : DriverView) (cs : List CallerView) (ls : List ListenerView) (u : Users) → AreUsers kinds d cs ls u → (out : Option (List ℕ)) → HasShown out out u
 new_users kinds d cs ls u h out =
     let fresh = h.opened.callers.1 0 u.caller (ap (λ (x : List CallerView). get_elem? x 0) h.callers) in
@@ -178,6 +185,7 @@ none_told zero (suc e) = refl
 none_told (suc n) zero = refl
 none_told (suc n) (suc e) = none_told n e
 
+-- and the caller keeps its order: no opening is known to have been told anything
 pub new_order : (kinds : List UrcKind) (d : DriverView) (cs : List CallerView) (ls : List ListenerView) (u : Users) → AreUsers kinds d cs ls u → KeepsOrder u.channels u.caller
 new_order kinds d cs ls u h =
     let fresh = h.opened.callers.1 0 u.caller (ap (λ (x : List CallerView). get_elem? x 0) h.callers) in
@@ -191,6 +199,7 @@ new_order kinds d cs ls u h =
       stops_last = λ i r at. absurd (none i r at);
     }
 
+-- a desk opened with the kinds of these rules has done nothing yet
 pub new_desk : (rules : Rules) (kinds : List UrcKind) (d : DriverView) (cs : List CallerView) (ls : List ListenerView) → kinds ≡ kinds_by rules → Opened 1 kinds 1 d cs ls → IsNewDesk rules d
 new_desk rules kinds d cs ls are h = record {
   kinds_are = h.kinds ∙ are;

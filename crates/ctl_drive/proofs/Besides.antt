@@ -58,6 +58,7 @@ looks out old c v place submitted before got way = record {
   places = record { caller = place; listeners = refl; dialect = refl };
 }
 
+-- the users stay as they are, but for the room for their lines
 pub looks_same : (out : Option (List ℕ)) (old : Users) (c : CallerView) (v : Vec UnderWay Global) → c ≡ old.caller → v.items ≡ old.under_way.items → GoOn out out old (record old { caller = c; under_way = v })
 looks_same out old c v same way =
     looks out old c v (ap (λ (x : CallerView). x.place) same) (ap (λ (x : CallerView). x.submitted) same) (ap (λ (x : CallerView). x.got_before) same) (ap (λ (x : CallerView). x.got) same) way
@@ -105,6 +106,7 @@ all_taken first out u h none idle =
     let beside : count_asked u.asked ≡ 0 = ap count_asked none in
     omega arith
 
+-- a request beside the lines is submitted, and nothing is printed
 pub asks_beside : (out : Option (List ℕ)) (old new : Users) (r : Request) (a : Asked) → AsksBeside old new r a → GoOn out out old new
 asks_beside out old new r a s =
     let more : List Request = r ∷ [] in
@@ -150,6 +152,7 @@ asks_beside out old new r a s =
       };
     }
 
+-- the same of users who differ in that alone
 pub asks_noted : (out : Option (List ℕ)) (old new : Users) (c : CallerView) (r : Request) (a : Asked) → SubmitsOne old.caller c r → old.asked ≡ None → a.number ≡ old.caller.place.first + length old.caller.submitted
     → r.ask ≡ control_ask a.control → (a.control ≡ control.Stop → old.under_way.items ≡ []) → new ≡ record old { caller = c; asked = Some a; channels = shut_for a.control old.channels } → GoOn out out old new
 asks_noted out old new c r a one none number ask_is idle same =
@@ -204,6 +207,7 @@ told_after c d o (control.Open n) states e s asked long is =
 told_after c d o (control.Close n) states e s asked long is = inl is
 told_after c d o control.Stop states e s asked long is = inl is
 
+-- what it was told is taken, and nothing is printed
 pub told_beside : (out : Option (List ℕ)) (old new : Users) (o : Outcome) (a : Asked) → ToldBeside old new o a → GoOn out out old new
 told_beside out old new o a s =
     let piece : Shown = Unprinted a.control o in
@@ -250,6 +254,7 @@ told_beside out old new o a s =
       };
     }
 
+-- the same of users who differ in that alone
 pub told_noted : (out : Option (List ℕ)) (old new : Users) (c : CallerView) (o : Outcome) (a : Asked) → TakesOne old.caller c o → old.asked ≡ Some a → a.number ≡ o.number
     → new ≡ record old { caller = c; asked = None; channels = after_control a.control o.answer old.channels } → GoOn out out old new
 told_noted out old new c o a one was number same =

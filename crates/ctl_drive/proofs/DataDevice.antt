@@ -39,26 +39,32 @@ maps_more h xs i x ys there e =
     ap (λ (l : List _). l ++ h (slice_index_or xs i x) ∷ []) e
     ∙ (sym (map-append h (take i xs) (slice_index_or xs i x ∷ [])) ∙ ap (λ (l : List _). map h l) (sym (take_more xs i x there)))
 
+-- no paths yet, and no connections
 pub dlcis_none : (data_paths : List DataPath) → [] ≡ map (λ p. p.dlci) (take 0 data_paths)
 dlcis_none data_paths = refl
 
+-- the connections of some paths, with that of the next, are those of one path more
 pub dlcis_more : (data_paths : List DataPath) (i : ℕ) (p : DataPath) (named : List Dlci) → i < length data_paths → named ≡ map (λ q. q.dlci) (take i data_paths)
     → named ++ (slice_index_or data_paths i p).dlci ∷ [] ≡ map (λ q. q.dlci) (take (i + 1) data_paths)
 dlcis_more data_paths i p named there e = maps_more (λ (q : DataPath). q.dlci) data_paths i p named there e
 
+-- those of as many paths as there are are those of all
 pub dlcis_all : (data_paths : List DataPath) (i : ℕ) (named : List Dlci) → length data_paths ≤ i → named ≡ map (λ q. q.dlci) (take i data_paths)
     → named ≡ map (λ q. q.dlci) data_paths
 dlcis_all data_paths i named most e = e ∙ ap (λ (l : List DataPath). map (λ q. q.dlci) l) (take_all i data_paths most)
 
+-- no paths yet, and no files
 pub files_none : (data_paths : List DataPath) → [] ≡ opened_files (take 0 data_paths)
 files_none data_paths = refl
 
+-- the files of some paths, with that of the next, are those of one path more
 pub files_more : (data_paths : List DataPath) (i : ℕ) (p : DataPath) (before after : List (FileState StreamState)) (f : FileState StreamState) → i < length data_paths
     → before ≡ opened_files (take i data_paths) → f ≡ opened_file (slice_index_or data_paths i p) → after ≡ before ++ f ∷ []
     → after ≡ opened_files (take (i + 1) data_paths)
 files_more data_paths i p before after f there e is grew =
     grew ∙ (ap (λ (x : FileState StreamState). before ++ x ∷ []) is ∙ maps_more (λ (q : DataPath). opened_file q) data_paths i p before there e)
 
+-- those of as many paths as there are are those of all
 pub files_all : (data_paths : List DataPath) (i : ℕ) (files : List (FileState StreamState)) → length data_paths ≤ i → files ≡ opened_files (take i data_paths)
     → files ≡ opened_files data_paths
 files_all data_paths i files most e = e ∙ ap opened_files (take_all i data_paths most)
@@ -72,6 +78,7 @@ same_numbers data_paths named files e n = ap dlcis e ∙ (both data_paths ∙ ap
     both [] = refl
     both (p ∷ ps) = ap (λ (ds : List ℕ). p.dlci.number ∷ ds) (both ps)
 
+-- nothing has passed between them and their connections
 pub all_fresh : (data_paths : List DataPath) (files : List (FileState StreamState)) → files ≡ opened_files data_paths
     → All (IsFresh (λ (l : StreamState). l.received) (λ (l : StreamState). l.sent)) files
 all_fresh data_paths files e =
@@ -84,17 +91,21 @@ all_fresh data_paths files e =
 
 -- ## What is said of lines and files
 
+-- bad lines were named, and nothing was said of files
 pub names_only : (input silent said : Option (List ℕ)) → NamesRead input silent said → NamesEnds input silent said
 names_only input silent said h = record { named = said; names = h; ends = []; ends_said = AreSaid.said_none said }
 
+-- nothing was named or said
 pub names_nothing_of : (input silent : Option (List ℕ)) → NamesEnds input silent silent
 names_nothing_of input silent = names_only input silent silent (names_nothing input silent)
 
+-- bad lines were named, and then it was said what came of each file
 pub names_ends : (input silent named said : Option (List ℕ)) (ends : List FileEnd) → NamesRead input silent named → AreSaid named said (ends_texts ends) → NamesEnds input silent said
 names_ends input silent named said ends h k = record { named = named; names = h; ends = ends; ends_said = k }
 
 -- ## A drive
 
+-- a drive without a fault, then a turn of each file, until all is written, and a word of each: the line was driven with files
 pub drives_files : {X Y : Type 0} (look : X → LineView) (r s : X → List ℕ) (g t : Y → List ℕ) (e k : Y → ℕ) (rules : Rules) (text : List ℕ) (n1 : ℕ) (line last : X) (files : List (FileState Y))
     (driven in_the_end : FiledState X Y) (input before after silent named said : Option (List ℕ)) (end : Option DriveFault) (was_bad : Bool) (left : Settled)
     → DroveData look r s g t rules text n1 line files driven input before after silent named end was_bad left → end ≡ None → HadTurns r s g t e k driven in_the_end.files
@@ -112,6 +123,7 @@ drives_files look r s g t e k rules text n1 line last files driven in_the_end in
   ends_said = ends;
 }
 
+-- the same through a capture that didn't fail
 pub files_captured : {X Y : Type 0} (look : X → LineView) (r s : X → List ℕ) (g t : Y → List ℕ) (e k : Y → ℕ) (rules : Rules) (text : List ℕ) (n1 : ℕ) (line : X) (first : CaptureState)
     (wrapped last : CapturedState X) (files : List (FileState Y)) (input before after silent said : Option (List ℕ)) (end : Option DriveFault) (was_bad : Bool) (left : Settled) (failed : Bool)
     → (end ≡ None → DroveFiles (λ (l : CapturedState X). look l.line) (λ (l : CapturedState X). r l.line) (λ (l : CapturedState X). s l.line) g t e k rules text n1 wrapped last files input before after silent said was_bad left)
@@ -129,6 +141,7 @@ files_captured {X} look r s g t e k rules text n1 line first wrapped last files 
 
 -- ## Threads that have more to write
 
+-- where all is written it was said of none
 pub full_none : (a : Option (List ℕ)) → SaysFull true a a
 full_none a = record { full = []; said = AreSaid.said_none a; none = (λ q. refl, λ q. refl) }
 
@@ -215,6 +228,7 @@ files_driven device capture data_paths silent ended filled said between is_writt
 files_driven device capture data_paths silent ended filled said between is_written names full left left_said None true n fault is one = absurd (omega (arith, is, one))
 files_driven device capture data_paths silent ended filled said between is_written names full left left_said None false n fault is one = absurd (omega (arith, is, one))
 
+-- a status of 1 is that of a fault, which was said last
 pub files_badly : (device capture : List ℕ) (data_paths : List DataPath) (silent ended filled said : Option (List ℕ)) (last : Result Driven DriveFault) (is_written : Bool) (n : ℕ)
     → NamesEnds None silent ended → SaysFull is_written ended filled → SaysEnd device capture last filled said → n ≡ end_status last → n ≡ 1
     → EndsFilesByFault device capture data_paths silent said
@@ -263,5 +277,6 @@ drove_files_device b c rules text n1 line files opened before after silent said 
     → DroveFilesLine x.0 device_look (λ (l : StreamState). l.received) (λ (l : StreamState). l.sent) (λ (l : StreamState). l.received) (λ (l : StreamState). l.sent) (λ (l : StreamState). l.empty_reads) (λ (l : StreamState). l.stalled_writes) rules text n1 x.1 x.2 None before after silent said d.was_bad d.left))
     (λ i. (same i, is i, are i)) h
 
+-- the path of the capture is the one that is given, or empty
 pub capture_of : (given : Option (Bor (List ℕ))) (other path : Bor (List ℕ)) → path ≡ unwrap_or given other → other.now ≡ [] → path.now ≡ capture_path given
 capture_of given other path is none = ap (λ (b : Bor (List ℕ)). b.now) is ∙ capture_is given other none

@@ -157,6 +157,7 @@ module _ {X : Type 0} (look : X → LineView) (rules : Rules) (n1 : ℕ) (first 
     heard = heard_all;
   }
 
+-- each drive is one session of its desk, which was settled, and has the headline
 pub drives_settle : {X : Type 0} (look : X → LineView) → DrivesSettle look
 unfolding DrivesSettle
 drives_settle look rules n1 first last input before after silent said end was_bad left d = runs_desk look rules n1 first last input before after silent said end was_bad left d

@@ -27,6 +27,7 @@ kept_itself (Err error.NoMemory) = tt
 kept_itself (Err error.Line) = refl
 kept_itself (Err error.Failed) = refl
 
+-- an end that a poll gives stays the session's, but for want of memory
 pub keeps_given : {X : Type 0} (look : X → LineView) (old new : SessionState X) (given : Progress) → Polls look old new given → KeepsGiven given new.machine.course
 keeps_given {X} look old new given h = by_course old.machine.course refl h
   where
@@ -50,9 +51,11 @@ keeps_given {X} look old new given h = by_course old.machine.course refl h
 
 -- ## How a drive ends
 
+-- what a poll says of the end of a round it says of the same end
 pub judged : (said : Progress) (p : PlanView) (f end : Option DriveFault) → went.Ends f ≡ went.Ends end → SaysBy said p f → SaysBy said p end
 judged said p f end e s = let same : f ≡ end = cc in subst (SaysBy said p) same s
 
+-- what a poll says of the drive's end is how the session ended
 pub ended_by : (said : Progress) (c : Course) (p : PlanView) (end : Option DriveFault) → KeepsGiven said c → SaysBy said p end → HasEndedBy c p end
 ended_by said c p None k s = (subst (λ (q : Progress). KeepsGiven q c) s.0 k, s.1, s.2)
 ended_by said c p (Some fault.HungUp) k s = (s.0, failed s.0 (subst (λ (q : Progress). KeepsGiven q c) s.1 k) s.2)
@@ -98,6 +101,7 @@ other_fault said p fault.Capture n = tt
 other_fault said p fault.Data n = tt
 other_fault said p fault.Unwritten n = tt
 
+-- an end by a fault that no poll says asks nothing of the poll
 pub said_otherwise : (said : Progress) (p : PlanView) (f : DriveFault) (end : Option DriveFault) → went.Ends (Some f) ≡ went.Ends end → IsToldFault (Some f) → SaysBy said p end
 said_otherwise said p f end e n = let same : Some f ≡ end = cc in subst (SaysBy said p) same (other_fault said p f n)
 

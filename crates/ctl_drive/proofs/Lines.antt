@@ -26,15 +26,18 @@ use Rattle.ctl_drive.specs.Showing.{Shown, Answered, Announced, AreApart, AreUnd
 use Rattle.ctl_drive.proofs.Aparts.{apart_fewer, apart_more}
 use Rattle.ctl_drive.proofs.Orders.{SubmitsOne, TakesOne, asked_stays, grows_taking, keeps_submitting, keeps_taking, told_closed, told_submitted}
 
+-- a number compares equal to itself
 pub same_number : (m : ℕ) → (m == m) ≡ true
 same_number m = search rules
 
+-- numbers that compare equal are equal
 pub equal : (m n : ℕ) → (m == n) ≡ true → m ≡ n
 equal m n h = search rules
 
 unequal : (m n : ℕ) → (m == n) ≡ false → n ≢ m
 unequal m n h e = false≢true (sym h ∙ ap (λ (x : ℕ). m == x) e ∙ same_number m)
 
+-- what holds of one holds of each in the list of that one alone
 pub All-one : {X : Type 0} (P : X → Type 0) (x : X) → P x → All P (x ∷ [])
 All-one P x h = All-cons P x [] h (All-nil P)
 
@@ -43,9 +46,11 @@ one_fewer us at h = grind (arith, common_steps)
 
 -- ## Nothing, and one thing after another
 
+-- nobody did anything, and nothing was printed
 pub stays : (out : Option (List ℕ)) (u : Users) → GoOn out out u u
 stays out u = record { shows = λ first h. h; orders = λ first h k. k; places = record { caller = refl; listeners = refl; dialect = refl } }
 
+-- what goes on twice goes on by both
 pub goes_then : (a b c : Option (List ℕ)) (u v w : Users) → GoOn a b u v → GoOn b c v w → GoOn a c u w
 goes_then a b c u v w g h = record {
   shows = λ first k. h.shows first (g.shows first k);
@@ -74,19 +79,23 @@ line_stays first rs more n d place h = record {
   place_is = h.place_is;
 }
 
+-- a piece names its line still when more is submitted
 pub piece_stays : (first : ℕ) (rs more : List Request) (s : Shown) → IsRightPiece first rs s → IsRightPiece first (rs ++ more) s
 piece_stays first rs more (Answered d i o) h = line_stays first rs more o.number d i h
 piece_stays first rs more (Announced i u) h = tt
 piece_stays first rs more (Unprinted a o) h = asked_stays first rs more o.number (control_ask a) h
 
+-- so do all pieces
 pub pieces_stay : (first : ℕ) (rs more : List Request) (ss : List Shown) → All (IsRightPiece first rs) ss → All (IsRightPiece first (rs ++ more)) ss
 pieces_stay first rs more ss h = λ k d l. piece_stays first rs more (slice_index_or ss k d) (h k d l)
 
+-- so do the lines under way
 pub under_way_stay : (first : ℕ) (rs more : List Request) (us : List UnderWay) → AreUnderWay first rs us → AreUnderWay first (rs ++ more) us
 under_way_stay first rs more us h = λ k d l.
     let u = slice_index_or us k d in
     line_stays first rs more u.number u.dlci.number u.place (h k d l)
 
+-- and what was asked beside them
 pub waits_stay : (first : ℕ) (rs more : List Request) (asked : Option Asked) → IsAsked first rs asked → IsAsked first (rs ++ more) asked
 waits_stay first rs more None h = tt
 waits_stay first rs more (Some a) h = asked_stays first rs more a.number (control_ask a.control) h
@@ -101,6 +110,7 @@ count_one d rs r b is =
 count_more : (d : ℕ) (rs : List Request) (r : Request) → is_on d r.ask ≡ true → count_on d (rs ++ r ∷ []) ≡ count_on d rs + 1
 count_more d rs r is = count_one d rs r true is ∙ length-append (filter (λ (q : Request). is_on d q.ask) rs) (r ∷ [])
 
+-- what is no command on d doesn't count there
 pub count_same : (d : ℕ) (rs : List Request) (r : Request) → is_on d r.ask ≡ false → count_on d (rs ++ r ∷ []) ≡ count_on d rs
 count_same d rs r is = count_one d rs r false is ∙ ap (length {A = Request}) (append-nil (filter (λ (q : Request). is_on d q.ask) rs))
 
@@ -139,6 +149,7 @@ counted_here old new r u s long h d few false is =
 no_stop : (r : Request) (d : ℕ) → is_on d r.ask ≡ true → r.ask ≡ ask.Stop → ⊥
 no_stop r d on is = false≢true (sym (ap (is_on d) is) ∙ on)
 
+-- a line is submitted, and nothing is printed
 pub submits : (out : Option (List ℕ)) (old new : Users) (r : Request) (u : UnderWay) → Submits old new r u → GoOn out out old new
 submits out old new r u s =
     let more : List Request = r ∷ [] in
@@ -195,6 +206,7 @@ submits out old new r u s =
 
 -- ## A line is told, and an outcome printed
 
+-- the outcomes printed later stand behind those before
 pub outcomes_more : (xs ys : List Shown) → outcomes_in (xs ++ ys) ≡ outcomes_in xs ++ outcomes_in ys
 outcomes_more [] ys = refl
 outcomes_more (Answered d i o ∷ xs) ys = ap (λ (x : List Outcome). o ∷ x) (outcomes_more xs ys)
@@ -205,6 +217,7 @@ by_test : (u : Urc) (all front back : List Urc) → all ≡ front ++ back → (b
 by_test u all front back e true = ap (λ (x : List Urc). u ∷ x) e
 by_test u all front back e false = e
 
+-- so do a listener's lines
 pub lines_more : (n : ℕ) (xs ys : List Shown) → lines_at n (xs ++ ys) ≡ lines_at n xs ++ lines_at n ys
 lines_more n [] ys = refl
 lines_more n (Answered d i o ∷ xs) ys = lines_more n xs ys
@@ -217,6 +230,7 @@ prints_more (Some a) (Some b) (Some c) xs ys h k = k ∙ ap (λ (x : List ℕ). 
 prints_more (Some a) (Some b) None xs ys h k = k
 prints_more (Some a) None c xs ys h k = absurd h
 
+-- a piece was printed behind the others
 pub printed_more : (rules : Rules) (a b c : Option (List ℕ)) (ss : List Shown) (s : Shown) → Appends a b (flat_map (shown_text rules) ss) → Appends b c (shown_text rules s)
     → Appends a c (flat_map (shown_text rules) (ss ++ s ∷ []))
 printed_more rules a b c ss s h k =
@@ -238,6 +252,7 @@ pub record Tells (before after : Option (List ℕ)) (old new : Users) (o : Outco
   pub printed : Appends before after (shown_text old.dialect (Answered line.dlci.number line.place o))
   pub dialect : new.dialect ≡ old.dialect
 
+-- a line's outcome was taken and printed, and it isn't under way any more
 pub tells : (before after : Option (List ℕ)) (old new : Users) (o : Outcome) (line : UnderWay) → Tells before after old new o line → GoOn before after old new
 tells before after old new o line s =
     let piece : Shown = Answered line.dlci.number line.place o in
@@ -384,6 +399,7 @@ shown_by before after old new place was now pieces more s heard none right lines
 order_stays : (old new : Users) (place : ℕ) (was now : ListenerView) → Listens old new place was now → KeepsOrder old.channels old.caller → KeepsOrder new.channels new.caller
 order_stays old new place was now s k = subst (λ (x : List ChannelState × CallerView). KeepsOrder x.0 x.1) (λ i. (sym s.channels i, sym s.caller i)) k
 
+-- a listener took a line, and it was printed
 pub hears : (before after : Option (List ℕ)) (old new : Users) (place : ℕ) (was now : ListenerView) (u : Urc) → Listens old new place was now → now.heard ≡ was.heard ++ u ∷ []
     → Appends before after (shown_text old.dialect (Announced place u)) → GoOn before after old new
 hears before after old new place was now u s heard printed =
@@ -403,6 +419,7 @@ same_branch : (b : Bool) → no_lines ≡ (if b then no_lines else [])
 same_branch true = refl
 same_branch false = refl
 
+-- a listener looked, and took none
 pub hears_none : (out : Option (List ℕ)) (old new : Users) (place : ℕ) (was now : ListenerView) → Listens old new place was now → now.heard ≡ was.heard → GoOn out out old new
 hears_none out old new place was now s heard = record {
   shows =

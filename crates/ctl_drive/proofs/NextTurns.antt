@@ -28,6 +28,7 @@ pub wanted_told : (waiting : List (List (List ℕ))) (u : Users) (d : ℕ) → w
 wanted_told waiting u d e =
     told_if (state_at u.channels d) (and_parts (not (is_unopened (state_at u.channels d))) (not (is_busy d u.under_way.items)) (and_parts (not (length (waits_at waiting d) == 0)) _ e).1).0
 
+-- none of that connection is under way then
 pub wanted_free : (waiting : List (List (List ℕ))) (u : Users) (d : ℕ) → wants want.Submission waiting u d ≡ true → is_busy d u.under_way.items ≡ false
 wanted_free waiting u d e =
     is_not (is_busy d u.under_way.items) (and_parts (not (is_unopened (state_at u.channels d))) (not (is_busy d u.under_way.items)) (and_parts (not (length (waits_at waiting d) == 0)) _ e).1).1

@@ -18,6 +18,7 @@ use Rattle.ctl_drive.specs.Saying.{SaysFault, left_texts, path_for}
 use Rattle.ctl_drive.specs.declared.fault.DriveFault.{DriveFault}
 use Rattle.ctl_drive.specs.declared.running.Driven.{Driven}
 
+-- a capture of nothing has begun
 pub has_begun : (before : Option (List ℕ)) (c : CaptureState) → HasCaptured before [] c → HasBegun c
 has_begun before c h = record { before = before; captured = h }
 
@@ -36,6 +37,7 @@ pub record Caught {X : Type 0} (look : X → LineView) (line : X) (first : Captu
   pub failed_is : failed ≡ last.capture.failed
   pub captures : CapturesUnlessFailed (look last.line).received (look last.line).sent last.capture
 
+-- a drive without a fault, through a capture that didn't fail, captured all that passed
 pub well_captured : {X : Type 0} (look : X → LineView) (rules : Rules) (text : List ℕ) (n1 : ℕ) (line : X) (first : CaptureState) (wrapped last : CapturedState X) (input before after silent said : Option (List ℕ)) (end : Option DriveFault) (was_bad : Bool) (left : Settled) (failed : Bool)
     → Drove (λ (l : CapturedState X). look l.line) rules text n1 wrapped last input before after silent said end was_bad left → Caught look line first wrapped last end failed
     → DroveCaptured look rules text n1 line input before after silent said was_bad left
@@ -105,6 +107,7 @@ refused device capture silent named said why names fault = record {
   fault = fault;
 }
 
+-- a status of 1 is that of a fault, which was said last
 pub ran_badly : (device capture : List ℕ) (silent named said : Option (List ℕ)) (r : Result Driven DriveFault) (n : ℕ) → NamesRead None silent named → SaysEnd device capture r named said → n ≡ end_status r → n ≡ 1
     → EndsByFault device capture silent said
 ran_badly device capture silent named said (Err why) n names s is one = refused device capture silent named said why names s
@@ -115,6 +118,7 @@ pub capture_is : (given : Option (Bor (List ℕ))) (other : Bor (List ℕ)) → 
 capture_is None other none = none
 capture_is (Some path) other none = refl
 
+-- a drive that ended by a fault, said with that path, ended so with the path of the settings' capture
 pub by_capture : (device : List ℕ) (given : Option (Bor (List ℕ))) (other path : Bor (List ℕ)) (silent said : Option (List ℕ)) → path ≡ unwrap_or given other → other.now ≡ [] → EndsByFault device path.now silent said
     → EndsByFault device (capture_path given) silent said
 by_capture device given other path silent said is none h =

@@ -20,5 +20,6 @@ one_from place (line ∷ lines) a b (AreBadFrom.bad_next _ _ why _ _ is h) (AreB
 one_from place (line ∷ lines) _ _ (AreBadFrom.bad_next _ _ v _ a is h) (AreBadFrom.bad_next _ _ w _ b was k) =
     same_bad place v w a b (one_command line v w is.fault was.fault) (one_from (place + 1) lines a b h k)
 
+-- two lists of the bad ones among these lines are one
 pub one_naming : (lines : List (List ℕ)) (a b : List BadLine) → AreBad lines a → AreBad lines b → a ≡ b
 one_naming lines a b h k = one_from 1 lines a b h k

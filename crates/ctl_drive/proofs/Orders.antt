@@ -30,6 +30,7 @@ pub record Grows (old new : CallerView) : Type 0 where
 got_longer : (c d : CallerView) → Grows c d → length c.got ≤ length d.got
 got_longer c d g = let e : length d.got ≡ length c.got + length g.later = ap (length {A = Outcome}) g.got ∙ length-append c.got g.later in omega arith
 
+-- what the request of a number asks stays when more is submitted
 pub asked_stays : (first : ℕ) (rs more : List Request) (n : ℕ) (what : Ask) → IsAskedAs first rs n what → IsAskedAs first (rs ++ more) n what
 asked_stays first rs more n what h = record {
   before = h.before;
@@ -40,6 +41,7 @@ asked_stays first rs more n what h = record {
   ask_is = h.ask_is;
 }
 
+-- and when the caller goes on
 pub asked_grows : (c d : CallerView) (n : ℕ) (what : Ask) → Grows c d → IsAskedAs c.place.first c.submitted n what → IsAskedAs d.place.first d.submitted n what
 asked_grows c d n what g h =
     subst (λ (x : Place × List Request). IsAskedAs x.0.first x.1 n what) (λ i. (sym g.place i, sym g.submitted i)) (asked_stays c.place.first c.submitted g.more n what h)
@@ -49,6 +51,7 @@ at_front [] ys i x e = absurd (some-ne-none x (sym e))
 at_front (y ∷ xs) ys zero x e = e
 at_front (y ∷ xs) ys (suc i) x e = at_front xs ys i x e
 
+-- the last element is at the place of how many were before it
 pub at_back : {A : Type 0} (xs : List A) (x : A) → get_elem? (xs ++ x ∷ []) (length xs) ≡ some x
 at_back [] x = refl
 at_back (y ∷ xs) x = at_back xs x
@@ -75,9 +78,11 @@ pub record TakesOne (old new : CallerView) (o : Outcome) : Type 0 where
   pub before : new.got_before ≡ old.got_before
   pub got : new.got ≡ old.got ++ o ∷ []
 
+-- so the caller goes on
 pub grows_taking : (c d : CallerView) (o : Outcome) → TakesOne c d o → Grows c d
 grows_taking c d o s = record { place = s.place; more = []; submitted = s.submitted ∙ sym (append-nil c.submitted); later = o ∷ []; got = s.got }
 
+-- it keeps its order, if what is now known to be told was told before, or just now
 pub keeps_taking : (states new : List ChannelState) (c d : CallerView) → Grows c d → d.submitted ≡ c.submitted → d.got_before ≡ c.got_before → length new ≡ 62
     → ((e : ℕ) → told_at new e ≡ true → (told_at states e ≡ true) ⊎ HasToldOpening d (length d.got) e) → KeepsOrder states c → KeepsOrder new d
 keeps_taking states new c d g none before long known k = record {
@@ -98,9 +103,11 @@ pub record SubmitsOne (old new : CallerView) (r : Request) : Type 0 where
   pub got : new.got ≡ old.got
   pub before : new.got_before ≡ old.got_before ++ length old.got ∷ []
 
+-- so the caller goes on
 pub grows_one : (c d : CallerView) (r : Request) → SubmitsOne c d r → Grows c d
 grows_one c d r s = record { place = s.place; more = r ∷ []; submitted = s.submitted; later = []; got = s.got ∙ sym (append-nil c.got) }
 
+-- it keeps its order: a command's connection was told something, and before a Stop it had all outcomes
 pub keeps_submitting : (states new : List ChannelState) (c d : CallerView) (r : Request) → SubmitsOne c d r → length new ≡ 62 → ((e : ℕ) → told_at new e ≡ true → told_at states e ≡ true)
     → ((e : ℕ) → is_on e r.ask ≡ true → told_at states e ≡ true) → (r.ask ≡ ask.Stop → length c.got ≡ length c.submitted) → KeepsOrder states c → KeepsOrder new d
 keeps_submitting states new c d r s long same on stop k =
@@ -149,9 +156,11 @@ told_before : (states : List ChannelState) (d e : ℕ) (s : ChannelState) → d 
 told_before states d e s within as_much h =
     ⊎_elim (λ (was : told_at states e ≡ true). was) (λ (now : (d ≡ e) × (is_told s ≡ true)). ap (told_at states) (sym now.0) ∙ sym as_much ∙ now.1) (told_set states d e s within h)
 
+-- where a connection isn't open any more, no opening more is known to have been told something
 pub told_shut : (states : List ChannelState) (d e : ℕ) → d < length states → told_at (set states d (shut_of (state_at states d))) e ≡ true → told_at states e ≡ true
 told_shut states d e within h = told_before states d e (shut_of (state_at states d)) within (shut_told (state_at states d)) h
 
+-- nor where a command was told something
 pub told_closed : (a : Answer) (states : List ChannelState) (d e : ℕ) → d < length states → told_at (set states d (closed_by a (state_at states d))) e ≡ true → told_at states e ≡ true
 told_closed a states d e within h = told_before states d e (closed_by a (state_at states d)) within (closed_if (closes a) (state_at states d)) h
 
@@ -162,5 +171,6 @@ submitted_told state.Shut = refl
 submitted_told state.Refused = refl
 submitted_told state.Open = refl
 
+-- nor where one was submitted
 pub told_submitted : (states : List ChannelState) (d e : ℕ) → d < length states → told_at (set states d (submitted_by (state_at states d))) e ≡ true → told_at states e ≡ true
 told_submitted states d e within h = told_before states d e (submitted_by (state_at states d)) within (submitted_told (state_at states d)) h

@@ -32,10 +32,12 @@ consumed_none (Some a) = refl
 
 -- ## Steps
 
+-- no line was given
 pub reads_none : (l : LinesView) → Reads l l []
 unfolding Reads
 reads_none l first lines h = subst (HasRead first l) (sym (append-nil lines)) h
 
+-- some lines were given, and then others
 pub reads_then : (k l m : LinesView) (xs ys : List (List ℕ)) → Reads k l xs → Reads l m ys → Reads k m (xs ++ ys)
 unfolding Reads
 reads_then k l m xs ys g h first lines r = subst (HasRead first m) (append_assoc lines xs ys) (h first (lines ++ xs) (g first lines r))
@@ -64,6 +66,7 @@ pub record Rests (old new : LinesView) : Type 0 where
   pub sooner : old.ended ≡ true → new.ended ≡ true
   pub at_end : new.ended ≡ true → new.failed ≡ false → IsAtEnd new.left
 
+-- it gave no line
 pub reads_rests : (old new : LinesView) → Rests old new → Reads old new []
 unfolding Reads
 reads_rests old new s first lines h =

@@ -41,6 +41,7 @@ said_last a b c (t ∷ texts) text (AreSaid.said_next _ between _ _ _ first h) b
 
 -- ## What was named
 
+-- of no lines none is bad, and nothing was said
 pub names_none : (silent : Option (List ℕ)) → NamesBad [] false silent silent
 names_none silent = record { bad = []; bad_are = AreBadFrom.bad_none 1; said = AreSaid.said_none silent; any = refl }
 
@@ -70,8 +71,10 @@ names_at lines count line was is silent said more same h n =
 
 -- ## What is left
 
+-- of no requests nothing is said
 pub left_none : (a : Option (List ℕ)) (n : ℕ) → (n == 0) ≡ true → AreSaid a a (left_texts n)
 left_none a n is = subst (λ (t : Bool). AreSaid a a (if t then [] else left_text n ∷ [])) (sym is) (AreSaid.said_none a)
 
+-- of some it is said how many they are
 pub left_some : (a b : Option (List ℕ)) (n : ℕ) → (n == 0) ≡ false → IsBegun a b (left_text n) → AreSaid a b (left_texts n)
 left_some a b n is said = subst (λ (t : Bool). AreSaid a b (if t then [] else left_text n ∷ [])) (sym is) (AreSaid.said_next a b b (left_text n) [] said (AreSaid.said_none b))

@@ -75,6 +75,7 @@ between =
     AreBadFrom.bad_passed 1 (codes "1 AT") (codes "x" ∷ codes "2 AT" ∷ []) (bad_at 2 Carrier []) one_at
     (AreBadFrom.bad_next 2 (codes "x") Carrier (codes "2 AT" ∷ []) [] x_is_bad (AreBadFrom.bad_passed 3 (codes "2 AT") [] [] two_at (AreBadFrom.bad_none 4)))
 
+-- the worked inputs have these bad lines
 pub worked : AreWorked
 worked = record {
   no_input = AreBadFrom.bad_none 1;
@@ -93,6 +94,7 @@ abbrev why_in : List BadLine → LineFault
 why_in [] = Carrier
 why_in (b ∷ more) = b.why
 
+-- and not those
 pub refused : AreRefused
 refused = record {
   place_before = λ h. let e : 1 ≡ 2 = ap place_in (one_naming (input_lines three_lines) _ _ h between) in omega (arith, e);
@@ -134,6 +136,7 @@ begun_whole before text = record { part = text; left = []; split = sym (append-n
 begun_none : (before : Option (List ℕ)) (text : List ℕ) → Appends before before [] → IsBegun before before text
 begun_none before text same = record { part = []; left = text; split = refl; appended = same }
 
+-- a writer has these beginnings of two texts
 pub taken : AreTaken
 taken = record {
   both =
@@ -153,6 +156,7 @@ none_of before after p q r s (inr (inl e)) = q e
 none_of before after p q r s (inr (inr (inl e))) = r e
 none_of before after p q r s (inr (inr (inr e))) = s e
 
+-- and not those
 pub not_taken : AreNotTaken
 not_taken = record {
   again = λ h. none_of [] (1 ∷ 1 ∷ []) (λ e. cc) (λ e. cc) (λ e. cc) (λ e. cc) (of_two [] (1 ∷ 1 ∷ []) h);

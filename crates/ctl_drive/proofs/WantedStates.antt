@@ -25,10 +25,12 @@ wants_next all i d first states there is e =
     ∙ (ap (λ (k : ℕ). wanted_states (drop k all) (set states (slice_index_or all i d).number state.Wanted)) (sym one)
     ∙ (sym (ap (λ (ds : List Dlci). wanted_states ds states) (drop-cons all i d there)) ∙ e))
 
+-- when all were taken, all of them are wanted
 pub wants_all : (all : List Dlci) (i : ℕ) (first states : List ChannelState) → length all ≤ i
     → wanted_states (drop i all) states ≡ wanted_states all first → states ≡ wanted_states all first
 wants_all all i first states few e = ap (λ (ds : List Dlci). wanted_states ds states) (sym (drop_all all i few)) ∙ e
 
+-- there are as many states as before
 pub long_states : (wanted : List Dlci) (states : List ChannelState) → length (wanted_states wanted states) ≡ length states
 long_states [] states = refl
 long_states (d ∷ wanted) states = long_states wanted (set states d.number state.Wanted) ∙ length-set states d.number state.Wanted

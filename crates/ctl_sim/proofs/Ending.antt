@@ -23,6 +23,7 @@ ends_with OfCapture options s fault input rest x y a b same other left said = re
   capture = λ is. absurd (other is);
 }
 
+-- without a capture a status of 1 is that of a fault that was said, and at which the client was left
 pub ends_by : {A : Type 0} (options : SimOptions) (s : Setting) (served : Result A ServeFault) (status : ℕ) (Silent : Type 0) (input rest x y a b : Option (List ℕ)) → s ≡ setting_of options
     → IfErr served (λ f. f ≢ ServeFault.Capture) → IsLeftAt s (result_err served) input rest x y → OnOk served ((status ≡ 0) × Silent)
     → IfErr served (λ f. (status ≡ 1) × IsBegun a b (fault_line f)) → status ≡ 1 → EndsFor ⊥ options input rest x y a b
@@ -49,6 +50,7 @@ left_whole s (Some all) rest x y h = record {
 served_by : (options : SimOptions) (s : Setting) (input x y : Option (List ℕ)) → s ≡ setting_of options → IsAnswered s input x y → IsServed options input x y
 served_by options s input x y same answered = subst (λ (t : Setting). IsAnswered t input x y) same answered
 
+-- with one it is that of such a fault, or that of the capture, where all was served
 pub ends_captured : {A : Type 0} (options : SimOptions) (s : Setting) (served ended : Result A ServeFault) (failed now : Bool) (status : ℕ) (Silent : Type 0) (input rest x y a b : Option (List ℕ)) → s ≡ setting_of options
     → failed ≡ now → IfErr served (λ f. f ≢ ServeFault.Capture) → IsLeftAt s (result_err served) input rest x y → OnOk served (IsAnswered s input x y)
     → OnOk served (ended ≡ (if failed then Err ServeFault.Capture else served)) → OnErr served (ended ≡ served) → OnOk ended ((status ≡ 0) × Silent)
@@ -75,5 +77,6 @@ both_well (Err f) ended failed status Said well fault said zero = none_said stat
 
 -- ## So far it was served
 
+-- a client that a fault left was served in part
 pub served_in_part : {OfCapture : Type 0} (options : SimOptions) (input rest x y a b : Option (List ℕ)) → EndsFor OfCapture options input rest x y a b → IsServedInPart options input rest x y
 served_in_part options input rest x y a b ends = record { fault = ends.fault; left = ends.left }

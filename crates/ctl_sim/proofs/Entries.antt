@@ -3,6 +3,7 @@ use Rattle.std.specs.Prelude.{◌≡◌, ℕ, List, [], ◌∷◌, ◌++◌, ref
 use Rattle.std.proofs.Common.{ap, ◌∙◌, append_assoc, append-nil}
 use Rattle.ctl_sim.specs.Serving.{Entry, with_more}
 
+-- where nothing more comes or goes, the entries stay
 pub none_more : (es : List Entry) → with_more [] [] es ≡ es
 none_more [] = refl
 none_more (e ∷ es) =

@@ -5,6 +5,7 @@ use Rattle.std.proofs.lemmas.List.{take_all, take_more}
 use Rattle.std.proofs.lemmas.List.Sums.{fold-append}
 use Rattle.ctl_sim.specs.Plain.{Plain, plain_after, plain_octet}
 
+-- no octets are taken yet
 pub fed_none : (p : Plain) → p ≡ plain_after p []
 unfolding plain_after
 fed_none p = refl

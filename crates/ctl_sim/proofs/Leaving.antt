@@ -25,6 +25,7 @@ taken_at_most (suc n) (x ∷ xs) = let more = taken_at_most n xs in omega (arith
 pub few_taken : (n : ℕ) (xs : List ℕ) → length xs ≤ 4096 → length (take n xs) ≤ 4096
 few_taken n xs few = let most = taken_at_most n xs in omega (arith, most, few)
 
+-- some octets of a piece aren't none
 pub some_taken : (n : ℕ) (xs : List ℕ) → n ≢ 0 → n ≤ length xs → take n xs ≢ []
 some_taken zero xs some bound none = some refl
 some_taken (suc n) [] some bound none = omega (arith, bound)
@@ -39,6 +40,7 @@ reader_leaves ServeFault.Output Begun is = absurd is
 reader_leaves ServeFault.Capture Begun is = absurd is
 reader_leaves ServeFault.EndlessModem Begun is = absurd is
 
+-- or of what answers, which leaves a piece
 pub modem_leaves : (fault : ServeFault) (piece : List ℕ) (Begun : Type 0) → IsOfModem fault → piece ≢ [] → IsLeftBy (Some fault) piece [] Begun
 modem_leaves ServeFault.NoMemory piece Begun is some = (some, refl)
 modem_leaves ServeFault.EndlessModem piece Begun is some = (some, refl)
@@ -51,6 +53,7 @@ modem_leaves ServeFault.Capture piece Begun is some = absurd is
 pub reader_no_capture : (fault : ServeFault) → IsOfReader fault → fault ≢ ServeFault.Capture
 reader_no_capture fault is same = subst IsOfReader same is
 
+-- nor is one of what answers
 pub modem_no_capture : (fault : ServeFault) → IsOfModem fault → fault ≢ ServeFault.Capture
 modem_no_capture fault is same = subst IsOfModem same is
 
@@ -59,11 +62,13 @@ fault_given : {A : Type 0} (given : Result A ServeFault) (fault : ServeFault) �
 fault_given (Ok x) fault h = absurd h
 fault_given (Err f) fault h = ap Some h
 
+-- and the client is left as that fault says
 pub left_given : {X A : Type 0} (Holds : Setting → List ℕ → List ℕ → List Entry → X → List ℕ → Type 0) (s : Setting) (given : Result A ServeFault) (fault : ServeFault) (input rest x y : Option (List ℕ))
     → IsErrAnd given (λ f. f ≡ fault) → LeftSoFar Holds s (Some fault) input rest x y → LeftSoFar Holds s (result_err given) input rest x y
 left_given Holds s given fault input rest x y is left =
     subst (λ (o : Option ServeFault). LeftSoFar Holds s o input rest x y) (sym (fault_given given fault is)) left
 
+-- which isn't the capture's, if the fault isn't
 pub given_no_capture : {A : Type 0} (given : Result A ServeFault) (fault : ServeFault) → IsErrAnd given (λ f. f ≡ fault) → fault ≢ ServeFault.Capture → IfErr given (λ f. f ≢ ServeFault.Capture)
 given_no_capture (Ok x) fault is other = tt
 given_no_capture (Err f) fault is other = λ same. other (sym is ∙ same)
@@ -149,6 +154,7 @@ left_at s fault (Some all) rest x y h = record {
   written = h.written;
 }
 
+-- a client whose plain lines had just begun is left so
 pub left_client : (setup : Setup) (m : ModemState) (mode : Mode) (fault : Option ServeFault) (input rest x y : Option (List ℕ)) → IsAtLines setup m mode
     → ((n : ModemState) → Stands (setting_by setup n) [] [] [] mode [] → LeftSoFar Stands (setting_by setup n) fault input rest x y)
     → IsLeftAt (setting_by setup m) fault input rest x y

@@ -83,9 +83,11 @@ shown_other IsOpened other = absurd (other refl)
 shown_other (IsClosing n) other = refl
 shown_other (IsStopping n) other = refl
 
+-- shown as opened, it is
 pub up_is : (past : List Act) (shown : ChannelState) → shown ≡ state_shown 0 past → shown ≡ Opened → true ≡ is_open_at_modem 0 past
 up_is past shown is opened = sym (sym (opened_is_open Responder (wire past) 0) ∙ shown_open (state_of Responder 0 (wire past)) (sym is ∙ opened))
 
+-- shown otherwise, it isn't
 pub down_is : (past : List Act) (shown : ChannelState) → shown ≡ state_shown 0 past → shown ≢ Opened → false ≡ is_open_at_modem 0 past
 down_is past shown is other = sym (sym (opened_is_open Responder (wire past) 0) ∙ shown_other (state_of Responder 0 (wire past)) (λ same. other (is ∙ same)))
 

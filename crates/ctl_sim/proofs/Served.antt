@@ -17,11 +17,13 @@ use Rattle.ctl_sim.specs.declared.server.Setup.{Setup}
 
 -- ## Known octets
 
+-- a reader that keeps what it has gave nothing
 pub consumed_none : (a b : Option (List ℕ)) → Keeps a b → Consumes a b []
 consumed_none None b keeps = tt
 consumed_none (Some x) None keeps = absurd keeps
 consumed_none (Some x) (Some y) keeps = sym keeps
 
+-- one that gives some octets, and then others, gives both
 pub consumed_more : (a b c : Option (List ℕ)) (xs ys : List ℕ) → Consumes a b xs → Consumes b c ys → Consumes a c (xs ++ ys)
 consumed_more None b c xs ys p q = tt
 consumed_more (Some x) None c xs ys p q = absurd p
@@ -51,15 +53,18 @@ after_both : (p : Plain) (xs ys : List ℕ) → plain_after p (xs ++ ys) ≡ pla
 unfolding plain_after
 after_both p xs ys = fold-append plain_octet p xs ys
 
+-- no octets leave plain lines as they are
 pub after_none : (p : Plain) → plain_after p [] ≡ p
 unfolding plain_after
 after_none p = refl
 
+-- octets taken in two pieces, what was said to the first handed out between them, are as those taken at once
 pub both_served : (p : Plain) (xs ys : List ℕ) → plain_after p (xs ++ ys) ≡ with_said (plain_after p xs).said (plain_after (unsaid (plain_after p xs)) ys)
 both_served p xs ys = after_both p xs ys ∙ goes_on (plain_after p xs) ys
 
 -- ## All of the input
 
+-- a reader to which nothing happens keeps what it has
 pub keeps_same : (a : Option (List ℕ)) → Keeps a a
 keeps_same None = tt
 keeps_same (Some x) = refl
@@ -82,9 +87,11 @@ answers_entering s came went entries (Mux mux) at =
     (at.leads [] [] [] (subst (λ (l : List ℕ). AnswersFrom s (stage.Mux (mux_end mux.n1 at.modem s.steps) at.past) l [] []) (sym (append-nil mux.kept))
     (stage.no_frame (mux_end mux.n1 at.modem s.steps) at.past mux.kept mux.kept at.kept)))
 
+-- so all that came is answered by what went
 pub answers_by : (s : Setting) (came went : List ℕ) (entries : List Entry) (mode : Mode) → Stands s came went entries mode [] → Answers s came went
 answers_by s came went entries mode at = record { entries = entries; entering = answers_entering s came went entries mode at }
 
+-- plain lines that have begun stand where nothing came or went
 pub begun_at : (s : Setting) (p : Plain) → p ≡ plain_begun s.n1 s.modem → AtLines s [] [] [] p []
 begun_at s p is =
     let none = after_none (plain_begun s.n1 s.modem) in
@@ -100,5 +107,6 @@ begun_at s p is =
 pub begun_mode : (setup : Setup) (m : ModemState) (mode : Mode) → IsAtLines setup m mode → Stands (setting_by setup m) [] [] [] mode []
 begun_mode setup m mode is = subst (λ (o : Mode). Stands (setting_by setup m) [] [] [] o []) (sym is) (begun_at (setting_by setup m) (plain_begun setup.n1.octets m) refl)
 
+-- of their octets none is undecided
 pub none_undecided : (setup : Setup) (m : ModemState) (mode : Mode) → IsAtLines setup m mode → undecided mode ≡ []
 none_undecided setup m mode is = ap undecided is

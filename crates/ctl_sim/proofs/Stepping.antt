@@ -75,6 +75,7 @@ stays_at s came went piece behind entries p new is none at = record {
   leads = leads_on s came went piece behind entries p at;
 }
 
+-- octets are taken, and no line enters the multiplexer
 pub stays : (s : Setting) (p new : Plain) (piece behind before out : List ℕ) → new ≡ unsaid (plain_after p piece) → (plain_after p piece).entered ≡ None → out ≡ before ++ (plain_after p piece).said → StepsOn Stands undecided s (Lines p) (Lines new) None (piece ++ behind) behind before out
 stays s p new piece behind before out is none written = record {
   more = (plain_after p piece).said;
@@ -108,6 +109,7 @@ entered_at s came went piece behind entries p n1 sim is none fits at =
           (subst (λ (m : ModemState). AnswersFrom s (stage.Mux (mux_end n1 m s.steps) []) (behind ++ later) more es) (sym modem_is) answers)));
     }
 
+-- octets are taken up to the end of a line that enters it
 pub entered : (setup : Setup) (s : Setting) (p : Plain) (n1 : ℕ) (m : ModemState) (new : Mode) (piece behind before out : List ℕ) → s.steps ≡ setup.steps → (plain_after p piece).entered ≡ Some n1 → (plain_after p piece).behind ≡ [] → m ≡ (plain_after p piece).modem → out ≡ before ++ (plain_after p piece).said → IsEntered setup m n1 new
     → StepsOn Stands undecided s (Lines p) new (Some n1) (piece ++ behind) behind before out
 entered setup s p n1 m _ piece behind before out steps is none same written (enters sim fits) = record {
@@ -151,6 +153,7 @@ kept_at s came went octets kept entries mux passes reads at = record {
   leads = λ later more es answers. says s came went [] later more entries es (leads_past s came went octets kept entries mux at passes later more es answers);
 }
 
+-- octets are taken in which no frame is whole, and those that can become one are kept
 pub keeps : (s : Setting) (mux : MuxState) (octets kept out : List ℕ) → PassesOver mux.n1 (mux.kept ++ octets) kept → Reads mux.n1 kept [] kept → StepsOn Stands undecided s (Mux mux) (Mux (record mux { kept = kept })) None octets [] out out
 keeps s mux octets kept out passes reads = record {
   more = [];
@@ -257,6 +260,7 @@ end_at s came went octets text behind before out entries mux new passes is fed a
           (subst (λ (l : List ℕ). AnswersFrom s (stage.Lines (modem_after e to.now)) (behind ++ later) l es) (ap (λ (q : Plain). q.said ++ more) none) answers))));
     }
 
+-- a whole frame is handled: the multiplexer goes on behind it, or plain lines do
 pub handles_text : (setup : Setup) (s : Setting) (mux : MuxState) (new : Mode) (octets text behind before out : List ℕ) → s.n1 ≡ setup.n1.octets → PassesOver mux.n1 (mux.kept ++ octets) (text ++ behind) → IsFrameText mux.n1 text → HandlesText setup mux.sim mux.n1 text new before out → StepsOn Stands undecided s (Mux mux) new None octets behind before out
 handles_text setup s mux _ octets text behind _ _ n1 passes is (in_mux new before out fed) = record {
   more = fed.more;
@@ -272,6 +276,7 @@ handles_text setup s mux _ octets text behind _ _ n1 passes is (at_lines new bef
 
 -- ## All of them
 
+-- no octets are taken
 pub takes_none : (s : Setting) (mode : Mode) (octets out : List ℕ) → StepsOn Stands undecided s mode mode None octets octets out out
 takes_none s mode octets out = record {
   more = [];
@@ -284,6 +289,7 @@ takes_none s mode octets out = record {
 entry_said : (entered : Option ℕ) (x y left : List ℕ) (es : List Entry) → with_entry (with_more [] y (with_more [] x es)) entered left ≡ with_entry (with_more [] (x ++ y) es) entered left
 entry_said entered x y left es = ap (λ (l : List Entry). with_entry l entered left) (more_twice [] x [] y es)
 
+-- some are taken, in which no line enters, and then others
 pub takes_more : (s : Setting) (a b c : Mode) (entered : Option ℕ) (octets left rest x y z : List ℕ) → StepsOn Stands undecided s a b None octets left x y → StepsOn Stands undecided s b c entered left rest y z → StepsOn Stands undecided s a c entered octets rest x z
 takes_more s a b c entered octets left rest x y z p q = record {
   more = p.more ++ q.more;
@@ -294,23 +300,28 @@ takes_more s a b c entered octets left rest x y z p q = record {
       (q.stands came (went ++ p.more) (with_more [] p.more es) (p.stands came went es at)));
 }
 
+-- a number that isn't 0 is more
 pub not_zero : (n : ℕ) → (n == 0) ≡ false → 0 < n
 not_zero zero is = absurd (false≢true (sym is))
 not_zero (suc n) is = omega arith
 
+-- what maps to none is none
 pub mapped_none : {A B : Type 0} (f : A → B) (o : Option A) → option_map f o ≡ None → o ≡ None
 mapped_none f None none = refl
 mapped_none f (Some x) none = cc
 
+-- what isn't some maps to none
 pub none_mapped : {A B : Type 0} (f : A → B) (o : Option A) → is_some o ≡ false → option_map f o ≡ None
 none_mapped f None none = refl
 none_mapped f (Some x) none = absurd (false≢true (sym none))
 
 -- ## What is left stands at the end
 
+-- octets end with themselves
 pub ends_none : (all : List ℕ) → EndsWith all all
 ends_none all = record { front = []; is = refl }
 
+-- octets that end with others end with what those end with
 pub ends_more : (a b c : List ℕ) → EndsWith a b → EndsWith b c → EndsWith a c
 ends_more a b c p q = record { front = p.front ++ q.front; is = p.is ∙ ap (λ (l : List ℕ). p.front ++ l) q.is ∙ sym (append_assoc p.front q.front c) }
 
@@ -318,6 +329,7 @@ ends_more a b c p q = record { front = p.front ++ q.front; is = p.is ∙ ap (λ 
 pub ends_dropped : (n : ℕ) (octets behind : List ℕ) → behind ≡ drop n octets → EndsWith octets behind
 ends_dropped n octets behind is = record { front = take n octets; is = sym (take-append-drop n octets) ∙ ap (λ (l : List ℕ). take n octets ++ l) (sym is) }
 
+-- where the multiplexer begins, octets end with what isn't decided and what is left
 pub ends_entered : (setup : Setup) (m : ModemState) (n1 : ℕ) (octets behind : List ℕ) (mode : Mode) → IsEntered setup m n1 mode → EndsWith octets behind → EndsWith octets (undecided mode ++ behind)
 ends_entered setup m n1 octets behind _ (enters sim fits) ends = ends
 
@@ -333,6 +345,7 @@ ends_behind [] octets front last is = ends_later octets front last is
 ends_behind (k ∷ kept) octets [] last is = record { front = []; is = ap (drop 1) is }
 ends_behind (k ∷ kept) octets (f ∷ front) last is = ends_later (kept ++ octets) front last (ap (drop 1) is)
 
+-- where octets are kept, all end with those, but for the flag in front
 pub keeps_ends : (mux : MuxState) (sim : SimState HeldState) (n1 : ℕ) (kept octets text front rest new_kept left : List ℕ) → mux ≡ record { sim = sim; n1 = n1; kept = kept } → text ≡ kept ++ octets → new_kept ≡ rest → left ≡ []
     → text ≡ front ++ rest → EndsWith (drop 1 mux.kept ++ octets) (drop 1 new_kept ++ left)
 keeps_ends mux sim n1 kept octets text front rest new_kept left is text_is kept_is none found =
@@ -350,6 +363,7 @@ frame_behind n1 kept octets front text behind is found =
     ends_more _ (drop 1 (text ++ behind)) behind (ends_behind kept octets front (text ++ behind) found)
     (record { front = is.octets ++ flag ∷ []; is = ap (λ (l : List ℕ). drop 1 (l ++ behind)) is.text_is })
 
+-- behind a frame all end with what isn't decided and what is left
 pub frame_ends : (setup : Setup) (mux : MuxState) (sim : SimState HeldState) (n1 : ℕ) (kept octets all front text behind left before out : List ℕ) (new : Mode) → mux ≡ record { sim = sim; n1 = n1; kept = kept } → all ≡ kept ++ octets → left ≡ behind
     → all ≡ front ++ (text ++ behind) → IsFrameText n1 text → HandlesText setup sim n1 text new before out → EndsWith (drop 1 mux.kept ++ octets) (undecided new ++ left)
 frame_ends setup mux sim n1 kept octets all front text behind left before out new is all_is left_is found frame handles =
@@ -373,6 +387,7 @@ some_taken : (before : Option ℕ) (n : ℕ) (octets : List ℕ) → (before ≡
 some_taken None n octets some h = let one = some refl h in omega (arith, one)
 some_taken (Some n1) n octets some h = omega (arith)
 
+-- and it leaves less where the multiplexer begins
 pub moves_on : (setup : Setup) (m : ModemState) (n1 : ℕ) (old mode : Mode) (before : Option ℕ) (n : ℕ) (octets left : List ℕ) → held old ≡ once_entered before → IsEntered setup m n1 mode → n ≤ length octets → left ≡ drop n octets
     → (before ≡ None → 0 < length octets → 0 < n) → 0 < length octets → weight mode (length left) < weight old (length octets)
 moves_on setup m n1 old mode before n octets left held_is is bound left_is some h =
@@ -384,6 +399,7 @@ moves_on setup m n1 old mode before n octets left held_is is bound left_is some 
 
 -- ## By what was handed in
 
+-- it goes on: a flag is kept behind the frame
 pub in_mux_by : (setup : Setup) (sim new seen : SimState HeldState) (n1 : ℕ) (text kept before out : List ℕ) (over : Bool) → over ≡ false → seen ≡ new → kept ≡ flag ∷ [] → IsFed sim new text before out over
     → HandlesText setup sim n1 text (Mux (record { sim = seen; n1 = n1; kept = kept })) before out
 in_mux_by setup sim new seen n1 text kept before out over is same kept_is fed =
@@ -391,12 +407,14 @@ in_mux_by setup sim new seen n1 text kept before out over is same kept_is fed =
     (subst (λ (l : List ℕ). HandlesText setup sim n1 text (Mux (record { sim = new; n1 = n1; kept = l })) before out) (sym kept_is)
     (in_mux new before out (subst (λ (b : Bool). IsFed sim new text before out b) is fed)))
 
+-- it is over: plain lines begin, with the modem as it is
 pub at_lines_by : (setup : Setup) (sim new : SimState HeldState) (n1 : ℕ) (text before out : List ℕ) (p : Plain) (over : Bool) → over ≡ true → p ≡ plain_begun setup.n1.octets (modem_of new) → IsFed sim new text before out over
     → HandlesText setup sim n1 text (Lines p) before out
 at_lines_by setup sim new n1 text before out p over is same fed =
     subst (λ (q : Plain). HandlesText setup sim n1 text (Lines q) before out) (sym same)
     (at_lines new before out (subst (λ (b : Bool). IsFed sim new text before out b) is fed))
 
+-- it begins, with no octets kept
 pub entered_mux : (setup : Setup) (m : ModemState) (n1 : ℕ) (sim : SimState HeldState) (steps : List Step) (kept : List ℕ) → steps ≡ setup.steps → kept ≡ [] → FitsMux (mux_end n1 m steps) [] [] sim []
     → IsEntered setup m n1 (Mux (record { sim = sim; n1 = n1; kept = kept }))
 entered_mux setup m n1 sim steps kept same none fits =
@@ -416,12 +434,15 @@ front_taken all held behind a b h ends all_is behind_is held_is =
     let count : a - b - h ≡ length ends.front = omega (arith, all_is, behind_is, held_is, whole, both) in
     ends.is ∙ ap (λ (l : List ℕ). l ++ (held ++ behind)) (sym (front_kept (a - b - h) ends.front (held ++ behind) all count ends.is))
 
+-- where no octets are kept, they are no frame
 pub none_kept : (n1 : ℕ) (kept : List ℕ) → kept ≡ [] → Reads n1 kept [] kept
 none_kept n1 kept none = subst (λ (l : List ℕ). Reads n1 l [] l) (sym none) (no_flag [] refl)
 
+-- nor is a flag alone
 pub flag_kept : (n1 : ℕ) (kept : List ℕ) → kept ≡ flag ∷ [] → Reads n1 kept [] kept
 flag_kept n1 kept one = subst (λ (l : List ℕ). Reads n1 l [] l) (sym one) (cut_short (flag ∷ []) [] refl (cut_none n1))
 
+-- no frame is whole in what was kept and what came: what can become one is kept
 pub keeps_by : (s : Setting) (mux : MuxState) (sim : SimState HeldState) (n1 : ℕ) (kept octets text rest new_kept left out : List ℕ) → mux ≡ record { sim = sim; n1 = n1; kept = kept } → text ≡ kept ++ octets → new_kept ≡ rest → left ≡ []
     → PassesOver n1 text rest × Reads n1 rest [] rest → StepsOn Stands undecided s (Mux mux) (Mux (record { sim = sim; n1 = n1; kept = new_kept })) None octets left out out
 keeps_by s mux sim n1 kept octets text rest new_kept left out is text_is kept_is none found =
@@ -430,6 +451,7 @@ keeps_by s mux sim n1 kept octets text rest new_kept left out is text_is kept_is
     (subst (λ (l : List ℕ). StepsOn Stands undecided s (Mux (record { sim = sim; n1 = n1; kept = kept })) (Mux (record { sim = sim; n1 = n1; kept = rest })) None octets l out out) (sym none)
     (keeps s (record { sim = sim; n1 = n1; kept = kept }) octets rest out (subst (λ (l : List ℕ). PassesOver n1 l rest) text_is found.0) found.1)))
 
+-- and less is left and kept
 pub keeps_less : (n1 : ℕ) (mux : MuxState) (sim : SimState HeldState) (kept octets text rest new_kept left : List ℕ) → mux ≡ record { sim = sim; n1 = n1; kept = kept } → text ≡ kept ++ octets → new_kept ≡ rest → left ≡ []
     → PassesOver n1 text rest × Reads n1 rest [] rest → 0 < length octets → weight (Mux (record { sim = sim; n1 = n1; kept = new_kept })) (length left) < weight (Mux mux) (length octets)
 keeps_less n1 mux sim kept octets text rest new_kept left is text_is kept_is none found some =
@@ -452,6 +474,7 @@ text_size n1 text is =
     let part = length-append is.octets (flag ∷ []) in
     omega (arith, whole, part)
 
+-- behind a whole frame less is left and kept
 pub frame_less : (setup : Setup) (mux : MuxState) (sim : SimState HeldState) (n1 : ℕ) (kept octets all text behind left before out : List ℕ) (new : Mode) → mux ≡ record { sim = sim; n1 = n1; kept = kept } → all ≡ kept ++ octets → left ≡ behind
     → PassesOver n1 all (text ++ behind) × IsFrameText n1 text → HandlesText setup sim n1 text new before out → weight new (length left) < weight (Mux mux) (length octets)
 frame_less setup mux sim n1 kept octets all text behind left before out new is all_is left_is found handles =
@@ -464,6 +487,7 @@ frame_less setup mux sim n1 kept octets all text behind left before out new is a
     let mux_size : length mux.kept ≡ length kept = ap (λ (x : MuxState). length x.kept) is in
     falls (Mux mux) new (length octets) (length left) (omega (arith, one, two, most, both, all_size, left_size, mux_size))
 
+-- a whole frame in what was kept and what came is handled
 pub frame_by : (setup : Setup) (s : Setting) (mux : MuxState) (sim : SimState HeldState) (n1 : ℕ) (kept octets all text behind left before out : List ℕ) (new : Mode) → s.n1 ≡ setup.n1.octets → mux ≡ record { sim = sim; n1 = n1; kept = kept } → all ≡ kept ++ octets → left ≡ behind
     → PassesOver n1 all (text ++ behind) × IsFrameText n1 text → HandlesText setup sim n1 text new before out → StepsOn Stands undecided s (Mux mux) new None octets left before out
 frame_by setup s mux sim n1 kept octets all text behind left before out new same is all_is left_is found handles =

@@ -21,6 +21,7 @@ use Rattle.ctl_sim.proofs.Served.{answers_by, answers_entering, begun_mode, cons
 
 -- ## Part by part
 
+-- nothing came, nothing went, and nothing was seen
 pub passing_none : {X V : Type 0} (Holds : Setting → List ℕ → List ℕ → List Entry → X → List ℕ → Type 0) (Undecided : X → List ℕ) (Sees : V → V → Direction → List ℕ → Type 0) (Begins : V → V → ℕ → Type 0) (s : Setting) (now : X) (first : V) → Undecided now ≡ [] → Holds s [] [] [] now []
     → Passing Holds Undecided Sees Begins s first [] [] now [] first
 passing_none Holds Undecided Sees Begins s now first none holds =
@@ -82,6 +83,7 @@ passing_part Holds Undecided Sees Begins waits s first came went old new u w oct
       (subst (λ (l : List ℕ). Exchanges (HoldsNow Holds s) Sees Begins first p.seen l went p.entries u) ends p.exchanges) sees.part_seen sees.said_seen sees.begins;
 }
 
+-- a part is answered and seen; octets are left behind it only where a line enters the multiplexer
 pub passes_part : {X V : Type 0} (Holds : Setting → List ℕ → List ℕ → List Entry → X → List ℕ → Type 0) (Undecided : X → List ℕ) (Sees : V → V → Direction → List ℕ → Type 0) (Begins : V → V → ℕ → Type 0)
     → ((s : Setting) (came went : List ℕ) (entries : List Entry) (x : X) (left : List ℕ) → Holds s came went entries x left → MayBeFrame (Undecided x))
     → (s : Setting) (old new : X) (u w : V) (octets left part none said before out : List ℕ) (entered : Option ℕ)
@@ -97,6 +99,7 @@ passes_part Holds Undecided Sees Begins waits s old new u w octets left part non
           (subst (λ (l : List ℕ). SeesPart Sees Begins u w part l entered) is sees) p;
     }
 
+-- two steps, one behind the other
 pub passes_both : {X V : Type 0} (Holds : Setting → List ℕ → List ℕ → List Entry → X → List ℕ → Type 0) (Undecided : X → List ℕ) (Sees : V → V → Direction → List ℕ → Type 0) (Begins : V → V → ℕ → Type 0) (s : Setting) (a b c : X) (u v w : V) (octets left given rest x y z : List ℕ)
     → PassesOn Holds Undecided Sees Begins s a b u v octets left x y → given ≡ left → PassesOn Holds Undecided Sees Begins s b c v w given rest y z → PassesOn Holds Undecided Sees Begins s a c u w octets rest x z
 passes_both Holds Undecided Sees Begins s a b c u v w octets left given rest x y z p is q = record {
@@ -109,6 +112,7 @@ passes_both Holds Undecided Sees Begins s a b c u v w octets left given rest x y
 
 -- ## Over a reader and a writer
 
+-- nothing was read, and nothing written
 pub watched_none : {X V : Type 0} (Holds : Setting → List ℕ → List ℕ → List Entry → X → List ℕ → Type 0) (Undecided : X → List ℕ) (Sees : V → V → Direction → List ℕ → Type 0) (Begins : V → V → ℕ → Type 0) (s : Setting) (input before : Option (List ℕ)) (now : X) (first : V) → Undecided now ≡ [] → Holds s [] [] [] now []
     → WatchedSoFar Holds Undecided Sees Begins s input input before before now first first
 watched_none Holds Undecided Sees Begins s input before now first none holds = record {
@@ -210,11 +214,13 @@ is_watched : {V : Type 0} (Sees : V → V → Direction → List ℕ → Type 0)
 is_watched Sees Begins s None x y first watcher w = tt
 is_watched Sees Begins s (Some all) x y first watcher w = watched_all Sees Begins s all x y first watcher w
 
+-- from plain lines that have just begun on, all that the reader had is answered and seen
 pub watched_client : {V : Type 0} (Sees : V → V → Direction → List ℕ → Type 0) (Begins : V → V → ℕ → Type 0) (setup : Setup) (m : ModemState) (mode : Mode) (input x y : Option (List ℕ)) (first watcher : V) → IsAtLines setup m mode
     → ((n : ModemState) → Stands (setting_by setup n) [] [] [] mode [] → WatchedWhole Stands Sees Begins (setting_by setup n) input x y first watcher)
     → IsWatched Sees Begins (setting_by setup m) input x y first watcher
 watched_client Sees Begins setup m mode input x y first watcher is serves = is_watched Sees Begins (setting_by setup m) input x y first watcher (serves m (begun_mode setup m mode is))
 
+-- what was answered and seen was answered
 pub answered_client : {V : Type 0} (Sees : V → V → Direction → List ℕ → Type 0) (Begins : V → V → ℕ → Type 0) (s : Setting) (input x y : Option (List ℕ)) (first watcher : V) → IsWatched Sees Begins s input x y first watcher → IsAnswered s input x y
 answered_client Sees Begins s None x y first watcher w = tt
 answered_client Sees Begins s (Some all) x y first watcher w = record { went = w.went; answers = record { entries = w.entries; entering = w.answers }; written = w.written }
@@ -312,6 +318,7 @@ captured_by : (s : Setting) (input x y : Option (List ℕ)) (first now last : Ca
 captured_by s None x y first now last w ends good = tt
 captured_by s (Some all) x y first now last w ends good = captured_all s x y first now last all w ends good
 
+-- seen by a capture that didn't fail, and ended, it is captured
 pub is_captured : (options : SimOptions) (s : Setting) (input x y : Option (List ℕ)) (given first now last : CaptureState) → s ≡ setting_of options → first ≡ given → IsWatched SeesPassed BeginsAnew s input x y first now → EndsCapture now last → last.failed ≡ false
     → IsCaptured options input x y given last
 is_captured options s input x y given first now last same begun w ends good =

@@ -18,6 +18,7 @@ tails c d xs ys e = cc
 
 -- Numbers.
 
+-- the digits of a number have no blank among them
 pub lacks_number : (b : Bool) (n : ℕ) → LacksByte 32 (if b then (48 + n) ∷ [] else (48 + n / 10) ∷ (48 + n % 10) ∷ [])
 lacks_number true n = lacks_cons 32 (48 + n) [] (λ e. omega (arith, e)) (lacks_nil 32)
 lacks_number false n =
@@ -26,10 +27,12 @@ lacks_number false n =
 
 -- Cuts at the first blank.
 
+-- a text has the octet that stands between two parts of it
 pub lacks_middle : (c : ℕ) (f t : List ℕ) → LacksByte c (f ++ c ∷ t) → ⊥
 lacks_middle c [] t h = h 0 (omega arith) refl
 lacks_middle c (x ∷ f) t h = lacks_middle c f t (lacks_tail c x (f ++ c ∷ t) h)
 
+-- a text is cut at its first such octet in one way
 pub same_front : (c : ℕ) (f g t u : List ℕ) → LacksByte c f → LacksByte c g → f ++ c ∷ t ≡ g ++ c ∷ u → (f ≡ g) × (t ≡ u)
 same_front c [] [] t u h i e = (refl, tails c c t u e)
 same_front c [] (y ∷ g) t u h i e = absurd (lacks_head c y g i (sym (heads c y t (g ++ c ∷ u) e)))
@@ -45,6 +48,7 @@ first_number n = first_alone (number_text n) (lacks_number (nat_lt n 10) n)
 
 -- Words that are a command, and such as are none.
 
+-- a command line isn't empty
 pub some_line : (text : List ℕ) → refusal_of text ≡ None → text ≢ []
 some_line text h e = none_isnt (sym (ap refusal_of e) ∙ h)
   where
@@ -57,6 +61,7 @@ joined_words words word text e b n =
     whole words (not_alone words (λ same. n (sym b ∙ same)))
     ∙ ap (λ (w : List ℕ). w ++ 32 ∷ behind_word words) e ∙ ap (λ (l : List ℕ). word ++ 32 ∷ l) b
 
+-- a connection that carries commands, a blank and a command line are a command
 pub is_command : (words : List ℕ) (d : ℕ) (line : List ℕ) → first_word words ≡ number_text d → behind_word words ≡ line → 1 ≤ d → d < 62 → refusal_of line ≡ None → IsCommand words d line
 is_command words d line e b carries known good = record {
   carries = carries;
@@ -83,6 +88,7 @@ is_connection words d e known = record { number = d; known = known; word_is = e 
 pub no_last : (words : List ℕ) → length (first_word words) < length words → (n : ℕ) → n < 62 → words ≢ number_text n
 no_last words l n known e = shorter words l (ap first_word e ∙ first_number n ∙ sym e)
 
+-- and their fault is that the line doesn't end there
 pub last_fault : (words : List ℕ) (d : ℕ) → first_word words ≡ number_text d → d < 62 → length (first_word words) < length words → ConnectionFault words LineFault.End
 last_fault words d e known l = inr (is_connection words d e known, inl (shorter words l, refl))
 
@@ -90,6 +96,7 @@ last_fault words d e known l = inr (is_connection words d e known, inl (shorter 
 pub last_number : (words word : List ℕ) (d : ℕ) → word ≡ first_word words → word ≡ number_text d → length words ≤ length word → words ≡ number_text d
 last_number words word d first e l = sym (as_long words (let n = ap length first in omega (arith, l, n))) ∙ sym first ∙ e
 
+-- words whose first word is no connection are none
 pub no_first : (words : List ℕ) → ((n : ℕ) → n < 62 → first_word words ≢ number_text n) → (n : ℕ) → n < 62 → words ≢ number_text n
 no_first words unknown n known e = unknown n known (ap first_word e ∙ first_number n)
 
@@ -97,6 +104,7 @@ no_first words unknown n known e = unknown n known (ap first_word e ∙ first_nu
 pub no_carrier : (words : List ℕ) → ((n : ℕ) → 1 ≤ n → n < 62 → first_word words ≢ number_text n) → IsNoCommand words
 no_carrier words unknown d line c = unknown d c.carries c.known (command_parts words d line c).0
 
+-- and that is their fault
 pub carrier_fault : (words : List ℕ) → ((n : ℕ) → 1 ≤ n → n < 62 → first_word words ≢ number_text n) → CommandFault words LineFault.Carrier
 carrier_fault words unknown = inl (λ h. unknown h.number h.carries h.known h.word_is, refl)
 
@@ -104,6 +112,7 @@ carrier_fault words unknown = inl (λ h. unknown h.number h.carries h.known h.wo
 pub no_line : (words : List ℕ) → refusal_of (behind_word words) ≢ None → IsNoCommand words
 no_line words refused d line c = refused (ap refusal_of (command_parts words d line c).1 ∙ c.is_line)
 
+-- and behind a connection that is the fault
 pub line_fault : (words : List ℕ) (d : ℕ) → first_word words ≡ number_text d → 1 ≤ d → d < 62 → refusal_of (behind_word words) ≢ None → CommandFault words LineFault.Command
 line_fault words d e carries known refused =
     inr (record { number = d; carries = carries; known = known; word_is = e }, inl (refused, refl))

@@ -47,6 +47,7 @@ apart_at : (rule : Rule) (s : StandardLine) → can_meet (pattern_of rule) (stan
     → HaveLineInCommon (pattern_of rule) (standard_pattern s) → ⊥
 apart_at rule s none short common = none_in_common (pattern_of rule) (standard_pattern s) (rw (same_text rule) short) (standard_short s) none common
 
+-- the first of these lines that is of the rule; or, if its text is short, none is
 abbrev pub FindsIn : Rule → List StandardLine → Option StandardLine → Type 0
 FindsIn rule lines o = MatchOption o (length (text_of rule) ≤ 64 → AreApartFrom rule lines) (λ s. IsOfStandard rule lines s)
 
@@ -60,6 +61,7 @@ behind rule s rest (Some found) none finds = record {
   apart = λ short. (apart_at rule s none short, finds.apart short);
 }
 
+-- it is the first that the rule can meet
 pub finds_in : (rule : Rule) (lines : List StandardLine) → FindsIn rule lines (find (λ s. can_meet (pattern_of rule) (standard_pattern s)) lines)
 finds_in rule [] = λ short. tt
 finds_in rule (s ∷ rest) = by_first (can_meet (pattern_of rule) (standard_pattern s)) refl (finds_in rule rest)
@@ -78,6 +80,7 @@ pub record AreRead (rule : Rule) (text left : List ℕ) (place : ℕ) : Type 0 w
   pub counted : place ≡ length before
   pub apart : length (text_of rule) ≤ 64 → AreApart rule before
 
+-- no line is read yet
 pub read_none : (rule : Rule) (text : List ℕ) → AreRead rule text text 0
 read_none rule text = record { before = []; split = refl; counted = refl; apart = λ short. tt }
 
@@ -85,6 +88,7 @@ apart_more : (rule : Rule) (lines : List (List ℕ)) (line : List ℕ) → AreAp
 apart_more rule [] line all one = (one, tt)
 apart_more rule (first ∷ lines) line all one = (all.0, apart_more rule lines line all.1 one)
 
+-- one more line is read, which has no such rule
 pub read_on : (rule : Rule) (text left line rest : List ℕ) (place : ℕ) (h : AreRead rule text left place) → input_lines left ≡ line ∷ input_lines rest
     → (length (text_of rule) ≤ 64 → IsApart rule line) → AreRead rule text rest (place + 1)
 read_on rule text left line rest place h cut one = record {

@@ -18,12 +18,15 @@ use Rattle.ctl_text.specs.Input.{input_lines, is_at_end}
 abbrev Is : ℕ → List ℕ → ℕ → Type 0
 Is c xs k = Passes (is_byte c) xs k
 
+-- where no such octet is found, the text lacks it
 pub lacking : (c : ℕ) (xs : List ℕ) → IsFirst (Is c xs) 0 (length xs) None → LacksByte c xs
 lacking c xs h k l e = h k (omega arith) l (eq-eqb (slice_index xs k) c e)
 
+-- an empty text lacks any octet
 pub lacks_nil : (c : ℕ) → LacksByte c []
 lacks_nil c k l = absurd (omega (arith, l))
 
+-- one more octet, and another than this, leaves it lacking
 pub lacks_cons : (c x : ℕ) (xs : List ℕ) → x ≢ c → LacksByte c xs → LacksByte c (x ∷ xs)
 lacks_cons c x xs n h zero l = n
 lacks_cons c x xs n h (suc k) l = h k (omega (arith, l))
@@ -39,6 +42,7 @@ cut_first c (x ∷ xs) (suc k) l before e =
     let later = cut_first c xs k (omega (arith, l)) (λ j m. before (suc j) (omega (arith, m))) e in
     (lacks_cons c x (take k xs) (λ same. before 0 (omega arith) (eq-eqb x c same)) later.0, ap (λ (ys : List ℕ). x ∷ ys) later.1)
 
+-- the first that is found cuts the text
 pub cut_at : (c : ℕ) (xs : List ℕ) (k : ℕ) → IsFirst (Is c xs) 0 (length xs) (Some k) → IsCutAt c xs (take k xs) (take (length xs - (k + 1)) (drop (k + 1) xs))
 cut_at c xs k h =
     let all : take (length xs - (k + 1)) (drop (k + 1) xs) ≡ drop (k + 1) xs = take_all (length xs - (k + 1)) (drop (k + 1) xs) (rw length-drop (omega arith)) in
@@ -48,6 +52,7 @@ cut_at c xs k h =
 abbrev pub IsCutAtLast : ℕ → List ℕ → List ℕ → List ℕ → Type 0
 IsCutAtLast c xs front back = LacksByte c back × (xs ≡ front ++ c ∷ back)
 
+-- where none is found from the end, the text lacks it
 pub lacking_last : (c : ℕ) (xs : List ℕ) → IsLast (Is c xs) 0 (length xs) None → LacksByte c xs
 lacking_last c xs h k l e = h k (omega arith) l (eq-eqb (slice_index xs k) c e)
 
@@ -61,15 +66,18 @@ lacks_behind c [] k after = lacks_nil c
 lacks_behind c (x ∷ xs) zero after = λ j l e. after (suc j) (omega arith) (omega (arith, l)) (eq-eqb (slice_index xs j) c e)
 lacks_behind c (x ∷ xs) (suc k) after = lacks_behind c xs k (λ j low high is. after (suc j) (omega (arith, low)) (omega (arith, high)) is)
 
+-- the last that is found cuts the text there
 pub cut_last : (c : ℕ) (xs : List ℕ) (k : ℕ) → IsLast (Is c xs) 0 (length xs) (Some k) → IsCutAtLast c xs (take k xs) (take (length xs - (k + 1)) (drop (k + 1) xs))
 cut_last c xs k h =
     let all : take (length xs - (k + 1)) (drop (k + 1) xs) ≡ drop (k + 1) xs = take_all (length xs - (k + 1)) (drop (k + 1) xs) (rw length-drop (omega arith)) in
     let back : LacksByte c (drop (suc k) xs) = lacks_behind c xs k h.0.after in
     rw all (rw add-one (back, cut_there c xs k h.0.high h.1))
 
+-- the first octet of a text that lacks this one is another
 pub lacks_head : (c x : ℕ) (xs : List ℕ) → LacksByte c (x ∷ xs) → x ≢ c
 lacks_head c x xs h = h 0 (omega arith)
 
+-- and what stands behind it lacks this one too
 pub lacks_tail : (c x : ℕ) (xs : List ℕ) → LacksByte c (x ∷ xs) → LacksByte c xs
 lacks_tail c x xs h = λ k l. h (suc k) (omega (arith, l))
 
@@ -133,6 +141,7 @@ cut_line text line rest (Some x) whole h e n =
     let split : text ≡ x.now ++ 13 ∷ 10 ∷ rest = h.1 ∙ ap (λ (l : List ℕ). l ++ 10 ∷ rest) n ∙ append_assoc x.now (13 ∷ []) (10 ∷ rest) in
     rw split (stripped_line x.now rest (lacks_front 10 x.now (13 ∷ []) (subst (LacksByte 10) n h.0)))
 
+-- a text cut at its first LF, without a CR just before that, has this line first
 pub line_cut : (text line rest : List ℕ) (o : Option (Bor (List ℕ))) (whole shown : Bor (List ℕ)) → IsCutAt 10 text line rest → whole.now ≡ line → IsStripped line o → shown ≡ unwrap_or o whole → input_lines text ≡ shown.now ∷ input_lines rest
 line_cut text line rest o whole shown h e s u =
     rw u (cut_line text line rest o whole h e (strip_suffix_is Decides-eqb line (13 ∷ []) o s))

@@ -19,6 +19,7 @@ pub record IsMade (text left : List ℕ) (place : ℕ) (rules : Rules) : Type 0 
   pub made : AreLinesOf before rules
   pub small : place + length left ≤ length text
 
+-- no line is read yet
 pub made_none : (text : List ℕ) (rules : Rules) → rules ≡ no_rules → IsMade text text 0 rules
 made_none text rules e = rw e (record { before = []; split = refl; counted = refl; made = ends no_rules; small = omega arith })
 
@@ -54,6 +55,7 @@ pub made_add : (text left line rest : List ℕ) (place : ℕ) (rules later : Rul
 made_add text left line rest place rules later rule h cut less s n e =
     rw e (goes_on text left line rest place rules (with_rule rules rule) h cut less (makes_add no_rules rules h.before line rule h.made s n))
 
+-- nothing is left: the lines of the whole text make these rules
 pub made_all : (text left : List ℕ) (place : ℕ) (rules : Rules) → IsMade text left place rules → left ≡ [] → AreLinesOf (input_lines text) rules
 made_all text left place rules h e =
     let all : input_lines text ≡ h.before = h.split ∙ (ap (λ (l : List ℕ). h.before ++ input_lines l) e ∙ append-nil h.before) in
@@ -97,5 +99,6 @@ refused_there text left line rest place rules rule why r h cut s refused told =
         rw t.named (bad_line (HasClash t.found) text left line rest place rules h cut (record { rule = rule; says = s; refused = i; finds = subst (λ (l : List (List ℕ)). FindsClash rule l t.found) (before_is text left place rules h) t.finds }))
     by_reason DialectError.NoMemory i t b = rw t tt
 
+-- one more, and one less again, is the same number
 pub one_less : (n : ℕ) → (n + 1) - 1 ≡ n
 one_less n = omega arith

@@ -25,6 +25,7 @@ first_alone (c ∷ text) h =
     first_on (c == 32) c text refl (ne_eqb c 32 (lacks_head 32 c text h))
     ∙ ap (λ (l : List ℕ). c ∷ l) (first_alone text (lacks_tail 32 c text h))
 
+-- has nothing behind its first word
 pub behind_alone : (text : List ℕ) → LacksByte 32 text → behind_word text ≡ []
 behind_alone [] h = refl
 behind_alone (c ∷ text) h =
@@ -37,6 +38,7 @@ first_front (c ∷ word) rest h =
     first_on (c == 32) c (word ++ 32 ∷ rest) refl (ne_eqb c 32 (lacks_head 32 c word h))
     ∙ ap (λ (l : List ℕ). c ∷ l) (first_front word rest (lacks_tail 32 c word h))
 
+-- the rest stands behind the blank
 pub behind_front : (word rest : List ℕ) → LacksByte 32 word → behind_word (word ++ 32 ∷ rest) ≡ rest
 behind_front [] rest h = refl
 behind_front (c ∷ word) rest h =
@@ -82,6 +84,7 @@ pub as_long : (text : List ℕ) → length text ≤ length (first_word text) →
 as_long [] l = refl
 as_long (c ∷ text) l = long_at (c == 32) c text (as_long text) l
 
+-- a shorter one isn't
 pub shorter : (text : List ℕ) → length (first_word text) < length text → first_word text ≢ text
 shorter text l e = let n = ap length e in omega (arith, l, n)
 

@@ -8,6 +8,7 @@ use Rattle.ctl_text.specs.declared.line_fault.LineFault.{LineFault}
 abbrev pub HasOne : (LineFault → Type 0) → Type 0
 HasOne Has = (a b : LineFault) → Has a → Has b → a ≡ b
 
+-- a part, and what is wanted behind it, have one fault at most, if the latter has
 pub one_wanted : (Wanted : Type 0) (fault : LineFault) (Later : LineFault → Type 0) → HasOne Later → HasOne (Wants Wanted fault Later)
 one_wanted Wanted fault Later later a b (inl x) (inl y) = x.1 ∙ sym y.1
 one_wanted Wanted fault Later later a b (inl x) (inr y) = absurd (x.0 y.0)
@@ -17,11 +18,14 @@ one_wanted Wanted fault Later later a b (inr x) (inr y) = later a b x.1 y.1
 one_none : HasOne WantsNoMore
 one_none a b x y = absurd x
 
+-- so has the last part of a line
 pub one_last : (Wanted : Type 0) (fault : LineFault) → HasOne (Wants Wanted fault WantsNoMore)
 one_last Wanted fault = one_wanted Wanted fault WantsNoMore one_none
 
+-- a connection at the end of a line has one fault at most
 pub one_connection : (words : List ℕ) → HasOne (ConnectionFault words)
 one_connection words = one_wanted (IsConnection (first_word words)) LineFault.Connection _ (one_last (first_word words ≡ words) LineFault.End)
 
+-- and so has a command on a connection
 pub one_command : (words : List ℕ) → HasOne (CommandFault words)
 one_command words = one_wanted (IsCarrier (first_word words)) LineFault.Carrier _ (one_last _ LineFault.Command)

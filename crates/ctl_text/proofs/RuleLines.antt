@@ -58,6 +58,7 @@ final_no : (words : List ℕ) → HaveNoForm words → SaysNoRule (codes "final 
 final_no words h (FinalRule form text) s = h form text (ap (drop 6) s)
 final_no words h (UrcRule form text name) s = absurd (let e = ap head_of s.0 in omega (arith, e))
 
+-- behind `final` they say no rule, for want of a form
 pub no_final : (words : List ℕ) → HaveNoForm words → SaysNone part.Form (codes "final " ++ words)
 no_final words h = record { says = final_no words h; lacks = record { word = codes "final "; is_word = inl refl; rest = words; split = refl; none = h } }
 
@@ -65,6 +66,7 @@ unsolicited_no : (words : List ℕ) → HaveNoForm words → SaysNoRule (codes "
 unsolicited_no words h (FinalRule form text) s = absurd (let e = ap head_of s in omega (arith, e))
 unsolicited_no words h (UrcRule form text name) s = h form (text ++ 32 ∷ name) (ap (drop 12) s.0)
 
+-- nor behind `unsolicited`
 pub no_unsolicited : (words : List ℕ) → HaveNoForm words → SaysNone part.Form (codes "unsolicited " ++ words)
 no_unsolicited words h = record { says = unsolicited_no words h; lacks = record { word = codes "unsolicited "; is_word = inr refl; rest = words; split = refl; none = h } }
 
@@ -81,9 +83,11 @@ no_name words form rest w h = record {
   lacks = record { form = form; rest = rest; split = ap (λ (x : List ℕ). codes "unsolicited " ++ x) w; none = h };
 }
 
+-- behind `final` a form and a text are a rule
 pub is_final : (words text : List ℕ) (form : Form) → words ≡ form_text form ++ 32 ∷ text → SaysRule (codes "final " ++ words) (FinalRule form text)
 is_final words text form e = ap (λ (w : List ℕ). codes "final " ++ w) e
 
+-- behind `unsolicited` a form, a text and a name without blanks are one
 pub is_unsolicited : (words rest text name : List ℕ) (form : Form) → words ≡ form_text form ++ 32 ∷ rest → LacksByte 32 name → rest ≡ text ++ 32 ∷ name → SaysRule (codes "unsolicited " ++ words) (UrcRule form text name)
 is_unsolicited words rest text name form e lacks f =
     (ap (λ (w : List ℕ). codes "unsolicited " ++ w) e ∙ ap (λ (r : List ℕ). codes "unsolicited " ++ form_text form ++ 32 ∷ r) f, lacks)

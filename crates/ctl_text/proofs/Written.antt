@@ -11,10 +11,12 @@ pub record IsLeft (before after : Option (List ℕ)) (octets left : List ℕ) : 
   pub split : octets ≡ part ++ left
   pub appended : Appends before after part
 
+-- nothing is appended
 pub appends_none : (a : Option (List ℕ)) → Appends a a []
 appends_none None = tt
 appends_none (Some x) = sym (append-nil x)
 
+-- some octets are appended, and then others
 pub appends_more : (a b c : Option (List ℕ)) (xs ys : List ℕ) → Appends a b xs → Appends b c ys → Appends a c (xs ++ ys)
 appends_more None b c xs ys p q = tt
 appends_more (Some x) None c xs ys p q = absurd p
@@ -27,9 +29,11 @@ appends_kept (Some x) None c xs p q = absurd p
 appends_kept (Some x) (Some y) None xs p q = absurd q
 appends_kept (Some x) (Some y) (Some z) xs p q = q ∙ p
 
+-- all are left
 pub left_all : (a : Option (List ℕ)) (octets : List ℕ) → IsLeft a a octets octets
 left_all a octets = record { part = []; split = refl; appended = appends_none a }
 
+-- the writer took some of those left
 pub left_less : (a b c : Option (List ℕ)) (octets left later : List ℕ) (count : ℕ) → IsLeft a b octets left → Appends b c (take count left) → later ≡ drop count left → IsLeft a c octets later
 left_less a b c octets left later count h p e = record {
   part = h.part ++ take count left;
@@ -37,9 +41,11 @@ left_less a b c octets left later count h p e = record {
   appended = appends_more a b c h.part (take count left) h.appended p;
 }
 
+-- it took none
 pub left_same : (a b c : Option (List ℕ)) (octets left : List ℕ) → IsLeft a b octets left → Keeps b c → IsLeft a c octets left
 left_same a b c octets left h k = record { part = h.part; split = h.split; appended = appends_kept a b c h.part h.appended k }
 
+-- what it took is a beginning
 pub begun_left : (a b : Option (List ℕ)) (octets left : List ℕ) → IsLeft a b octets left → IsBegun a b octets
 begun_left a b octets left h = record { part = h.part; left = left; split = h.split; appended = h.appended }
 
@@ -47,6 +53,7 @@ none_left : (xs : List ℕ) → length xs ≡ 0 → xs ≡ []
 none_left [] e = refl
 none_left (x ∷ xs) e = cc
 
+-- where none are left, it took them all
 pub whole_left : (a b : Option (List ℕ)) (octets left : List ℕ) → IsLeft a b octets left → length left ≡ 0 → Appends a b octets
 whole_left a b octets left h none =
     subst (λ (l : List ℕ). Appends a b l) (sym (h.split ∙ ap (λ (l : List ℕ). h.part ++ l) (none_left left none) ∙ append-nil h.part)) h.appended
@@ -73,5 +80,6 @@ begun_first a b first second h = record {
 pub begun_kept : (a b c : Option (List ℕ)) (octets : List ℕ) → IsBegun a b octets → Keeps b c → IsBegun a c octets
 begun_kept a b c octets h k = record { part = h.part; left = h.left; split = h.split; appended = appends_kept a b c h.part h.appended k }
 
+-- or, if it had taken all, has all still
 pub whole_kept : (a b c : Option (List ℕ)) (octets : List ℕ) → Appends a b octets → Keeps b c → Appends a c octets
 whole_kept a b c octets p k = appends_kept a b c octets p k

@@ -12,6 +12,7 @@ use Rattle.data_files.specs.Files.{BeginsFiled, FileFits, FileState, HasMoved, I
 use Rattle.data_files.specs.Moves.{HasBegunTo}
 use Rattle.data_files.proofs.FileSteps.{lane_leads}
 
+-- no lane began yet
 pub begins_none : {X Y : Type 0} (r s : X → List ℕ) (files : List (FileState Y)) (v : DataLineState X) → HasBegunTo r s (take 0 files) v v
 begins_none r s files v = record { leads = λ role n1 ds b past h. h; same = refl }
 
@@ -20,6 +21,7 @@ begun_one : {Y : Type 0} (files : List (FileState Y)) (f : FileState Y) (past : 
 begun_one [] f past = refl
 begun_one (g ∷ files) f past = begun_one files f (Passed (Began g.dlci g.how g.until) ∷ past)
 
+-- the next file's lane begins
 pub begins_more : {X Y : Type 0} (r s : X → List ℕ) (files : List (FileState Y)) (i : ℕ) (f : FileState Y) (u v w : DataLineState X)
     → i < length files → HasBegunTo r s (take i files) u v
     → Hops v.relay w.relay (Passed (Began (slice_index_or files i f).dlci (slice_index_or files i f).how (slice_index_or files i f).until)) → w ≡ record v { relay = w.relay }
@@ -91,6 +93,7 @@ began_role : (role : Role) (n1 : ℕ) (ds : List ℕ) (relay : Relay) → Begins
 unfolding BeginsAs
 began_role role n1 ds relay h = sym h.pipes_fit.role_is
 
+-- all of them began: so a line with files begins
 pub begins_filed : {X Y : Type 0} (r s : X → List ℕ) (line : X) (relay : Relay) (role : Role) (n1 : ℕ) (files : List (FileState Y)) (x : DataLineState X) (b : Before)
     → BeginsAs role n1 (dlcis files) relay → HasBegunTo r s files (new_data_line line relay) x → b ≡ before_of r s line
     → BeginsFiled r s line relay n1 files (record { line = x; files = files; role = role; n1 = n1; before = b })
@@ -104,6 +107,7 @@ begins_filed r s line relay role n1 files x b begins h e = record {
       (h.leads role n1 (dlcis files) (before_of r s line) [] (first_fits r s role n1 (dlcis files) line relay begins));
 }
 
+-- and nothing has moved yet between its connections and its files
 pub has_begun : {X Y : Type 0} (r s : X → List ℕ) (g t : Y → List ℕ) (line : X) (relay : Relay) (role : Role) (n1 : ℕ) (files : List (FileState Y)) (x : DataLineState X) (b : Before)
     → BeginsAs role n1 (dlcis files) relay → HasBegunTo r s files (new_data_line line relay) x → b ≡ before_of r s line → All (IsFresh g t) files
     → HasMoved r s g t (record { line = x; files = files; role = role; n1 = n1; before = b })

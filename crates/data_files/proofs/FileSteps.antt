@@ -15,6 +15,7 @@ use Rattle.data_files.specs.Files.{FileFits, FileState, all_given, all_read}
 use Rattle.data_files.specs.Moves.{FileMoves, GaveFirst, is_of_file}
 use Rattle.data_files.proofs.Hopping.{all_both}
 
+-- a connection compares equal to itself
 pub same_dlci : (d : ℕ) → (d == d) ≡ true
 same_dlci d = eq-eqb d d refl
 
@@ -32,13 +33,16 @@ lane_leads r s v w a hops e role n1 ds b past h = subst (λ (x : DataLineState _
 
 -- ## One behind the other
 
+-- nothing moves
 pub moves_none : {X Y : Type 0} (r s : X → List ℕ) (g t : Y → List ℕ) (v : DataLineState X) (f : FileState Y) → FileMoves r s g t v v f f
 moves_none r s g t v f = record { hops = []; only = refl; leads = λ role n1 ds b past h. h; dlci_is = refl; fits = λ role n1 ds b past x h. h }
 
+-- only the file changes, and still fits each past that it fitted
 pub moves_file : {X Y : Type 0} (r s : X → List ℕ) (g t : Y → List ℕ) (v : DataLineState X) (f h : FileState Y) → h.dlci ≡ f.dlci
     → ((past : List Pass) → FileFits g t past f → FileFits g t past h) → FileMoves r s g t v v f h
 moves_file r s g t v f h e fits = record { hops = []; only = refl; leads = λ role n1 ds b past k. k; dlci_is = e; fits = λ role n1 ds b past k x. fits (passes past) x }
 
+-- what moves by two steps moves by both together
 pub moves_then : {X Y : Type 0} (r s : X → List ℕ) (g t : Y → List ℕ) (u v w : DataLineState X) (f h k : FileState Y)
     → FileMoves r s g t u v f h → FileMoves r s g t v w h k → FileMoves r s g t u w f k
 moves_then r s g t u v w f h k one two = record {
@@ -61,6 +65,7 @@ gave_fits g t f octets rest split past h = record {
   dropped_are = h.dropped_are;
 }
 
+-- the connection was given the first of the octets that waited
 pub gives : {X Y : Type 0} (r s : X → List ℕ) (g t : Y → List ℕ) (v w : DataLineState X) (f : FileState Y) (rest : List ℕ)
     → GaveFirst v.relay w.relay f.dlci f.ungiven rest → w ≡ record v { relay = w.relay } → FileMoves r s g t v w f (record f { ungiven = rest })
 gives r s g t v w f rest h beside = record {
@@ -95,6 +100,7 @@ read_fits g t f octets over none past h = record {
   dropped_are = h.dropped_are;
 }
 
+-- what was read there waits for the file, for which nothing waited
 pub takes : {X Y : Type 0} (r s : X → List ℕ) (g t : Y → List ℕ) (v w : DataLineState X) (f h : FileState Y)
     → f.unwritten ≡ [] → Hops v.relay w.relay (Passed (Read f.dlci h.unwritten)) → w ≡ record v { relay = w.relay }
     → h ≡ record f { unwritten = h.unwritten; is_over = h.is_over } → FileMoves r s g t v w f h
@@ -113,6 +119,7 @@ takes_none r s g t v w f rest e q = moves_same r s g t v w f (record f { unwritt
 
 -- ## The file itself
 
+-- the file gave octets, where none of its waited, and they wait to be given
 pub came_of_file : {Y : Type 0} (g t : Y → List ℕ) (f h : FileState Y) → f.ungiven ≡ [] → g h.file ≡ g f.file ++ h.ungiven → t h.file ≡ t f.file
     → h ≡ record f { file = h.file; ungiven = h.ungiven; has_ended = h.has_ended } → (past : List Pass) → FileFits g t past f → FileFits g t past h
 came_of_file g t f h none came went e past x = subst (λ (y : FileState _). FileFits g t past y) (sym e) (record {
@@ -125,6 +132,7 @@ came_of_file g t f h none came went e past x = subst (λ (y : FileState _). File
   dropped_are = x.dropped_are;
 })
 
+-- the file took the first of those that waited for it, and the others wait
 pub went_to_file : {Y : Type 0} (g t : Y → List ℕ) (f h : FileState Y) → g h.file ≡ g f.file → t h.file ++ h.unwritten ≡ t f.file ++ f.unwritten
     → h ≡ record f { file = h.file; unwritten = h.unwritten; is_broken = h.is_broken } → (past : List Pass) → FileFits g t past f → FileFits g t past h
 went_to_file g t f h came split e past x = subst (λ (y : FileState _). FileFits g t past y) (sym e) (record {

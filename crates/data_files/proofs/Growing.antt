@@ -22,12 +22,15 @@ kept_if : (b : Bool) (e0 e1 : ℕ) → e1 ≡ (if b then one_more e0 else e0) �
 kept_if true e0 e1 q = omega (arith, q)
 kept_if false e0 e1 q = omega (arith, q)
 
+-- a count of calls that moved nothing doesn't fall by one more call
 pub kept_counted : (could n e0 e1 : ℕ) → e1 ≡ counted_if_none could n e0 → IsKept e0 e1
 kept_counted could n e0 e1 q = kept_if (nat_lt 0 could && (n == 0)) e0 e1 q
 
+-- nor by none
 pub kept_same : (e0 e1 : ℕ) → e1 ≡ e0 → IsKept e0 e1
 kept_same e0 e1 q = omega (arith, q)
 
+-- a call that could move octets and moved none is counted
 pub none_stalled : (could n e0 e1 : ℕ) → e1 ≡ counted_if_none could n e0 → n ≡ 0 → 0 < could → one_more e0 ≤ e1
 none_stalled could n e0 e1 e none some =
     let rises : e1 ≡ one_more e0 = e ∙ (ap (λ (k : ℕ). counted_if_none could k e0) none ∙ ap (λ (b : Bool). if b && (0 == 0) then one_more e0 else e0) (lt-ltb 0 could some)) in
@@ -39,6 +42,7 @@ kept_read e0 e1 (Err why) empty same = kept_same e0 e1 same
 
 -- ## One step
 
+-- nothing happened to the file
 pub grows_none : {Y : Type 0} (g t : Y → List ℕ) (e s : Y → ℕ) (f : FileState Y) → FileGrows g t e s f f
 grows_none g t e s f = record {
   came = omega arith;
@@ -140,6 +144,7 @@ write_grows g t e s f h r came empty split rest same stalled broken is =
 
 -- ## One behind the other
 
+-- a file that goes on twice goes on
 pub grows_then : {Y : Type 0} (g t : Y → List ℕ) (e s : Y → ℕ) (f h k : FileState Y) → FileGrows g t e s f h → FileGrows g t e s h k → FileGrows g t e s f k
 grows_then g t e s f h k one two = record {
   came = let a = one.came in let b = two.came in omega (arith, a, b);
@@ -155,9 +160,11 @@ grows_then g t e s f h k one two = record {
 
 -- ## What waits to be read stays where octets are given
 
+-- the line is the same
 pub unread_same : {X : Type 0} (r s : X → List ℕ) (v w : DataLineState X) (d : ℕ) → w ≡ v → KeepsUnread r s v w d
 unread_same r s v w d e = λ role n1 ds b past h. record { behind = past; fits = subst (λ (x : DataLineState _). LineFits r s role n1 ds b x past) (sym e) h; same = refl }
 
+-- octets were given on d
 pub unread_given : {X : Type 0} (r s : X → List ℕ) (v w : DataLineState X) (d : ℕ) (before after : List ℕ) → GaveFirst v.relay w.relay d before after
     → w ≡ record v { relay = w.relay } → KeepsUnread r s v w d
 unread_given r s v w d before after h e = λ role n1 ds b past x. record {
@@ -166,6 +173,7 @@ unread_given r s v w d before after h e = λ role n1 ds b past x. record {
   same = refl;
 }
 
+-- or the call that gives them was refused
 pub unread_or : {X : Type 0} (r s : X → List ℕ) (v w : DataLineState X) (d : ℕ) (before after : List ℕ) (result : Result ℕ DataError)
     → OnOk result (GaveFirst v.relay w.relay d before after) → OnErr result ((w ≡ v) × (after ≡ before)) → w ≡ record v { relay = w.relay } → KeepsUnread r s v w d
 unread_or r s v w d before after (Ok n) gave err beside = unread_given r s v w d before after gave beside
@@ -198,11 +206,13 @@ read_some r s role n1 ds b v past d octets fits among some (inr count) =
     let long = count role n1 ds (passes past) fits.relay_fits.pipes_fit in
     omega (arith, long, some)
 
+-- a file that was asked, and went on, was asked
 pub asked_later : {Y : Type 0} (g t : Y → List ℕ) (e s : Y → ℕ) (f h k : FileState Y) → IsAskedFile g e f h → FileGrows g t e s h k → IsAskedFile g e f k
 asked_later g t e s f h k (inl x) on = inl (on.ended x)
 asked_later g t e s f h k (inr (inl x)) on = inr (inl (let more = on.came in omega (arith, x, more)))
 asked_later g t e s f h k (inr (inr x)) on = inr (inr (let more = on.empty in omega (arith, x, more)))
 
+-- one that was offered octets, and went on, was offered them
 pub offered_later : {Y : Type 0} (g t : Y → List ℕ) (e s : Y → ℕ) (f h k : FileState Y) → IsOfferedFile t s f h → FileGrows g t e s h k → IsOfferedFile t s f k
 offered_later g t e s f h k (inl x) on = inl (on.broken x)
 offered_later g t e s f h k (inr (inl x)) on = inr (inl (let more = on.went in omega (arith, x, more)))
@@ -248,6 +258,7 @@ pub record Turned {X Y : Type 0} (r s : X → List ℕ) (g t : Y → List ℕ) (
   pub offered : f.unwritten ≢ [] → IsOfferedFile t k f h
   pub grows : FileGrows g t e k f h
 
+-- these steps are a turn in which no lane began
 pub had_turn : {X Y : Type 0} (r s : X → List ℕ) (g t : Y → List ℕ) (e k : Y → ℕ) (u v : DataLineState X) (f a b c h : FileState Y)
     → Steps r s g t e k u v f a b c h → (role : Role) (n1 : ℕ) (ds : List ℕ) (p : Before) → (NoneOf ds f.dlci → ⊥) → Turned r s g t e k role n1 ds p u f h
 had_turn r s g t e k u v f a b c h x role n1 ds p among = record {

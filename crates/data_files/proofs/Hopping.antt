@@ -12,20 +12,24 @@ use Rattle.modem_data_line.specs.DataLines.{is_of_driver, may_go, may_pass}
 use Rattle.data_files.specs.Files.{FileFits, FileState, all_given, all_read, lanes_begun, unsent_before}
 use Rattle.data_files.specs.Moves.{is_of_file}
 
+-- hops that are all of a kind, and more such, are all of it
 pub all_both : (p : Hop → Bool) (xs ys : List Hop) → list_all p xs ≡ true → list_all p ys ≡ true → list_all p (xs ++ ys) ≡ true
 all_both p xs ys a b = list_all-append p xs ys ∙ and_from (list_all p xs) (list_all p ys) a b
 
+-- and all of any kind that is wider
 pub all_kind : (p q : Hop → Bool) (xs : List Hop) → ((a : Hop) → p a ≡ true → q a ≡ true) → list_all p xs ≡ true → list_all q xs ≡ true
 all_kind p q [] on e = refl
 all_kind p q (a ∷ xs) on e =
     let both = and_parts (p a) (list_all p xs) e in
     and_from (q a) (list_all q xs) (on a both.0) (all_kind p q xs on both.1)
 
+-- what passes by some hops, and by those before, passes by all
 pub passes_both : (xs ys : List Hop) → passes (xs ++ ys) ≡ passes xs ++ passes ys
 passes_both xs ys = filter_map-append pass_of xs ys
 
 -- ## Kinds
 
+-- what may go out may pass
 pub goes_passes : (behind : Bool) (a : Hop) → may_go behind a ≡ true → may_pass false a ≡ true
 goes_passes true (Passed (Flowed f)) e = cc
 goes_passes true (Passed (Left f)) e = cc
@@ -54,6 +58,7 @@ goes_passes false (Handed o) e = refl
 goes_passes false (Took o) e = cc
 goes_passes false (Wrote o) e = refl
 
+-- what may pass while the driver is behind may pass when it isn't
 pub any_passes : (behind : Bool) (a : Hop) → may_pass behind a ≡ true → may_pass false a ≡ true
 any_passes behind (Fed o) e = refl
 any_passes behind (Handed o) e = refl
@@ -69,6 +74,7 @@ any_passes behind (Passed (Read d o)) e = goes_passes behind (Passed (Read d o))
 any_passes behind (Took o) e = goes_passes behind (Took o) e
 any_passes behind (Wrote o) e = goes_passes behind (Wrote o) e
 
+-- and so may what is of the driver
 pub driver_passes : (a : Hop) → is_of_driver a ≡ true → may_pass false a ≡ true
 driver_passes a e = goes_passes true a e
 
@@ -81,6 +87,7 @@ is_beside d (Passed (Read e octets)) = if e == d then false else true
 is_beside d (Passed (Began e how until)) = if e == d then false else true
 is_beside d a = true
 
+-- what may pass gives and reads nothing on d, and begins no lane there
 pub passes_beside : (d : ℕ) (a : Hop) → may_pass false a ≡ true → is_beside d a ≡ true
 passes_beside d (Passed (Came f)) e = refl
 passes_beside d (Passed (Went f)) e = refl
@@ -145,6 +152,7 @@ given_stays d (Handed o ∷ hops) past e = given_stays d hops past e
 given_stays d (Took o ∷ hops) past e = given_stays d hops past e
 given_stays d (Wrote o ∷ hops) past e = given_stays d hops past e
 
+-- and what was read of the lane that began last
 pub read_stays : (d : ℕ) (hops : List Hop) (past : List Pass) → list_all (is_beside d) hops ≡ true → data_read d (passes hops ++ past) ≡ data_read d past
 read_stays d [] past e = refl
 read_stays d (Passed (Read c o) ∷ hops) past e =
@@ -166,6 +174,7 @@ read_stays d (Handed o ∷ hops) past e = read_stays d hops past e
 read_stays d (Took o ∷ hops) past e = read_stays d hops past e
 read_stays d (Wrote o ∷ hops) past e = read_stays d hops past e
 
+-- and what was given to all its lanes
 pub all_given_stays : (d : ℕ) (hops : List Hop) (past : List Pass) → list_all (is_beside d) hops ≡ true → all_given d (passes hops ++ past) ≡ all_given d past
 all_given_stays d [] past e = refl
 all_given_stays d (Passed (Gave c o) ∷ hops) past e =
@@ -186,6 +195,7 @@ all_given_stays d (Handed o ∷ hops) past e = all_given_stays d hops past e
 all_given_stays d (Took o ∷ hops) past e = all_given_stays d hops past e
 all_given_stays d (Wrote o ∷ hops) past e = all_given_stays d hops past e
 
+-- and what was read of them all
 pub all_read_stays : (d : ℕ) (hops : List Hop) (past : List Pass) → list_all (is_beside d) hops ≡ true → all_read d (passes hops ++ past) ≡ all_read d past
 all_read_stays d [] past e = refl
 all_read_stays d (Passed (Gave c o) ∷ hops) past e =
@@ -206,6 +216,7 @@ all_read_stays d (Handed o ∷ hops) past e = all_read_stays d hops past e
 all_read_stays d (Took o ∷ hops) past e = all_read_stays d hops past e
 all_read_stays d (Wrote o ∷ hops) past e = all_read_stays d hops past e
 
+-- and how many lanes began
 pub lanes_stay : (d : ℕ) (hops : List Hop) (past : List Pass) → list_all (is_beside d) hops ≡ true → lanes_begun d (passes hops ++ past) ≡ lanes_begun d past
 lanes_stay d [] past e = refl
 lanes_stay d (Passed (Gave c o) ∷ hops) past e =
@@ -226,6 +237,7 @@ lanes_stay d (Handed o ∷ hops) past e = lanes_stay d hops past e
 lanes_stay d (Took o ∷ hops) past e = lanes_stay d hops past e
 lanes_stay d (Wrote o ∷ hops) past e = lanes_stay d hops past e
 
+-- and how many octets its lanes didn't send
 pub unsent_stays : (d : ℕ) (hops : List Hop) (past : List Pass) → list_all (is_beside d) hops ≡ true → unsent_before d (passes hops ++ past) ≡ unsent_before d past
 unsent_stays d [] past e = refl
 unsent_stays d (Passed (Gave c o) ∷ hops) past e =
@@ -256,6 +268,7 @@ fits_beside gave took f hops past e h = record {
   dropped_are = h.dropped_are ∙ ap (λ (n : ℕ). min n (2 ^ 64 - 1)) (sym (unsent_stays f.dlci hops past e));
 }
 
+-- so does any file beside hops that may pass
 pub fits_passing : {Y : Type 0} (gave took : Y → List ℕ) (f : FileState Y) (hops : List Hop) (past : List Pass) → list_all (may_pass false) hops ≡ true
     → FileFits gave took past f → FileFits gave took (passes hops ++ past) f
 fits_passing gave took f hops past e h =
@@ -272,9 +285,11 @@ pub record IsBeside (role : Role) (d : ℕ) (past behind : List Pass) : Type 0 w
   pub came_is : data_came role d behind ≡ data_came role d past
   pub read_is : data_read d behind ≡ data_read d past
 
+-- without a hop it is as it was
 pub beside_none : (role : Role) (d : ℕ) (past : List Pass) → IsBeside role d past past
 beside_none role d past = record { carries_is = refl; wire_is = refl; to_go_is = refl; unread_is = refl; came_is = refl; read_is = refl }
 
+-- and so it is behind some hops, and then others
 pub beside_then : (role : Role) (d : ℕ) (first past behind : List Pass) → IsBeside role d first past → IsBeside role d past behind → IsBeside role d first behind
 beside_then role d first past behind one two = record {
   carries_is = two.carries_is ∙ one.carries_is;
@@ -321,6 +336,7 @@ quiet role c d apart (Handed o ∷ hops) past e = cc
 quiet role c d apart (Took o ∷ hops) past e = cc
 quiet role c d apart (Wrote o ∷ hops) past e = cc
 
+-- and behind those of another connection's file
 pub beside_file : (role : Role) (c d : ℕ) → (c == d) ≡ false → (hops : List Hop) (past : List Pass) → list_all (is_of_file c) hops ≡ true → IsBeside role d past (passes hops ++ past)
 beside_file role c d apart hops past e =
     let x = quiet role c d apart hops past e in

@@ -33,11 +33,13 @@ by_hops r s g t v x hops beside leads h = record {
 passing : (hops : List Hop) → list_all (may_pass false) hops ≡ true → (d : ℕ) → list_all (is_beside d) hops ≡ true
 passing hops e d = all_kind (may_pass false) (is_beside d) hops (passes_beside d) e
 
+-- where octets and frames pass the line, and no lane is called, all its files still fit
 pub line_passes : {X Y : Type 0} (r s : X → List ℕ) (g t : Y → List ℕ) (v : FiledState X Y) (x : DataLineState X) (behind : Bool)
     → LeadsBy r s (may_pass behind) v.line x → HasMoved r s g t v → HasMoved r s g t (record v { line = x })
 line_passes r s g t v x behind l h =
     by_hops r s g t v x l.hops (passing l.hops (all_kind (may_pass behind) (may_pass false) l.hops (any_passes behind) l.only)) (l.leads v.role v.n1 (dlcis v.files) v.before) h
 
+-- so they do where octets and frames go out
 pub line_goes : {X Y : Type 0} (r s : X → List ℕ) (g t : Y → List ℕ) (v : FiledState X Y) (x : DataLineState X) (behind : Bool)
     → LeadsBy r s (may_go behind) v.line x → HasMoved r s g t v → HasMoved r s g t (record v { line = x })
 line_goes r s g t v x behind l h =
@@ -52,6 +54,7 @@ taken_beside : (octets : List ℕ) (before : List Hop) (d : ℕ) → list_all (i
 taken_beside [] before d e = e
 taken_beside (o ∷ octets) before d e = e
 
+-- and where octets of the driver's are taken
 pub line_takes : {X Y : Type 0} (r s : X → List ℕ) (g t : Y → List ℕ) (v : FiledState X Y) (x : DataLineState X) (octets : List ℕ)
     → TakesBy r s octets v.line x → HasMoved r s g t v → HasMoved r s g t (record v { line = x })
 line_takes r s g t v x octets l h =
@@ -87,17 +90,21 @@ line_writes r s g t v x octets calls failures (Err why) P takes call h = line_co
 
 -- ## One file
 
+-- a file in the place of one on its own connection leaves the connections as they are
 pub set_dlcis : {Y : Type 0} (files : List (FileState Y)) (i : ℕ) (f : FileState Y) → f.dlci ≡ (slice_index_or files i f).dlci → dlcis (slice_set files i f) ≡ dlcis files
 set_dlcis [] i f e = refl
 set_dlcis (g ∷ files) zero f e = ap (λ (d : ℕ). d ∷ dlcis files) e
 set_dlcis (g ∷ files) (suc i) f e = ap (λ (ds : List ℕ). g.dlci ∷ ds) (set_dlcis files i f e)
 
+-- the connection at a place is that of the file there
 pub dlci_at : {Y : Type 0} (files : List (FileState Y)) (j : ℕ) (f : FileState Y) (x : ℕ) → j < length files → slice_index_or (dlcis files) j x ≡ (slice_index_or files j f).dlci
 dlci_at files j f x there = get_or-map (λ (g : FileState _). g.dlci) files j f x there
 
+-- the place of a file is that of a connection
 pub in_there : {Y : Type 0} (files : List (FileState Y)) (j : ℕ) → j < length files → j < length (dlcis files)
 in_there files j there = subst (λ (n : ℕ). j < n) (sym (length-map files (λ (f : FileState _). f.dlci))) there
 
+-- two files at different places have different connections
 pub apart_at : {Y : Type 0} (files : List (FileState Y)) (i j : ℕ) (f : FileState Y) → AreApart (dlcis files) → i < length files → j < length files → j ≢ i
     → ((slice_index_or files i f).dlci == (slice_index_or files j f).dlci) ≡ false
 unfolding AreApart
@@ -125,6 +132,7 @@ each_on r s g t files v w i f role n1 b past fits there m each =
         (subst (λ (ps : List Pass). FileFits g t ps here) (sym (passes_both m.hops past)) (fits_beside g t here m.hops (passes past) (all_kind (is_of_file (slice_index_or files i f).dlci) (is_beside here.dlci) m.hops
         (of_file_beside (slice_index_or files i f).dlci here.dlci apart_here) m.only) (All-get_or (FileFits g t (passes past)) files j f short each)))
 
+-- the file at a place moves with the line, and all files fit
 pub moves_at : {X Y : Type 0} (r s : X → List ℕ) (g t : Y → List ℕ) (v : FiledState X Y) (x : DataLineState X) (i : ℕ) (f : FileState Y)
     → i < length v.files → FileMoves r s g t v.line x (slice_index_or v.files i f) f → HasMoved r s g t v
     → HasMoved r s g t (record v { line = x; files = slice_set v.files i f })

@@ -76,6 +76,7 @@ renew_fits g t f kept past e y = record {
   dropped_are = rw (same_dlci f.dlci) (let before = y.dropped_are in omega (arith, before, e));
 }
 
+-- it begins, and the file goes along
 pub renew_moves : {X Y : Type 0} (r s : X → List ℕ) (g t : Y → List ℕ) (v w : DataLineState X) (f h : FileState Y) → Renews v w f h → FileMoves r s g t v w f h
 renew_moves r s g t v w f h x = record {
   hops = Passed (Began f.dlci f.how f.until) ∷ [];
@@ -138,6 +139,7 @@ turn_stayed r s g t e k role n1 ds p v f m stays among turn = record {
   grows = turn.grows;
 }
 
+-- a turn before which the lane began, if it was over and to begin anew, is the file's turn
 pub turn_or : {X Y : Type 0} (r s : X → List ℕ) (g t : Y → List ℕ) (e k : Y → ℕ) (role : Role) (n1 : ℕ) (ds : List ℕ) (p : Before) (v w : DataLineState X) (f h m : FileState Y) (began : Bool)
     → (began ≡ true → Renews v w f h) → (began ≡ false → w ≡ v) → (began ≡ false → h ≡ f) → (began ≡ false → StaysOver f.renews v.relay.pipes f.dlci) → (NoneOf ds f.dlci → ⊥)
     → Turned r s g t e k role n1 ds p w h m → HadTurn r s g t e k role n1 ds p v f m

@@ -95,6 +95,7 @@ pub record TurnsSoFar {X Y : Type 0} (r s : X → List ℕ) (g t : Y → List �
   pub reaches : (i : ℕ) (f : FileState Y) → n ≤ i → i < length u.files → (past : List Hop) → LineFits r s u.role u.n1 (dlcis u.files) u.before u.line past
       → Reached r s u.role u.n1 (dlcis u.files) u.before v.line (slice_index_or u.files i f).dlci past
 
+-- no file had its turn yet
 pub turns_none : {X Y : Type 0} (r s : X → List ℕ) (g t : Y → List ℕ) (e k : Y → ℕ) (u : FiledState X Y) → TurnsSoFar r s g t e k 0 u u
 turns_none r s g t e k u = record {
   long = refl;
@@ -107,6 +108,7 @@ turns_none r s g t e k u = record {
   reaches = λ i f most there past fits. record { behind = past; fits = fits; beside = beside_none u.role (slice_index_or u.files i f).dlci (passes past) };
 }
 
+-- the next one has its turn
 pub turns_more : {X Y : Type 0} (r s : X → List ℕ) (g t : Y → List ℕ) (e k : Y → ℕ) (n : ℕ) (u v w : FiledState X Y) → TurnsSoFar r s g t e k n u v
     → n < length v.files → MovesAt r s g t e k n v w → w ≡ record v { line = w.line; files = w.files } → length w.files ≡ length v.files
     → TurnsSoFar r s g t e k (n + 1) u w
@@ -161,6 +163,7 @@ turns_more r s g t e k n u v w h short m same long = record {
         subst (λ (x : FileState _). HadTurn r s g t e k u.role u.n1 (dlcis u.files) u.before u.line (slice_index_or u.files i f) x)
         (sym (get_or-set_other v.files n i m.file f other)) (h.came i f (omega (arith, few, other)) there)
 
+-- when the first so many are all, each file of the line had its turn
 pub turns_all : {X Y : Type 0} (r s : X → List ℕ) (g t : Y → List ℕ) (e k : Y → ℕ) (n : ℕ) (u v : FiledState X Y) → TurnsSoFar r s g t e k n u v
     → length v.files ≤ n → HadTurns r s g t e k u v.files
 turns_all r s g t e k n u v h most = record {

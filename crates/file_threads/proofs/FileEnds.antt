@@ -10,29 +10,36 @@ use Rattle.data_files.specs.Moves.{IsUnsent}
 use Rattle.file_threads.specs.FileEnds.{AreEnds, FileEnd, IsWritten, SaysEnd, SaysEnds, count_texts, data_text, end_of, end_texts, ends_texts, octets_text, texts_if}
 use Rattle.file_threads.specs.Said.{AreSaid}
 
+-- some texts were said, and then others
 pub said_both : (a b c : Option (List ℕ)) (xs ys : List (List ℕ)) → AreSaid a b xs → AreSaid b c ys → AreSaid a c (xs ++ ys)
 said_both a b c [] ys (AreSaid.said_none _) two = two
 said_both a b c (x ∷ xs) ys (AreSaid.said_next _ between _ _ _ first h) two = AreSaid.said_next a between c x (xs ++ ys) first (said_both between b c xs ys h two)
 
+-- where it isn't so, nothing is said
 pub said_no : (a : Option (List ℕ)) (is_so : Bool) (d : ℕ) (words : List ℕ) → is_so ≡ false → AreSaid a a (texts_if is_so d words)
 said_no a is_so d words e = subst (λ (b : Bool). AreSaid a a (texts_if b d words)) (sym e) (AreSaid.said_none a)
 
+-- where it is so, that is said
 pub said_yes : (a b : Option (List ℕ)) (is_so : Bool) (d : ℕ) (words : List ℕ) → is_so ≡ true → IsBegun a b (data_text d words) → AreSaid a b (texts_if is_so d words)
 said_yes a b is_so d words e h = subst (λ (t : Bool). AreSaid a b (texts_if t d words)) (sym e) (AreSaid.said_next a b b (data_text d words) [] h (AreSaid.said_none b))
 
+-- of no octets nothing is said
 pub count_none : (a : Option (List ℕ)) (d n : ℕ) (words : List ℕ) → (n == 0) ≡ true → AreSaid a a (count_texts d words n)
 count_none a d n words e = subst (λ (t : Bool). AreSaid a a (if t then [] else data_text d words ∷ octets_text n ∷ [])) (sym e) (AreSaid.said_none a)
 
+-- of some it is said that they are left, and how many at least
 pub count_some : (a b c : Option (List ℕ)) (d n : ℕ) (words : List ℕ) → (n == 0) ≡ false → IsBegun a b (data_text d words) → IsBegun b c (octets_text n)
     → AreSaid a c (count_texts d words n)
 count_some a b c d n words e one two = subst (λ (t : Bool). AreSaid a c (if t then [] else data_text d words ∷ octets_text n ∷ [])) (sym e)
     (AreSaid.said_next a b c (data_text d words) (octets_text n ∷ []) one (AreSaid.said_next b c c (octets_text n) [] two (AreSaid.said_none c)))
 
+-- four runs of texts, one behind the other
 pub said_four : (a b c d e : Option (List ℕ)) (ws xs ys zs : List (List ℕ)) → AreSaid a b ws → AreSaid b c xs → AreSaid c d ys → AreSaid d e zs
     → AreSaid a e (ws ++ xs ++ ys ++ zs)
 said_four a b c d e ws xs ys zs one two three four =
     said_both a d e (ws ++ xs ++ ys) zs (said_both a c d (ws ++ xs) ys (said_both a b c ws xs one two) three) four
 
+-- of no files nothing is said
 pub files_none : {Y : Type 0} (pipes : PipeSet) (a : Option (List ℕ)) (files : List (FileState Y)) → SaysEnds pipes (take 0 files) a a
 files_none pipes a files = record { ends = []; ends_are = AreEnds.ends_none; said = AreSaid.said_none a }
 
@@ -44,6 +51,7 @@ said_ends a b c ends e h one =
     (sym (flat_map-append end_texts ends (e ∷ []) ∙ ap (λ (ts : List (List ℕ)). ends_texts ends ++ ts) (append-nil (end_texts e))))
     (said_both a b c (ends_texts ends) (end_texts e) h one)
 
+-- behind what came of some files it was said what came of the next
 pub files_more : {Y : Type 0} (pipes : PipeSet) (a b c : Option (List ℕ)) (files : List (FileState Y)) (i : ℕ) (f : FileState Y) → i < length files
     → SaysEnds pipes (take i files) a b → SaysEnd pipes (slice_index_or files i f) b c → SaysEnds pipes (take (i + 1) files) a c
 files_more pipes a b c files i f there h one =
@@ -54,12 +62,14 @@ files_more pipes a b c files i f there h one =
       said = said_ends a b c h.ends one.end h.said one.said;
     })
 
+-- when it was said of all of them, it was said of each
 pub files_all : {Y : Type 0} (pipes : PipeSet) (a b : Option (List ℕ)) (files : List (FileState Y)) (i : ℕ) → length files ≤ i
     → SaysEnds pipes (take i files) a b → SaysEnds pipes files a b
 files_all pipes a b files i most h = subst (λ (xs : List (FileState _)). SaysEnds pipes xs a b) (take_all i files most) h
 
 -- ## All is written
 
+-- if each file has taken all that was read for it, all have
 pub written_all : {Y : Type 0} (files : List (FileState Y)) (n : ℕ) → length files ≤ n
     → ((i : ℕ) (f : FileState Y) → i < n → i < length files → IsWritten (slice_index_or files i f)) → All IsWritten files
 written_all files n most each = λ i f there. each i f (omega (arith, there, most)) there

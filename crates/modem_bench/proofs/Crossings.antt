@@ -22,6 +22,7 @@ fewer a w t xs x is e f =
     let long = ap (length {A = ℕ}) is in
     omega (arith, all, one, two, long)
 
+-- with an octet more, or one fewer, that waits at one of them the lines aren't crossed
 pub wrong_crossings : WrongCrossings
 wrong_crossings = record {
   stray_at_far = λ near far x c d. no_more far.received far.waiting (take near.moved near.sent) (x ∷ []) c.to_far d.to_far (omega arith);
@@ -36,6 +37,7 @@ crossed_once cut near far c = record { to_far = carried_one cut near far c.to_fa
 went_over : (cut : ℕ) (from to : CutState) → 0 < carried cut from to → 0 < length (take (carried cut from to) (unmoved from))
 went_over cut from to some = let e = length-take (carried cut from to) (unmoved from) in omega (arith, e, some)
 
+-- carried once the octets leave them crossed, carried twice they don't
 pub right_crossings : RightCrossings
 right_crossings = record {
   once = crossed_once;

@@ -18,34 +18,41 @@ use Rattle.modem_bench.specs.declared.signals.Fault.{Fault}
 
 -- ## Acts of the driver
 
+-- acts at the driver's end go on from the driver's past
 pub near_past : (line : List EndAct) (acts : List driver.Act) → driver_past (after_near line acts) ≡ after (driver_past line) acts
 near_past line [] = refl
 near_past line (a ∷ acts) = near_past (AtDriver a ∷ line) acts
 
+-- and leave the modem's as it is
 pub near_other : (line : List EndAct) (acts : List driver.Act) → modem_past (after_near line acts) ≡ modem_past line
 near_other line [] = refl
 near_other line (a ∷ acts) = near_other (AtDriver a ∷ line) acts
 
+-- and all that the list had before
 pub near_joins : (line more : List EndAct) (acts : List driver.Act) → after_near (more ++ line) acts ≡ after_near more acts ++ line
 near_joins line more [] = refl
 near_joins line more (a ∷ acts) = near_joins line (AtDriver a ∷ more) acts
 
 -- ## Acts of the modem
 
+-- acts at the modem's end go on from the modem's past
 pub far_past : (line : List EndAct) (acts : List modem.Act) → modem_past (at_far acts ++ line) ≡ acts ++ modem_past line
 far_past line [] = refl
 far_past line (a ∷ acts) = ap (λ (l : List modem.Act). a ∷ l) (far_past line acts)
 
+-- and leave the driver's as it is
 pub far_other : (line : List EndAct) (acts : List modem.Act) → driver_past (at_far acts ++ line) ≡ driver_past line
 far_other line [] = refl
 far_other line (a ∷ acts) = far_other line acts
 
 -- ## It goes on
 
+-- nothing happens at either end
 pub joins_none : (p : Pair) → JoinsOn p p
 unfolding JoinsOn
 joins_none p b at e line j = record { newer = []; joined = j }
 
+-- the list goes on by two steps
 pub joins_then : (p q r : Pair) → JoinsOn p q → JoinsOn q r → JoinsOn p r
 unfolding JoinsOn
 joins_then p q r f g b at e line j =
@@ -53,6 +60,7 @@ joins_then p q r f g b at e line j =
     let two = g b at e (one.newer ++ line) one.joined in
     record { newer = two.newer ++ one.newer; joined = subst (λ (l : List EndAct). AreJoined b at e l r) (sym (append_assoc two.newer one.newer line)) two.joined }
 
+-- it goes on where the session does
 pub joins_near : (old new : SessionState CutState) (far : SimState CutState) → SessionGoesOn look_in old new → JoinsOn (pair old far) (pair new far)
 unfolding SessionGoesOn JoinsOn
 joins_near old new far goes b at e line j =
@@ -62,6 +70,7 @@ joins_near old new far goes b at e line j =
     } in
     record { newer = after_near [] goes.acts; joined = subst (λ (l : List EndAct). AreJoined b at e l (pair new far)) (near_joins line [] goes.acts) now }
 
+-- and where the modem does
 pub joins_far : (near : SessionState CutState) (old new : SimState CutState) → SimGoes sight_in.received sight_in.sent old new → JoinsOn (pair near old) (pair near new)
 unfolding JoinsOn
 joins_far near old new goes b at e line j =
@@ -92,6 +101,7 @@ joins_carried cut p b at e line j = record {
   };
 }
 
+-- the same of lines taken out and put back
 pub joins_carried_so : (cut : ℕ) (near : SessionState CutState) (far : SimState CutState) (a b c d : CutState) → a ≡ near.line → b ≡ far.line → c ≡ after_carry cut a b → d ≡ after_carry cut b a
     → JoinsOn (pair near far) (pair (record near { line = c }) (record far { line = d }))
 joins_carried_so cut near far a b c d here there carried back =
@@ -108,6 +118,7 @@ moved_so cut n before later near far last a b here there count first then =
 
 -- ## The last round
 
+-- a round that ends nothing is the last where it is answered that a line is full
 pub last_full : (cut room : ℕ) (old mid new : Pair) (says : Says) (r : Option (Result Rest Fault)) → IsRound cut old mid says → judged says ≡ None → new ≡ mid
     → IfSome r (λ end. end ≡ Ok Full) → IfSome r (λ _. IsFull room mid) → IfSome r (IsLastRound cut room old new)
 last_full cut room old mid new says None round none same ends full = tt

@@ -107,6 +107,7 @@ behind_read received waiting sent moved e =
     sym (append_assoc received waiting (drop moved sent))
     ∙ (ap (λ (xs : List ℕ). xs ++ drop moved sent) e ∙ take-append-drop moved sent)
 
+-- the session goes on by what its line was given, and takes requests: the joint list stays one line's
 pub near_goes : (old new : SessionState CutState) (far : SimState CutState) → SessionGoesOn look_in old new → TakesMore old.driver new.driver → other_side_of new.line ≡ other_side_of old.line → AreOctets far.line.sent → AreOctets far.machine.out
     → StaysOneLine (pair old far) (pair new far)
 unfolding SessionGoesOn StaysOneLine
@@ -132,6 +133,7 @@ near_goes old new far goes takes beyond octets waiting b at e line on =
 
 -- ## The modem's acts
 
+-- the modem goes on by what its line was given: so it does
 pub far_goes : (near : SessionState CutState) (old new : SimState CutState) → SimGoes sight_in.received sight_in.sent old new → other_side_of new.line ≡ other_side_of old.line → AreOctets near.line.sent → AreOctets near.machine.unwritten
     → StaysOneLine (pair near old) (pair near new)
 unfolding StaysOneLine
@@ -168,6 +170,7 @@ carried_one cut from to e =
     ∙ (ap (λ (xs : List ℕ). xs ++ take (carried cut from to) (unmoved from)) e
     ∙ sym (take-add from.moved (carried cut from to) from.sent))
 
+-- octets are carried between the lines: so it does
 pub carried_goes : (cut : ℕ) (p : Pair) → StaysOneLine p (carried_between cut p)
 unfolding StaysOneLine
 carried_goes cut p b at e line on = record {
@@ -193,6 +196,7 @@ carried_goes cut p b at e line on = record {
   };
 }
 
+-- the same of lines taken out and put back
 pub carried_goes_so : (cut : ℕ) (near : SessionState CutState) (far : SimState CutState) (a b c d : CutState) → a ≡ near.line → b ≡ far.line → c ≡ after_carry cut a b → d ≡ after_carry cut b a
     → StaysOneLine (pair near far) (pair (record near { line = c }) (record far { line = d }))
 carried_goes_so cut near far a b c d here there carried back =
@@ -202,10 +206,12 @@ carried_goes_so cut near far a b c d here there carried back =
 
 -- ## One after the other
 
+-- nothing happens
 pub stays_none : (p : Pair) → StaysOneLine p p
 unfolding StaysOneLine
 stays_none p b at e line on = record { newer = []; on = on }
 
+-- it stays so by two steps
 pub stays_then : (p q r : Pair) → StaysOneLine p q → StaysOneLine q r → StaysOneLine p r
 unfolding StaysOneLine
 stays_then p q r f g b at e line on =
@@ -222,6 +228,7 @@ nil_first (x ∷ xs) ys e = cc
 no_input : (room : ℕ) → take (min 0 room) (let none : List ℕ = [] in none) ≡ []
 no_input room = nil_first (take (min 0 room) []) (drop (min 0 room) []) (take-append-drop (min 0 room) [])
 
+-- a session and a modem that were just made, at new lines, have the empty list
 pub begins_on_one_line : BeginsOnOneLine
 unfolding BeginsOnOneLine
 begins_on_one_line n1 near_room far_room near_reads near_writes far_reads far_writes d start script s m low high is_start near_line driver near_fits far_line far_fits = record {
@@ -264,6 +271,7 @@ is_one_modem p b at e line on once announced =
       once = once;
     }
 
+-- on one line each command told Done was read by the modem, and answered by its step
 pub tells_modem_to : (p : Pair) → TellsModemTo p
 unfolding TellsModemTo TellsModem
 tells_modem_to p b at e line on once announced = tells_modem (driving b) e line (is_one_modem p b at e line on once announced)

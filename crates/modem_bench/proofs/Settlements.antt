@@ -165,6 +165,7 @@ module _ {X : Type 0} (look : X → LineView) where
         headline = headline (run_of s0 s1 cs ls settled begun on over) done;
       }
 
+-- the core of a bench's session goes by the standard's codes, with N1 31
 pub goes_by_standard : GoesByStandard
 unfolding GoesByStandard
 goes_by_standard s h = (sym h.fits.inside.setting.dialect_is ∙ h.dialect_is, sym h.fits.inside.setting.n1_is ∙ h.n1_is)

@@ -11,11 +11,14 @@ use Rattle.at_text.proofs.dialect.Dialect.TheLaws as dialect
 use Rattle.box_parts.specs.contracts.parts.Parts as Parts
 use Rattle.modem_c.specs.contracts.dialects.handle.Handle as Handle
 
+-- a box of a dialect, on the heap
 abbrev pub E : Bx
 E = record { row = Dialect.the_row; laws = dialect.the_row_laws; al = record { row = Heap.the_row; laws = heap.the_row_laws; g = ghosts; d = dict; drops = impl [] tnil dnil } }
 
+-- what `of_parts` takes: the parts of such a box
 abbrev pub FromParts : Slot 0
 FromParts = plain (λ _. Parts.the_row Dialect.the_row Heap.the_row ghosts)
 
+-- what `into_parts` takes: a handle of a dialect
 abbrev pub FromHandle : Slot 0
 FromHandle = plain (λ _. Handle.the_row)

@@ -54,6 +54,7 @@ last_part l d e f octets out =
     subst (GivesOn l d e f) (append-nil octets)
     (gave l d e out.between f octets [] (handled l d e out.before out.between octets out.blocked out.gives out.handles) out.rests)
 
+-- an output, part by part, is a sequence of the endpoint's calls
 pub outputs_are_calls : OutputsAreCalls
 unfolding OutputsAreCalls
 outputs_are_calls l d e f octets out = all_parts l d e f octets (last_part l d e f octets out)

@@ -8,6 +8,7 @@ use Rattle.modem_driver.specs.EndpointSteps.{with_sent}
 use Rattle.modem_driver.specs.EntrySteps.{EntryView, IsAsked}
 use Rattle.modem_c.specs.Entries.{EntriesBegin, EntriesGive, EntryState}
 
+-- of a text that begins nothing was given, and nothing was read behind it
 pub begins : EntriesBegin
 unfolding EntriesBegin
 begins l text = record {
@@ -57,6 +58,7 @@ gives_by true first l e f octets is out goes h = absurd (true≢false is)
 gives_by false first l e f octets is out goes h =
     subst (λ (g : EntryState). IsAsked first (with_sent l octets) g.asking) (sym goes) (given first l e.asking octets out h)
 
+-- what was given of it more went to the line behind what was given before
 pub gives : EntriesGive
 unfolding EntriesGive
 gives first l e f octets h is asked = gives_by e.is_closing first l e f octets is h.0 h.1 asked

@@ -11,6 +11,7 @@ use Rattle.modem_driver.specs.Numbers.{request_error_number}
 use Rattle.modem_driver.specs.declared.endpoint.error.RequestError.{RequestError}
 use Rattle.modem_c.specs.Calls.{HoldsSome, NumbersAt}
 
+-- a request's number is that of a request for the connection of this number
 pub numbers_at : {E : Type 0} (e f : EndpointState) (asks : Dlci → Ask) (d : Dlci) (r : Result ℕ E)
     → IfOk r (λ n. Numbers e f (asks d) n) → IfOk r (λ n. NumbersAt e f asks d.number n)
 numbers_at e f asks d (Ok n) h = record { connection = d; is_it = refl; numbers = h }
@@ -19,6 +20,7 @@ numbers_at e f asks d (Err x) h = tt
 err_no_ok : {A E : Type 0} {e : E} {x : A} → Err e ≡ Ok x → ⊥
 err_no_ok e = subst (λ r. MatchResult r (λ y. ⊥) (λ y. Unit)) e tt
 
+-- so is a command's, whatever else the call that took its text may be refused for
 pub asks_text : {E F : Type 0} (e f : EndpointState) (text : List ℕ) (d : Dlci) (r : Result ℕ E) (s : Result ℕ F) (g : E → F)
     → IfOk r (λ n. Numbers e f (Command d text) n) → IfOk r (λ n. s ≡ Ok n) → IfErr r (λ x. s ≡ Err (g x))
     → IfOk s (λ n. NumbersAt e f (λ x. Command x text) d.number n)
@@ -31,6 +33,7 @@ pub line_is : (o : Option TextError) (r : Result (List ℕ) TextError) (text lin
 line_is None r text line made is = subst (λ t. MatchResult t (λ l. l ≡ text) (λ e. e ≡ NoMemory)) is made
 line_is (Some e) r text line refused is = absurd (err_no_ok (sym refused ∙ is))
 
+-- an endpoint to which nothing happens has refused, and handled no frame
 pub refuses_none : (e : EndpointState) → Refuses e e
 unfolding LeadsOver
 refuses_none e = record {

@@ -5,6 +5,7 @@ use Rattle.std.proofs.lemmas.Bool.{cases_lt}
 use Rattle.modem_driver.specs.Endpoints.{EndpointState}
 use Rattle.modem_c.specs.States.{AreTold, state_of, told_of}
 
+-- no connection was told yet
 pub none_told : (e : EndpointState) (told : List ℕ) → AreTold e told 0
 unfolding AreTold
 none_told e told d inside place = absurd (omega (arith, inside))
@@ -14,6 +15,7 @@ pub no_places : (e : EndpointState) (told : List ℕ) (n : ℕ) → AreTold e to
 unfolding AreTold
 no_places e told n h short d inside place = h d (omega (arith, place, short)) place
 
+-- all 62 were told
 pub all_told : (e : EndpointState) (told : List ℕ) (n : ℕ) → AreTold e told n → 62 ≤ n → AreTold e told 62
 unfolding AreTold
 all_told e told n h over d inside place = h d (omega (arith, inside, over)) place

@@ -2,6 +2,7 @@
 use Rattle.std.specs.Prelude.{refl}
 use Rattle.modem_data.specs.CarrierRows.{FallsSo, HangsUpSo}
 
+-- the worked frames take the carrier of 2, or don't, as they say
 pub falls_so : FallsSo
 falls_so = record {
   fall = refl;
@@ -31,6 +32,7 @@ falls_so = record {
   as_data = refl;
 }
 
+-- and each worked loss ends the data or text that lasts until it, and nothing else
 pub hangs_up_so : HangsUpSo
 hangs_up_so = record {
   before = refl;

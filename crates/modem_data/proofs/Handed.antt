@@ -22,9 +22,11 @@ joined f old x y z =
     ∙ ap (λ t. old ++ t) (ap (λ t. flat_map spelled (with_lines f x) ++ t) (sym (flat_map-append spelled (with_lines f y) (with_lines f z)))
     ∙ sym (flat_map-append spelled (with_lines f x) (with_lines f y ++ with_lines f z))))
 
+-- octets of lines, where there are some, are written as a frame of their own
 pub put_some : (f : Frame) (text old new : List ℕ) → (length text == 0) ≡ false → new ≡ old ++ spelled (record f { info = text }) → new ≡ old ++ flat_map spelled (with_lines f text)
 put_some f text old new some e = e ∙ ap (λ x. old ++ x) (sym (some_lines f text some))
 
+-- a held `>`, the lines before the cut and those behind it, written one behind the other, are what is handed to the driver
 pub all_lines : (f : Frame) (o : Option LineCut) (cut : LineCut) (mark before behind old one two new : List ℕ) → o ≡ Some cut → mark ≡ mark_if cut.is_marked → before ≡ take cut.before f.info → behind ≡ drop cut.behind f.info → one ≡ old ++ flat_map spelled (with_lines f mark) → two ≡ one ++ flat_map spelled (with_lines f before) → new ≡ two ++ flat_map spelled (with_lines f behind) → new ≡ old ++ handed f o
 all_lines f o cut mark before behind old one two new is m b d e1 e2 e3 =
     rw is (e3 ∙ (ap (λ x. x ++ flat_map spelled (with_lines f behind)) (e2 ∙ ap (λ x. x ++ flat_map spelled (with_lines f before)) e1)
@@ -36,6 +38,7 @@ own_info : (f : Frame) (text : List ℕ) → flat_map (λ (g : Frame). g.info) (
 own_info f [] = refl
 own_info f (c ∷ text) = append-nil (c ∷ text)
 
+-- the frames of a frame's lines have all its lines, in their order
 pub joins_lines : (m : Carries) (f : Frame) → JoinsLines m f
 joins_lines m f =
     let x = released m f.info in

@@ -2,6 +2,7 @@
 use Rattle.std.specs.Prelude.{refl}
 use Rattle.modem_data.specs.OwnRows.{AnswersSo, EndsSo, PassesSo}
 
+-- the worked lines of the modem turn its lane to data, or don't, as they say
 pub answers_so : AnswersSo
 answers_so = record {
   before = refl;
@@ -28,6 +29,7 @@ answers_so = record {
   without_lane = refl;
 }
 
+-- what passes such a lane is as worked
 pub passes_so : PassesSo
 passes_so = record {
   a_command = refl;
@@ -55,6 +57,7 @@ passes_so = record {
   freed = refl;
 }
 
+-- and what ends it
 pub ends_so : EndsSo
 ends_so = record {
   by_disc = refl;

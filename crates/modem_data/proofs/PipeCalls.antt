@@ -27,6 +27,7 @@ is_none o e = nil_from_length o (eqb-true (length o) 0 e)
 all_read : (role : Role) (n1 d : ℕ) (v : Pipe) (past : List Pass) → v.lane.came ≡ [] → PipeFits role n1 d v past → data_read d past ≡ data_came role d past
 all_read role n1 d v past none h = sym (append-nil (data_read d past)) ∙ (ap (λ x. data_read d past ++ x) (sym none) ∙ h.came_is)
 
+-- a lane begins where none is under way and nothing waits to be read
 pub leads_began : (v : Pipe) (l : DataLane) (how : Begin) (until : Until) → is_idle v.lane.carries ≡ true → (length v.lane.came == 0) ≡ true → l ≡ begun_lane v.lane (begin_of how) → Leads v (record v { lane = l; until = until }) (Began v.watch.dlci how until)
 unfolding Leads LawfulPasses
 leads_began v l how until idle none e role n1 d past h =
@@ -46,6 +47,7 @@ leads_began v l how until idle none e role n1 d past h =
       by_driver_is = h.by_driver_is;
     })
 
+-- a call ends the lane
 pub leads_ended : (v w : Pipe) → w ≡ record v { lane = left_lane v.lane } → Leads v w (EndedLane v.watch.dlci)
 unfolding Leads LawfulPasses
 leads_ended v w e role n1 d past h =
@@ -64,6 +66,7 @@ leads_ended v w e role n1 d past h =
       by_driver_is = h.by_driver_is;
     })
 
+-- a pipe that isn't idle answers that its connection has a lane
 pub a_lane_is : (v : Pipe) → is_idle v.lane.carries ≡ false → SaysLane v true
 unfolding SaysLane
 a_lane_is v lane role n1 d past h = rw (sym h.carries_is) (rw lane refl)
@@ -75,10 +78,12 @@ none_later xs (y ∷ ys) e =
     let m = length-append xs (y ∷ ys) in
     let x : ⊥ = omega (arith, n, m) in absurd x
 
+-- it answers whether the lane is behind its lines
 pub says_behind : (v : Pipe) (b : Bool) → b ≡ is_behind_lines v.lane.carries → SaysBehind v b
 unfolding SaysBehind
 says_behind v b e role n1 d past h = e ∙ ap is_behind_lines h.carries_is
 
+-- an idle pipe in which octets wait has data that came and wasn't read
 pub has_unread : (v : Pipe) → is_idle v.lane.carries ≡ true → (length v.lane.came == 0) ≡ false → HasUnread v
 unfolding HasUnread
 has_unread v idle some role n1 d past h = (
@@ -90,6 +95,7 @@ has_unread v idle some role n1 d past h = (
 
 -- ## Octets are read and given
 
+-- the next octets that wait are read
 pub leads_read : (v : Pipe) (l : DataLane) (n : ℕ) (octets : List ℕ) → l ≡ record v.lane { came = drop n v.lane.came } → octets ≡ take n v.lane.came → Leads v (record v { lane = l }) (Read v.watch.dlci octets)
 unfolding Leads LawfulPasses
 leads_read v l n octets e o role n1 d past h =
@@ -113,6 +119,7 @@ both : (a b : Bool) → a && b ≡ true → (a ≡ true) × (b ≡ true)
 both true b e = (refl, e)
 both false b e = cc
 
+-- a pipe answers that its lane is over just where it is idle and nothing waits
 pub says_over : (v : Pipe) (b : Bool) → b ≡ (is_idle v.lane.carries && (length v.lane.came == 0)) → SaysOver v b
 unfolding SaysOver
 says_over v b e role n1 d past h = (
@@ -128,6 +135,7 @@ few_wait xs ys zs os n e few =
     let t = length-take n os in
     omega (arith, m, l, few, t)
 
+-- octets are given where the connection is open, the lane takes them, and no more wait than may
 pub leads_gave : (v : Pipe) (l : DataLane) (octets : List ℕ) (n : ℕ) → v.watch.own.is_open ≡ true → takes_given v.lane.carries ≡ true → length v.lane.to_go + n ≤ most_to_go → l ≡ record v.lane { to_go = v.lane.to_go ++ take n octets } → Leads v (record v { lane = l }) (Gave v.watch.dlci (take n octets))
 unfolding Leads LawfulPasses
 leads_gave v l octets n up c few e role n1 d past h =
@@ -153,10 +161,12 @@ leads_gave v l octets n up c few e role n1 d past h =
       by_driver_is = h.by_driver_is;
     })
 
+-- a pipe that its watch says is not open has a shut connection
 pub is_shut : (v : Pipe) → v.watch.own.is_open ≡ false → IsShut v
 unfolding IsShut
 is_shut v shut role n1 d past h = sym (open_there role n1 d v past h) ∙ shut
 
+-- one whose lane takes no octets answers so
 pub takes_none : (v : Pipe) → takes_given v.lane.carries ≡ false → TakesNone v
 unfolding TakesNone
 takes_none v none role n1 d past h = ap takes_given (sym h.carries_is) ∙ none
@@ -176,6 +186,7 @@ due_is role n1 d v past h =
     (ap (λ c. if is_idle c then 0 else length v.lane.came) h.carries_is
     ∙ ap (λ n. if is_idle (carries role d past) then 0 else n) (unread_is (data_read d past) v.lane.came (data_came role d past) h.came_is)))
 
+-- on an open connection a pipe says of the flow what is due
 pub says_flow : (v : Pipe) (o : Option Bool) → v.watch.own.is_open ≡ true → o ≡ flow_by v.held v.by_driver (lane_waiting v.lane) → SaysFlow v o
 unfolding SaysFlow
 says_flow v (Some go) up e = λ role n1 d past h. record {
@@ -186,6 +197,7 @@ says_flow v None up e = λ role n1 d past go h due.
     let x : None ≡ Some go = e ∙ (due_is role n1 d v past h ∙ due.due) in
     cc
 
+-- on a shut one nothing
 pub shut_flow : (v : Pipe) → v.watch.own.is_open ≡ false → SaysFlow v None
 unfolding SaysFlow
 shut_flow v shut role n1 d past go h due =
@@ -194,6 +206,7 @@ shut_flow v shut role n1 d past go h due =
 
 -- ## Data leaves
 
+-- of a pipe that may send, a frame of the next octets, from 1 to N1, leaves
 pub leads_left : (n1 : ℕ) (v w : Pipe) (n : ℕ) → MayLeave v → IsTrue (nat_le 1 (length (take n1 v.lane.to_go))) → IsTrue (nat_le (length (take n1 v.lane.to_go)) n1) → w ≡ record v { lane = record v.lane { to_go = drop n v.lane.to_go } } → drop n v.lane.to_go ≡ drop n1 v.lane.to_go → LeadsLeft n1 v w (next_data n1 v)
 unfolding LeadsLeft LawfulPasses SaysMayLeave
 leads_left n1 v w n may some fits e dropped role d past h =
@@ -224,21 +237,25 @@ leads_left n1 v w n may some fits e dropped role d past h =
       by_driver_is = h.by_driver_is;
     })
 
+-- a frame may leave where the lane lets it, the connection may send, and octets wait
 pub may_go : (v : Pipe) → lets_leave v.lane.carries ≡ true → SaysMayLeave v.watch true → (length v.lane.to_go == 0) ≡ false → MayLeave v
 may_go v c may some = record { lets = c; may = may; some = some }
 
+-- none may leave where the lane lets none
 pub none_by_lines : (v : Pipe) → lets_leave v.lane.carries ≡ false → HasNoneToSend v
 unfolding HasNoneToSend
 none_by_lines v none role n1 d past h c may =
     let x : true ≡ false = sym c ∙ (ap lets_leave (sym h.carries_is) ∙ none) in
     cc
 
+-- nor where the connection is shut or stopped, or is 0
 pub none_by_watch : (v : Pipe) → SaysMayLeave v.watch false → HasNoneToSend v
 unfolding HasNoneToSend SaysMayLeave
 none_by_watch v says role n1 d past h c may =
     let x : false ≡ true = says (wire past) h.watched ∙ (ap (λ r. may_leave r v.watch.dlci (wire past)) h.role_is ∙ (ap (λ e. may_leave role e (wire past)) h.dlci_is ∙ may)) in
     cc
 
+-- nor where none waits
 pub none_wait : (v : Pipe) → (length v.lane.to_go == 0) ≡ true → HasNoneToSend v
 unfolding HasNoneToSend
 none_wait v none role n1 d past h c may = sym (append-nil (left d past)) ∙ (ap (λ o. left d past ++ o) (sym (is_none v.lane.to_go none)) ∙ h.to_go_is)

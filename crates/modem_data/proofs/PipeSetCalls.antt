@@ -107,6 +107,7 @@ turn_is v w ps is = ap (λ (x : PipeSet). x.turn) is
 role_same : (v w : PipeSet) (ps : List Pipe) → w ≡ record v { each = ps } → w.role ≡ v.role
 role_same v w ps is = ap (λ (x : PipeSet). x.role) is
 
+-- one pipe begins its lane, and all pipes lead on
 pub one_began : (v w : PipeSet) (i : ℕ) (p : Pipe) (e : ℕ) (how : Begin) (until : Until) → i < length v.each → (slice_index_or v.each i p).watch.dlci ≡ e → Leads (slice_index_or v.each i p) p (Began e how until) → p.watch ≡ (slice_index_or v.each i p).watch → w ≡ record v { each = slice_set v.each i p } → AllLead v w (Began e how until)
 unfolding AllLead Leads
 one_began v w i p e how until there here leads same is role n1 ds past h =
@@ -118,10 +119,12 @@ one_began v w i p e how until there here leads same is role n1 ds past h =
     (λ q x k. other_began role n1 q.watch.dlci e how until past q (off q.watch.dlci x) (first_allowed role n1 past (Began e how until) fits.lawful) k)
     (λ c x k. record { idle = rw (off c x) k.idle; held_is = k.held_is }) h
 
+-- an idle connection stays idle, whether a call ends its lane or another's
 pub still_idle : (b : Bool) (c : Carries) → c ≡ Idle → (if b then ended_by_call c else c) ≡ Idle
 still_idle true c e = rw e refl
 still_idle false c e = e
 
+-- one pipe's lane is ended by a call, and all lead on
 pub one_ended : (v w : PipeSet) (i : ℕ) (p : Pipe) (e : ℕ) → i < length v.each → (slice_index_or v.each i p).watch.dlci ≡ e → Leads (slice_index_or v.each i p) p (EndedLane e) → p.watch ≡ (slice_index_or v.each i p).watch → w ≡ record v { each = slice_set v.each i p } → AllLead v w (EndedLane e)
 unfolding AllLead Leads
 one_ended v w i p e there here leads same is role n1 ds past h =
@@ -132,6 +135,7 @@ one_ended v w i p e there here leads same is role n1 ds past h =
     (λ q x k. other_ended role n1 q.watch.dlci e past q (apart_from q.watch.dlci e (subst (λ d. (q.watch.dlci == d) ≡ false) it x)) k)
     (λ c x k. record { idle = still_idle (e == c) (carries role c past) k.idle; held_is = k.held_is }) h
 
+-- one pipe is given octets, and all lead on
 pub one_gave : (v w : PipeSet) (i : ℕ) (p : Pipe) (e : ℕ) (octets : List ℕ) → i < length v.each → (slice_index_or v.each i p).watch.dlci ≡ e → Leads (slice_index_or v.each i p) p (Gave e octets) → p.watch ≡ (slice_index_or v.each i p).watch → w ≡ record v { each = slice_set v.each i p } → AllLead v w (Gave e octets)
 unfolding AllLead Leads
 one_gave v w i p e octets there here leads same is role n1 ds past h =
@@ -142,6 +146,7 @@ one_gave v w i p e octets there here leads same is role n1 ds past h =
     (λ q x k. other_gave role n1 q.watch.dlci e octets past q (apart_from q.watch.dlci e (subst (λ d. (q.watch.dlci == d) ≡ false) it x)) (first_allowed role n1 past (Gave e octets) fits.lawful) k)
     (λ c x k. record { idle = k.idle; held_is = k.held_is }) h
 
+-- one pipe's octets are read, and all lead on
 pub one_read : (v w : PipeSet) (i : ℕ) (p : Pipe) (e : ℕ) (octets : List ℕ) → i < length v.each → (slice_index_or v.each i p).watch.dlci ≡ e → Leads (slice_index_or v.each i p) p (Read e octets) → p.watch ≡ (slice_index_or v.each i p).watch → w ≡ record v { each = slice_set v.each i p } → AllLead v w (Read e octets)
 unfolding AllLead Leads
 one_read v w i p e octets there here leads same is role n1 ds past h =
@@ -154,6 +159,7 @@ one_read v w i p e octets there here leads same is role n1 ds past h =
 
 -- ## What it is answered
 
+-- the pipe at a place has a lane, so its connection has one
 pub under_way_at : (v : PipeSet) (i : ℕ) (p : Pipe) (e : ℕ) → i < length v.each → (slice_index_or v.each i p).watch.dlci ≡ e → SaysLane (slice_index_or v.each i p) true → OfEachPast v (λ role past. is_idle (carries role e past) ≡ false)
 unfolding OfEachPast SaysLane
 under_way_at v i p e there here says role n1 ds past h = at (is_idle (carries role e past)) (says role n1 e past (fits_at role n1 ds past v i p e there here h))
@@ -162,14 +168,17 @@ under_way_at v i p e there here says role n1 ds past h = at (is_idle (carries ro
     at true q = cc
     at false q = refl
 
+-- the pipe has data left to read, so its connection is idle with some unread
 pub unread_at : (v : PipeSet) (i : ℕ) (p : Pipe) (e : ℕ) → i < length v.each → (slice_index_or v.each i p).watch.dlci ≡ e → HasUnread (slice_index_or v.each i p) → OfEachPast v (λ role past. (carries role e past ≡ Idle) × (data_read e past ≢ data_came role e past))
 unfolding OfEachPast HasUnread
 unread_at v i p e there here says role n1 ds past h = says role n1 e past (fits_at role n1 ds past v i p e there here h)
 
+-- the pipe is shut, so its connection is
 pub shut_at : (v : PipeSet) (i : ℕ) (p : Pipe) (e : ℕ) → i < length v.each → (slice_index_or v.each i p).watch.dlci ≡ e → IsShut (slice_index_or v.each i p) → OfEachPast v (λ role past. is_open role e (wire past) ≡ false)
 unfolding OfEachPast IsShut
 shut_at v i p e there here says role n1 ds past h = says role n1 e past (fits_at role n1 ds past v i p e there here h)
 
+-- the pipe takes no octets, so its connection takes none
 pub takes_none_at : (v : PipeSet) (i : ℕ) (p : Pipe) (e : ℕ) → i < length v.each → (slice_index_or v.each i p).watch.dlci ≡ e → TakesNone (slice_index_or v.each i p) → OfEachPast v (λ role past. takes_given (carries role e past) ≡ false)
 unfolding OfEachPast TakesNone
 takes_none_at v i p e there here says role n1 ds past h = says role n1 e past (fits_at role n1 ds past v i p e there here h)
@@ -180,36 +189,43 @@ unread_is x y z e =
     let m = ap (λ (xs : List ℕ). length xs) e in
     omega (arith, n, m)
 
+-- as many octets are read as wait unread on the pipe's connection, up to the room
 pub reads_at : (v : PipeSet) (i : ℕ) (p : Pipe) (e : ℕ) (count room : ℕ) → i < length v.each → (slice_index_or v.each i p).watch.dlci ≡ e → count ≡ min (length (slice_index_or v.each i p).lane.came) room → OfEachPast v (λ role past. count ≡ min (unread role e past) room)
 unfolding OfEachPast
 reads_at v i p e count room there here is role n1 ds past h =
     let k = fits_at role n1 ds past v i p e there here h in
     is ∙ ap (λ n. min n room) (unread_is (data_read e past) (slice_index_or v.each i p).lane.came (data_came role e past) k.came_is)
 
+-- as many octets are taken as are offered, up to what may still wait on the pipe's connection
 pub gives_at : (v : PipeSet) (i : ℕ) (p : Pipe) (e : ℕ) (count many : ℕ) → i < length v.each → (slice_index_or v.each i p).watch.dlci ≡ e → count ≡ min many (most_to_go - length (slice_index_or v.each i p).lane.to_go) → OfEachPast v (λ role past. count ≡ min many (most_to_go - (length (given e past) - length (left e past))))
 unfolding OfEachPast
 gives_at v i p e count many there here is role n1 ds past h =
     let k = fits_at role n1 ds past v i p e there here h in
     is ∙ ap (λ n. min many (most_to_go - n)) (unread_is (left e past) (slice_index_or v.each i p).lane.to_go (given e past) k.to_go_is)
 
+-- whether the pipe's lane is over is whether its connection's is
 pub over_at : (v : PipeSet) (i : ℕ) (p : Pipe) (e : ℕ) (b : Bool) → i < length v.each → (slice_index_or v.each i p).watch.dlci ≡ e → SaysOver (slice_index_or v.each i p) b → OfEachPast v (λ role past. b ≡ true ↔ IsOver role e past)
 unfolding OfEachPast SaysOver
 over_at v i p e b there here says role n1 ds past h = says role n1 e past (fits_at role n1 ds past v i p e there here h)
 
+-- as many octets wait in the pipe as wait to leave its connection
 pub to_go_at : (v : PipeSet) (i : ℕ) (p : Pipe) (e : ℕ) (count : ℕ) → i < length v.each → (slice_index_or v.each i p).watch.dlci ≡ e → count ≡ length (slice_index_or v.each i p).lane.to_go → OfEachPast v (λ role past. count ≡ to_go e past)
 unfolding OfEachPast
 to_go_at v i p e count there here is role n1 ds past h =
     let k = fits_at role n1 ds past v i p e there here h in
     is ∙ unread_is (left e past) (slice_index_or v.each i p).lane.to_go (given e past) k.to_go_is
 
+-- whether the pipe's lane is behind its lines is whether its connection's is
 pub behind_at : (v : PipeSet) (i : ℕ) (p : Pipe) (e : ℕ) (b : Bool) → i < length v.each → (slice_index_or v.each i p).watch.dlci ≡ e → SaysBehind (slice_index_or v.each i p) b → OfEachPast v (λ role past. b ≡ is_behind_lines (carries role e past))
 unfolding OfEachPast SaysBehind
 behind_at v i p e b there here says role n1 ds past h = says role n1 e past (fits_at role n1 ds past v i p e there here h)
 
+-- a connection without a pipe is never behind lines
 pub not_behind : (v : PipeSet) (e : ℕ) → NoneOf (connections v.each) e → OfEachPast v (λ role past. false ≡ is_behind_lines (carries role e past))
 unfolding OfEachPast
 not_behind v e none role n1 ds past h = ap is_behind_lines (sym (h.others e (subst (λ cs. NoneOf cs e) h.connections_are none)).idle)
 
+-- a connection whose pipe is at a place is one of the connections of data, whatever the call answers
 pub has_pipe : {A X : Type 0} (v : PipeSet) (i : ℕ) (p : Pipe) (e : ℕ) (r : Result A X) → i < length v.each → (slice_index_or v.each i p).watch.dlci ≡ e → OnOk r (HasPipe v e)
 unfolding HasPipe
 has_pipe v i p e (Err x) there here = tt
@@ -221,6 +237,7 @@ has_pipe v i p e (Ok x) there here = λ role n1 ds past h.
       here = λ x. ap (λ (cs : List ℕ). slice_index_or cs i x) (sym h.connections_are) ∙ (number_at v.each i p x there ∙ here);
     }
 
+-- a connection that none of the pipes has is none of them
 pub not_data : (v : PipeSet) (e : ℕ) → NoneOf (connections v.each) e → IsNotData v e
 unfolding IsNotData
 not_data v e none role n1 ds past h = subst (λ cs. NoneOf cs e) h.connections_are none
@@ -254,6 +271,7 @@ each_one v P own other role n1 ds past h e = at (find v.each e)
 
 -- ## Flow
 
+-- what the pipe at a place says of the flow is to be said of one of the pipes
 pub flow_of : (ps : List Pipe) (i d : ℕ) (go : Bool) → i < length ps → ((p : Pipe) → (slice_index_or ps i p).watch.dlci ≡ d) → ((p : Pipe) → SaysFlow (slice_index_or ps i p) (Some go)) → IsFlowOf ps d go
 flow_of ps i d go there here says = record { place = i; there = there; here = here; says = says }
 
@@ -261,6 +279,7 @@ some_pipe : (ps : List Pipe) (i : ℕ) → i < length ps → Pipe
 some_pipe [] i there = absurd (omega (arith, there))
 some_pipe (p ∷ ps) i there = p
 
+-- what is to be said of one of the pipes is due on its connection
 pub due_of : (v : PipeSet) (d : ℕ) (go : Bool) → IsFlowOf v.each d go → OfEachPast v (λ role past. IsDue role d past go)
 unfolding OfEachPast SaysFlow
 due_of v d go f role n1 ds past h =
@@ -306,6 +325,7 @@ next_later v i later there may none = record {
       none j p (leb-true v.turn j parts.0) (ltb-true j i parts.1);
 }
 
+-- else, where none from the turn on may send, the first from the beginning that may
 pub next_round : (v : PipeSet) (i : ℕ) → i < v.turn → v.turn ≤ length v.each → ((p : Pipe) → MayLeave (slice_index_or v.each i p)) → NonesIn v.each v.turn (length v.each) → NonesIn v.each 0 i → IsNext v i
 unfolding NonesIn
 next_round v i before all may later first = record {
@@ -318,6 +338,7 @@ next_round v i before all may later first = record {
     at j p short (inl e) = later j p (leb-true v.turn j e) short
     at j p short (inr f) = first j p (omega arith) (ltb-true j i f)
 
+-- none from the turn on has any to send, nor any before it: none of them has
 pub none_at_all : (v : PipeSet) → NonesIn v.each v.turn (length v.each) → NonesIn v.each 0 v.turn → (j : ℕ) (p : Pipe) → j < length v.each → HasNoneToSend (slice_index_or v.each j p)
 unfolding NonesIn
 none_at_all v later first j p there = at (nat_le v.turn j) refl
@@ -352,6 +373,7 @@ other_left role n1 d f past p x z allowed h = record {
   by_driver_is = h.by_driver_is;
 }
 
+-- the pipe whose turn it is lets a frame leave, in its turn; the next turn is the one behind it
 pub leaves : (n1 : ℕ) (v w : PipeSet) (i : ℕ) (p : Pipe) (f : Frame) → IsNext v i → LeadsLeft n1 (slice_index_or v.each i p) p f → f.dlci ≡ (slice_index_or v.each i p).watch.dlci → p.watch ≡ (slice_index_or v.each i p).watch → w.each ≡ slice_set v.each i p → w.turn ≡ i + 1 → w.role ≡ v.role → LeavesInTurn n1 v w f
 unfolding LeavesInTurn LeadsLeft AreApart HasNoneToSend
 leaves n1 v w i p f next leads on same is turn end role ds past h = (
@@ -403,10 +425,12 @@ leaves n1 v w i p f next leads on same is turn end role ds past h = (
 
 -- ## A place that is looked for
 
+-- between a place and itself no pipe has any to send
 pub nones_none : (ps : List Pipe) (n : ℕ) → NonesIn ps n n
 unfolding NonesIn
 nones_none ps n j p late early = absurd (omega (arith, late, early))
 
+-- if the next pipe has none to send either, none up to it and with it has
 pub nones_more : (ps : List Pipe) (from i : ℕ) (p : Pipe) → i < length ps → HasNoneToSend (slice_index_or ps i p) → NonesIn ps from i → NonesIn ps from (i + 1)
 unfolding NonesIn
 nones_more ps from i p there none before j q late near = at (nat_lt j i) refl
@@ -420,22 +444,27 @@ nones_more ps from i p there none before j q late near = at (nat_lt j i) refl
 
 -- ## What a call answers
 
+-- where the call is Ok, the pipe began its lane, and all lead on
 pub began_by : {A X : Type 0} (v w : PipeSet) (i : ℕ) (p : Pipe) (e : ℕ) (how : Begin) (until : Until) (r : Result A X) → i < length v.each → (slice_index_or v.each i p).watch.dlci ≡ e → OnOk r (Leads (slice_index_or v.each i p) p (Began e how until)) → p.watch ≡ (slice_index_or v.each i p).watch → w ≡ record v { each = slice_set v.each i p } → OnOk r (AllLead v w (Began e how until))
 began_by v w i p e how until (Ok x) there here leads same is = one_began v w i p e how until there here leads same is
 began_by v w i p e how until (Err x) there here leads same is = tt
 
+-- where the call is Ok, the pipe was given as many octets as it counts, and all lead on
 pub gave_by : {X : Type 0} (v w : PipeSet) (i : ℕ) (p : Pipe) (e : ℕ) (octets : List ℕ) (r : Result ℕ X) → i < length v.each → (slice_index_or v.each i p).watch.dlci ≡ e → IfOk r (λ count. Leads (slice_index_or v.each i p) p (Gave e (take count octets))) → p.watch ≡ (slice_index_or v.each i p).watch → w ≡ record v { each = slice_set v.each i p } → IfOk r (λ count. AllLead v w (Gave e (take count octets)))
 gave_by v w i p e octets (Ok count) there here leads same is = one_gave v w i p e (take count octets) there here leads same is
 gave_by v w i p e octets (Err x) there here leads same is = tt
 
+-- where the call is Ok, it counts those offered, up to what may still wait on the pipe's connection
 pub gives_by : {X : Type 0} (v : PipeSet) (i : ℕ) (p : Pipe) (e many : ℕ) (r : Result ℕ X) → i < length v.each → (slice_index_or v.each i p).watch.dlci ≡ e → IfOk r (λ count. count ≡ min many (most_to_go - length (slice_index_or v.each i p).lane.to_go)) → IfOk r (λ count. OfEachPast v (λ role past. count ≡ min many (most_to_go - (length (given e past) - length (left e past)))))
 gives_by v i p e many (Ok count) there here is = gives_at v i p e count many there here is
 gives_by v i p e many (Err x) there here is = tt
 
+-- where the call is Ok, the pipe took the information of a frame, and all lead on
 pub came_by : {A X : Type 0} (v w : PipeSet) (i : ℕ) (p : Pipe) (f : Frame) (r : Result A X) → is_data_frame f ≡ true → i < length v.each → (slice_index_or v.each i p).watch.dlci ≡ f.dlci → OnOk r (Leads (slice_index_or v.each i p) p (Came f)) → p.watch ≡ (slice_index_or v.each i p).watch → w ≡ record v { each = slice_set v.each i p } → OnOk r (AllLead v w (Came f))
 came_by v w i p f (Ok x) e there here leads same is = one_info v w i p f e there here leads same is
 came_by v w i p f (Err x) e there here leads same is = tt
 
+-- a flow that is answered is due
 pub due_by : (v : PipeSet) (r : Option Flow) → IfSome r (λ f. IsFlowOf v.each f.dlci.number f.go) → IfSome r (λ f. OfEachPast v (λ role past. IsDue role f.dlci.number past f.go))
 due_by v (Some f) is = due_of v f.dlci.number f.go is
 due_by v None is = tt

@@ -32,9 +32,11 @@ set_connections [] i w e = refl
 set_connections (p ∷ ps) zero w e = ap (λ d. d ∷ connections ps) e
 set_connections (p ∷ ps) (suc i) w e = ap (λ ds. p.watch.dlci ∷ ds) (set_connections ps i w e)
 
+-- the connection at a place is that of the pipe there
 pub number_at : (ps : List Pipe) (j : ℕ) (p : Pipe) (x : ℕ) → j < length ps → slice_index_or (connections ps) j x ≡ (slice_index_or ps j p).watch.dlci
 number_at ps j p x there = get_or-map (λ (q : Pipe). q.watch.dlci) ps j p x there
 
+-- the place of a pipe is that of a connection
 pub in_there : (ps : List Pipe) (j : ℕ) → j < length ps → j < length (connections ps)
 in_there ps j there = subst (λ n. j < n) (sym (length-map ps (λ (p : Pipe). p.watch.dlci))) there
 
@@ -45,12 +47,14 @@ other_than ps e j p none there = subst (λ d. (d == e) ≡ false) (number_at ps 
 
 -- ## A plain connection
 
+-- a plain connection stays plain by a frame that comes
 pub plain_came : (role : Role) (e : ℕ) (past : List Pass) (f : Frame) → IsPlain role e past → IsPlain role e (Came f ∷ past)
 plain_came role e past f h = record {
   idle = idle_behind (is_info role e past f) (ends_here role e past (station.Got f)) (drops_here role e past f) (carries role e past) f.info h.idle;
   held_is = ap (λ b. if opens_here role e past (station.Got f) then false else b) h.held_is;
 }
 
+-- and by a frame of the driver's that goes
 pub plain_went : (role : Role) (e : ℕ) (past : List Pass) (f : Frame) → IsPlain role e past → IsPlain role e (Went f ∷ past)
 plain_went role e past f h = record {
   idle = idle_gone (ends_here role e past (station.Sent f)) (is_info role e past f) (carries role e past) f.info h.idle;
@@ -62,6 +66,7 @@ by_none : (b : Bool) → flow_by b b 0 ≡ None
 by_none true = refl
 by_none false = refl
 
+-- of a plain connection nothing is due
 pub plain_due : (role : Role) (e : ℕ) (past : List Pass) (go : Bool) → IsPlain role e past → ¬ IsDue role e past go
 plain_due role e past go h due =
     let none : flow_by (holds role e past) (driver_holds role e past) (waiting role e past) ≡ None = ap (λ c. flow_by (holds role e past) (driver_holds role e past) (if is_idle c then 0 else unread role e past)) h.idle ∙ (ap (λ b. flow_by b (driver_holds role e past) 0) h.held_is ∙ by_none (driver_holds role e past)) in
@@ -76,10 +81,12 @@ by_good : (d e signals : ℕ) (bad : Bool) → (d == e) ≡ false → if_message
 by_good d e signals true other = refl
 by_good d e signals false other = rw (its_number d, other) refl
 
+-- an MSC of the relay for one connection says nothing of another
 pub none_said : (role : Role) (d e : ℕ) (go : Bool) → (d == e) ≡ false → got_says (msc_says e) (station.Got (flow_frame role d go)) ≡ None
 none_said role d e true other = by_good d e 0x8d (not (is_good_msc ((4 * d + 3) ∷ 0x8d ∷ []))) other
 none_said role d e false other = by_good d e 0x8f (not (is_good_msc ((4 * d + 3) ∷ 0x8f ∷ []))) other
 
+-- a plain connection stays plain by what the relay says of the flow, since that is another's
 pub plain_flowed : (role : Role) (n1 e : ℕ) (past : List Pass) (f : Frame) → AllowsPass role n1 past (Flowed f) → IsPlain role e past → IsPlain role e (Flowed f ∷ past)
 plain_flowed role n1 e past f allowed h = record {
   idle = idle_sent (ends_here role e past (station.Sent f)) (carries role e past) h.idle;
@@ -97,6 +104,7 @@ each_by role n1 past later g ps same fits each =
     All-map (λ p. PipeFits role n1 p.watch.dlci p later) g ps
     (All-weaker (λ p. PipeFits role n1 p.watch.dlci p past) (λ p. PipeFits role n1 (g p).watch.dlci (g p) later) (λ p h. subst (λ d. PipeFits role n1 d (g p) later) (sym (same p)) (fits p h)) ps each)
 
+-- all lead on by an act by which each does, if it is allowed, leaves plain connections plain and moves no turn
 pub all_by : (role : Role) (n1 : ℕ) (ds : List ℕ) (past : List Pass) (a : Pass) (g : Pipe → Pipe) (v w : PipeSet) → w ≡ record v { each = map g v.each } → ((p : Pipe) → (g p).watch.dlci ≡ p.watch.dlci) → ((p : Pipe) → PipeFits role n1 p.watch.dlci p past → PipeFits role n1 p.watch.dlci (g p) (a ∷ past)) → LawfulPasses role n1 (a ∷ past) → ((e : ℕ) → IsPlain role e past → IsPlain role e (a ∷ past)) → turn_of ds (a ∷ past) ≡ turn_of ds past → PipesFit role n1 ds v past → PipesFit role n1 ds w (a ∷ past)
 all_by role n1 ds past a g v w e same fits lawful idle turn h = rw e (record {
   role_is = h.role_is;
@@ -108,10 +116,12 @@ all_by role n1 ds past a g v w e same fits lawful idle turn h = rw e (record {
   turn_is = h.turn_is ∙ sym turn;
 })
 
+-- each pipe sees a frame of the driver's that goes, and all lead on
 pub all_went : (v w : PipeSet) (f : Frame) → w ≡ record v { each = map (sent_pipe f) v.each } → AllLead v w (Went f)
 unfolding AllLead LawfulPasses
 all_went v w f e role n1 ds past h = all_by role n1 ds past (Went f) (sent_pipe f) v w e (λ p. refl) (λ p k. went_fits role n1 p.watch.dlci p past f k) (tt, h.lawful) (λ c k. plain_went role c past f k) refl h
 
+-- each sees the loss of the line, and all lead on
 pub all_lost : (v w : PipeSet) → w ≡ record v { each = map lost_pipe v.each } → AllLead v w Lost
 unfolding AllLead LawfulPasses
 all_lost v w e role n1 ds past h = all_by role n1 ds past Lost lost_pipe v w e (λ p. refl) (λ p k. lost_fits role n1 p.watch.dlci p past k) (tt, h.lawful) (λ c k. record { idle = refl; held_is = k.held_is }) refl h
@@ -125,6 +135,7 @@ off d f z none = at (is_kind f.kind Uih) (f.dlci == 0) refl none
     at true false e n = cc
     at true true e n = ne_eqb f.dlci d (λ q. eqb-false d 0 z (sym q ∙ eqb-true f.dlci 0 e))
 
+-- each sees a frame that came, if it is no information or is on 0, and all lead on
 pub all_saw : (v w : PipeSet) (f : Frame) → is_data_frame f ≡ false → w ≡ record v { each = map (saw_pipe f) v.each } → AllLead v w (Came f)
 unfolding AllLead LawfulPasses
 all_saw v w f none e role n1 ds past h = all_by role n1 ds past (Came f) (saw_pipe f) v w e (λ p. refl) (λ p k. saw_fits role n1 p.watch.dlci p past f (off p.watch.dlci f k.not_control none) k) (tt, h.lawful) (λ c k. plain_came role c past f k) refl h
@@ -178,6 +189,7 @@ data_dlci f e = at (is_kind f.kind Uih) (f.dlci == 0) e
     at true false x = refl
     at false c x = cc
 
+-- a data frame is information on its own connection
 pub own_info : (d : ℕ) (f : Frame) → is_data_frame f ≡ true → d ≡ f.dlci → is_on Uih d f ≡ true
 own_info d f e is = rw (data_kind f e) (eq-eqb f.dlci d (sym is))
 
@@ -200,6 +212,7 @@ one_info v w i p f e there here leads same is role n1 ds past h =
     (λ q other k. other_came role n1 q.watch.dlci q past f (data_kind f e) (data_dlci f e) (other_info role q.watch.dlci past f (subst (λ d. (q.watch.dlci == d) ≡ false) it other)) k)
     (λ c other k. plain_came role c past f k) h
 
+-- what the pipe of a frame's connection hands on to the driver is what all do
 pub one_hand : (v : PipeSet) (i : ℕ) (p : Pipe) (f : Frame) (cut : Option LineCut) → i < length v.each → (slice_index_or v.each i p).watch.dlci ≡ f.dlci → HandsOn (slice_index_or v.each i p) f cut → AllHand v f cut
 unfolding AllHand HandsOn
 one_hand v i p f None there here hands = λ role n1 ds past h. hands role n1 f.dlci past (subst (λ d. PipeFits role n1 d (slice_index_or v.each i p) past) here (All-get_or (λ q. PipeFits role n1 q.watch.dlci q past) v.each i p there h.each))
@@ -216,6 +229,7 @@ no_lane_there role e past f idle = rw idle (nothing (is_info role e past f))
 of_them : (role : Role) (n1 : ℕ) (ds : List ℕ) (v : PipeSet) (past : List Pass) (e : ℕ) → PipesFit role n1 ds v past → NoneOf (connections v.each) e → NoneOf ds e
 of_them role n1 ds v past e h none = subst (λ cs. NoneOf cs e) h.connections_are none
 
+-- where no pipe has its connection, the whole frame goes on
 pub none_hands : (v : PipeSet) (f : Frame) → NoneOf (connections v.each) f.dlci → AllHand v f None
 unfolding AllHand
 none_hands v f none role n1 ds past h = no_lane_there role f.dlci past f (h.others f.dlci (of_them role n1 ds v past f.dlci h none)).idle
@@ -226,6 +240,7 @@ none_zero role n1 ps past each =
     All-map (λ d. (d == 0) ≡ false) (λ (p : Pipe). p.watch.dlci) ps
     (All-weaker (λ p. PipeFits role n1 p.watch.dlci p past) (λ p. (p.watch.dlci == 0) ≡ false) (λ p h. h.not_control) ps each)
 
+-- so does one that is no information or is on 0
 pub control_hands : (v : PipeSet) (f : Frame) → is_data_frame f ≡ false → AllHand v f None
 unfolding AllHand
 control_hands v f none role n1 ds past h = at (is_kind f.kind Uih) (f.dlci == 0) refl refl none
@@ -235,6 +250,7 @@ control_hands v f none role n1 ds past h = at (is_kind f.kind Uih) (f.dlci == 0)
     at true false ek ec x = cc
     at true true ek ec x = no_lane_there role f.dlci past f (h.others f.dlci (of_them role n1 ds v past f.dlci h (subst (λ d. NoneOf (connections v.each) d) (sym (eqb-true f.dlci 0 ec)) (none_zero role n1 v.each past h.each)))).idle
 
+-- information on a connection without a pipe comes, and all pipes stay as they are
 pub none_came : (v : PipeSet) (f : Frame) → is_data_frame f ≡ true → NoneOf (connections v.each) f.dlci → AllLead v v (Came f)
 unfolding AllLead LawfulPasses
 none_came v f e none role n1 ds past h = record {
@@ -249,6 +265,7 @@ none_came v f e none role n1 ds past h = record {
 
 -- ## The beginning
 
+-- new pipes of these connections, which are apart, with the first turn, begin
 pub all_begin : (role : Role) (v : PipeSet) (ds : List ℕ) → v.role ≡ role → connections v.each ≡ ds → AreApart ds → All (λ p. (n1 : ℕ) → PipeFits role n1 p.watch.dlci p []) v.each → v.turn ≡ 0 → BeginsAll role ds v
 unfolding BeginsAll LawfulPasses
 all_begin role v ds end are apart each turn n1 = record {
@@ -263,6 +280,7 @@ all_begin role v ds end are apart each turn n1 = record {
 
 -- ## A place that is looked for
 
+-- if none before a place is this connection, nor the pipe there, none is up to it and with it
 pub none_so_far : (ps : List Pipe) (i e : ℕ) (p : Pipe) → i < length ps → ((slice_index_or ps i p).watch.dlci == e) ≡ false → ((j x : ℕ) → j < i → (slice_index_or (connections ps) j x == e) ≡ false) → (j x : ℕ) → j < i + 1 → (slice_index_or (connections ps) j x == e) ≡ false
 none_so_far ps i e p there other before j x near = at (nat_lt j i) refl
   where
@@ -273,6 +291,7 @@ none_so_far ps i e p there other before j x near = at (nat_lt j i) refl
         let here : j ≡ i = omega (arith, late, near) in
         subst (λ n. (slice_index_or (connections ps) n x == e) ≡ false) (sym here) (ap (λ n. n == e) (number_at ps i p x there) ∙ other)
 
+-- if none before the end is this connection, no pipe has it
 pub none_of_all : (ps : List Pipe) (n e : ℕ) → length ps ≤ n → ((j x : ℕ) → j < n → (slice_index_or (connections ps) j x == e) ≡ false) → NoneOf (connections ps) e
 unfolding NoneOf
 none_of_all ps n e all before j x there =

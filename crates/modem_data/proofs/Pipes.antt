@@ -21,6 +21,7 @@ use Rattle.modem_data.specs.Passing.{Pass, Came, Went, Flowed, Lost, wire, is_in
 use Rattle.modem_data.specs.Pipes.{Pipe, PipeFits, BeginsPipe, Leads, HandsOn, lane_over, lane_behind, lane_gone, pipe_drops, saw_pipe, sent_pipe, flowed_pipe, lost_pipe}
 use Rattle.modem_data.proofs.Watching.{goes, info_said, open_said, opens_said, ends_said, loses_said, watched_info, info_ends_none, info_loses_none, info_opens_none}
 
+-- a new pipe of a connection other than 0 begins there
 pub new_fits : (role : Role) (d : ℕ) (v : Pipe) → (d == 0) ≡ false → v.watch.role ≡ role → v.watch.dlci ≡ d → HasWatched v.watch [] → v.lane.carries ≡ Idle → v.lane.came ≡ [] → v.lane.to_go ≡ [] → v.until ≡ Close → v.held ≡ false → v.by_driver ≡ false → BeginsPipe role d v
 unfolding BeginsPipe LawfulPasses
 new_fits role d v z r e w c came go until held by n1 = record { role_is = r; dlci_is = e; not_control = z; lawful = tt; watched = w; carries_is = c; until_is = until; came_is = came; to_go_is = go; held_is = held; by_driver_is = by }
@@ -30,6 +31,7 @@ new_fits role d v z r e w c came go until held by n1 = record { role_is = r; dlc
 info_here : (role : Role) (n1 d : ℕ) (v : Pipe) (past : List Pass) (f : Frame) → PipeFits role n1 d v past → (is_on Uih v.watch.dlci f && v.watch.own.is_open) ≡ is_info role d past f
 info_here role n1 d v past f h = info_said v.watch (wire past) f h.watched ∙ (ap (λ r. is_info r v.watch.dlci past f) h.role_is ∙ ap (λ e. is_info role e past f) h.dlci_is)
 
+-- a pipe's watch says whether its connection is open
 pub open_there : (role : Role) (n1 d : ℕ) (v : Pipe) (past : List Pass) → PipeFits role n1 d v past → v.watch.own.is_open ≡ is_open role d (wire past)
 open_there role n1 d v past h = open_said v.watch (wire past) h.watched ∙ (ap (λ r. is_open r v.watch.dlci (wire past)) h.role_is ∙ ap (λ e. is_open role e (wire past)) h.dlci_is)
 
@@ -99,6 +101,7 @@ gone_carries false false info l = refl
 held_behind : (b c held was : Bool) → b ≡ c → held ≡ was → (if b then false else held) ≡ (if c then false else was)
 held_behind b c held was e is = rw (e, is) refl
 
+-- a pipe that has seen a frame that came, no information on its connection, fits the past with it
 pub saw_fits : (role : Role) (n1 d : ℕ) (v : Pipe) (past : List Pass) (f : Frame) → is_on Uih v.watch.dlci f ≡ false → PipeFits role n1 d v past → PipeFits role n1 d (saw_pipe f v) (Came f ∷ past)
 unfolding LawfulPasses
 saw_fits role n1 d v past f off h =
@@ -122,6 +125,7 @@ saw_fits role n1 d v past f off h =
       by_driver_is = held_behind (watch_opens v.watch (station.Got f)) (opens_here role d past (station.Got f)) v.by_driver (driver_holds role d past) (opening role n1 d v past (station.Got f) h) h.by_driver_is;
     }
 
+-- so it leads on by that frame
 pub leads_saw : (v w : Pipe) (f : Frame) → is_on Uih v.watch.dlci f ≡ false → w ≡ saw_pipe f v → Leads v w (Came f)
 unfolding Leads
 leads_saw v w f off e role n1 d past h = subst (λ (x : Pipe). PipeFits role n1 d x (Came f ∷ past)) (sym e) (saw_fits role n1 d v past f off h)
@@ -130,6 +134,7 @@ leads_saw v w f off e role n1 d past h = subst (λ (x : Pipe). PipeFits role n1 
 said_on : (role : Role) (n1 d : ℕ) (v : Pipe) (past : List Pass) (f : Frame) (held was : Bool) → PipeFits role n1 d v past → held ≡ was → unwrap_or (got_says (msc_says v.watch.dlci) (station.Got f)) held ≡ unwrap_or (got_says (msc_says d) (station.Got f)) was
 said_on role n1 d v past f held was h is = rw is (ap (λ e. unwrap_or (got_says (msc_says e) (station.Got f)) was) h.dlci_is)
 
+-- a pipe that has seen a frame of the driver's that goes fits the past with it
 pub went_fits : (role : Role) (n1 d : ℕ) (v : Pipe) (past : List Pass) (f : Frame) → PipeFits role n1 d v past → PipeFits role n1 d (sent_pipe f v) (Went f ∷ past)
 unfolding LawfulPasses
 went_fits role n1 d v past f h =
@@ -152,10 +157,12 @@ went_fits role n1 d v past f h =
       by_driver_is = said_on role n1 d v past f v.by_driver (driver_holds role d past) h h.by_driver_is;
     }
 
+-- so it leads on by that frame
 pub leads_went : (v w : Pipe) (f : Frame) → w ≡ sent_pipe f v → Leads v w (Went f)
 unfolding Leads
 leads_went v w f e role n1 d past h = subst (λ (x : Pipe). PipeFits role n1 d x (Went f ∷ past)) (sym e) (went_fits role n1 d v past f h)
 
+-- so does one that has seen a word of flow go that was due
 pub flowed_fits : (role : Role) (n1 d : ℕ) (v : Pipe) (past : List Pass) (f : Frame) → AllowsPass role n1 past (Flowed f) → PipeFits role n1 d v past → PipeFits role n1 d (flowed_pipe f v) (Flowed f ∷ past)
 unfolding LawfulPasses
 flowed_fits role n1 d v past f allowed h =
@@ -174,6 +181,7 @@ flowed_fits role n1 d v past f allowed h =
       by_driver_is = h.by_driver_is;
     }
 
+-- and one that has seen the loss of the line
 pub lost_fits : (role : Role) (n1 d : ℕ) (v : Pipe) (past : List Pass) → PipeFits role n1 d v past → PipeFits role n1 d (lost_pipe v) (Lost ∷ past)
 unfolding LawfulPasses
 lost_fits role n1 d v past h = record {
@@ -190,12 +198,14 @@ lost_fits role n1 d v past h = record {
   by_driver_is = h.by_driver_is;
 }
 
+-- so it leads on by the loss
 pub leads_lost : (v w : Pipe) → w ≡ lost_pipe v → Leads v w Lost
 unfolding Leads
 leads_lost v w e role n1 d past h = subst (λ (x : Pipe). PipeFits role n1 d x (Lost ∷ past)) (sym e) (lost_fits role n1 d v past h)
 
 -- ## Information
 
+-- what is of kind UIH, and something else besides, is UIH
 pub kind_of : (k : Kind) (b : Bool) → is_kind k Uih && b ≡ true → k ≡ Uih
 kind_of Sabm b e = cc
 kind_of Ua b e = cc
@@ -210,12 +220,15 @@ dlci_of Dm b e = cc
 dlci_of Disc b e = cc
 dlci_of Uih b e = e
 
+-- information on a connection is a UIH frame
 pub is_info_kind : (d : ℕ) (f : Frame) → is_on Uih d f ≡ true → f.kind ≡ Uih
 is_info_kind d f on = kind_of f.kind (f.dlci == d) on
 
+-- and of that connection
 pub is_info_dlci : (d : ℕ) (f : Frame) → is_on Uih d f ≡ true → f.dlci ≡ d
 is_info_dlci d f on = eqb-true f.dlci d (dlci_of f.kind (f.dlci == d) on)
 
+-- an idle lane is Idle
 pub idle_is : (c : Carries) → is_idle c ≡ true → c ≡ Idle
 idle_is Idle e = refl
 idle_is (Lines kept) e = cc
@@ -262,6 +275,7 @@ none_drops false = refl
 info_drops_none : (role : Role) (d : ℕ) (past : List Pass) (f : Frame) → f.kind ≡ Uih → (f.dlci == 0) ≡ false → drops_here role d past f ≡ false
 info_drops_none role d past f k z = ap (λ b. is_by_carrier (until_of d past) && b) (info_loses_none role d (wire past) f k z) ∙ none_drops (is_by_carrier (until_of d past))
 
+-- information that is no data of d, and not on 0, comes: the pipe stays as it is, and fits
 pub other_came : (role : Role) (n1 d : ℕ) (v : Pipe) (past : List Pass) (f : Frame) → f.kind ≡ Uih → (f.dlci == 0) ≡ false → is_data role d past f ≡ false → PipeFits role n1 d v past → PipeFits role n1 d v (Came f ∷ past)
 unfolding LawfulPasses
 other_came role n1 d v past f k z none h =
@@ -299,14 +313,17 @@ shut_data role n1 d v past f shut h = no_data (is_info role d past f) (not (is_i
 idle_data : (role : Role) (n1 d : ℕ) (v : Pipe) (past : List Pass) (f : Frame) → is_idle v.lane.carries ≡ true → PipeFits role n1 d v past → is_data role d past f ≡ false
 idle_data role n1 d v past f idle h = no_lane (is_info role d past f) (carries role d past) (ap is_idle (sym h.carries_is) ∙ idle)
 
+-- information comes while the connection is shut: the pipe stays as it is
 pub leads_shut : (v : Pipe) (f : Frame) → is_on Uih v.watch.dlci f ≡ true → (is_on Uih v.watch.dlci f && v.watch.own.is_open) ≡ false → Leads v v (Came f)
 unfolding Leads
 leads_shut v f on shut role n1 d past h = other_came role n1 d v past f (is_info_kind v.watch.dlci f on) (not_zero role n1 d v past f on h) (shut_data role n1 d v past f shut h) h
 
+-- or while it has no lane
 pub leads_idle : (v : Pipe) (f : Frame) → is_on Uih v.watch.dlci f ≡ true → is_idle v.lane.carries ≡ true → Leads v v (Came f)
 unfolding Leads
 leads_idle v f on idle role n1 d past h = other_came role n1 d v past f (is_info_kind v.watch.dlci f on) (not_zero role n1 d v past f on h) (idle_data role n1 d v past f idle h) h
 
+-- information comes while it is open: the lane takes it
 pub leads_info : (v : Pipe) (l : DataLane) (f : Frame) (cut : LineCut) → is_on Uih v.watch.dlci f ≡ true → (is_on Uih v.watch.dlci f && v.watch.own.is_open) ≡ true → TakesInfo v.lane l f.info cut → Leads v (record v { lane = l }) (Came f)
 unfolding Leads LawfulPasses
 leads_info v l f cut on up t role n1 d past h =
@@ -330,23 +347,27 @@ leads_info v l f cut on up t role n1 d past h =
 
 -- ## A connection that carries no lane
 
+-- it stays idle behind any frame that comes
 pub idle_behind : (info_here ending dropping : Bool) (c : Carries) (info : List ℕ) → c ≡ Idle → carries_behind info_here ending dropping c info ≡ Idle
 idle_behind true ending dropping c info e = rw e refl
 idle_behind false true dropping c info e = refl
 idle_behind false false true c info e = rw e refl
 idle_behind false false false c info e = e
 
+-- and behind one of the driver's that goes
 pub idle_gone : (ending info_here : Bool) (c : Carries) (info : List ℕ) → c ≡ Idle → carries_gone ending info_here c info ≡ Idle
 idle_gone true info_here c info e = refl
 idle_gone false true c info e = rw e refl
 idle_gone false false c info e = e
 
+-- and behind one that goes and may end its opening
 pub idle_sent : (ending : Bool) (c : Carries) → c ≡ Idle → (if ending then Idle else c) ≡ Idle
 idle_sent true c e = refl
 idle_sent false c e = e
 
 -- ## What goes on to the driver
 
+-- of information of a lane the lines go on
 pub hands_lines : (v : Pipe) (f : Frame) (cut : LineCut) → (is_on Uih v.watch.dlci f && v.watch.own.is_open) ≡ true → is_idle v.lane.carries ≡ false → IsCut cut v.lane.carries f.info → HandsOn v f (Some cut)
 unfolding HandsOn
 hands_lines v f cut up lane t role n1 d past h =
@@ -354,14 +375,17 @@ hands_lines v f cut up lane t role n1 d past h =
     let some : is_idle (carries role d past) ≡ false = ap is_idle (sym h.carries_is) ∙ lane in
     (rw (here, some) refl, subst (λ (c : Carries). IsCut cut c f.info) h.carries_is t)
 
+-- a frame goes on whole where it is no information on the pipe's open connection
 pub hands_shut : (v : Pipe) (f : Frame) → (is_on Uih v.watch.dlci f && v.watch.own.is_open) ≡ false → HandsOn v f None
 unfolding HandsOn
 hands_shut v f shut role n1 d past h = shut_data role n1 d v past f shut h
 
+-- or where there is no lane
 pub hands_idle : (v : Pipe) (f : Frame) → is_idle v.lane.carries ≡ true → HandsOn v f None
 unfolding HandsOn
 hands_idle v f idle role n1 d past h = idle_data role n1 d v past f idle h
 
+-- or where it is no information on that connection at all
 pub hands_other : (v : Pipe) (f : Frame) → is_on Uih v.watch.dlci f ≡ false → HandsOn v f None
 unfolding HandsOn
 hands_other v f off role n1 d past h = shut_data role n1 d v past f (no_data (is_on Uih v.watch.dlci f) v.watch.own.is_open off) h

@@ -2,6 +2,7 @@
 use Rattle.std.specs.Prelude.{refl}
 use Rattle.modem_data.specs.PromptRows.{PromptsSo}
 
+-- each worked text is cut by its prompt as it says
 pub prompts_so : PromptsSo
 prompts_so = record {
   whole = record { lines_are = refl; data_are = refl; stands = refl };

@@ -198,6 +198,7 @@ none_yet : NeverPrompts []
 unfolding NeverPrompts
 none_yet x y e = rw (none_left x y e) refl
 
+-- any text is split at its first prompt, and none of it is data
 pub prompt_cut : (text : List ℕ) → IsPromptCut text
 prompt_cut text = record { is_split = cut_from [] true text refl none_yet; no_data = refl }
 
@@ -222,6 +223,7 @@ lines_inside : (starts : Bool) (c d : ℕ) (x y : List ℕ) (b : Bool) → is_ma
 lines_inside starts c d x y true e more = rw e (ap (λ t. x ++ t) (sym (append-nil y)))
 lines_inside starts c d x y false e more = rw e (ap (λ t. c ∷ t) more)
 
+-- where a lane waits for a prompt, text read on has the lines of text read at once
 pub prompt_lines_on : (starts : Bool) (x y : List ℕ) → lines_from_here starts (x ++ y) ≡ lines_from_here starts x ++ lines_of (carries_prompt starts x) y
 prompt_lines_on starts [] y = refl
 prompt_lines_on starts (c ∷ []) y = lines_at_cut starts c y (c == 62) refl
@@ -231,6 +233,7 @@ stands_inside : (starts : Bool) (c d : ℕ) (x y : List ℕ) (b : Bool) → is_m
 stands_inside starts c d x y true e more = rw e refl
 stands_inside starts c d x y false e more = rw e more
 
+-- and leaves the lane standing alike
 pub prompt_stands_on : (starts : Bool) (x y : List ℕ) → carries_prompt starts (x ++ y) ≡ carries_after (carries_prompt starts x) y
 prompt_stands_on starts [] y = refl
 prompt_stands_on starts (c ∷ []) y = stands_at_cut starts c y (c == 62) refl
@@ -241,6 +244,7 @@ no_data_marked : (x y : List ℕ) → data_of (marked x) y ≡ []
 no_data_marked [] y = refl
 no_data_marked (c ∷ x) y = refl
 
+-- what comes behind some octets of a lane by prompt is no data
 pub no_data_by_prompt : (starts : Bool) (x y : List ℕ) → data_of (carries_prompt starts x) y ≡ []
 no_data_by_prompt starts [] y = refl
 no_data_by_prompt starts (c ∷ x) y = at (is_mark starts c x) (no_data_by_prompt (is_line_end c) x y)
@@ -262,6 +266,7 @@ marked_data : (c : ℕ) (x y : List ℕ) (b : Bool) → (c == 32) ≡ b → [] �
 marked_data c x y true e = rw e refl
 marked_data c x y false e = rw e (sym (no_data_by_prompt false (c ∷ x) y))
 
+-- behind a held `>` text read on is as text read at once
 pub marked_on : (x y : List ℕ) → ReadsOn Marked x y
 marked_on [] y = record { lines_go_on = refl; data_goes_on = refl; stands = refl }
 marked_on (c ∷ x) y = record {
@@ -273,17 +278,21 @@ marked_on (c ∷ x) y = record {
 both_whole : (x y : List ℕ) → (x ++ y) ++ [] ≡ (x ++ []) ++ (y ++ [])
 both_whole x y = append-nil (x ++ y) ∙ (ap (λ t. x ++ t) (sym (append-nil y)) ∙ ap (λ t. t ++ (y ++ [])) (sym (append-nil x)))
 
+-- so it is behind a prompt, and where there is no lane
 pub whole_on : (m : Carries) (x y : List ℕ) → (m ≡ Sends) ⊎ (m ≡ Idle) → ReadsOn m x y
 whole_on m x y (inl e) = rw e (record { lines_go_on = both_whole x y; data_goes_on = refl; stands = refl })
 whole_on m x y (inr e) = rw e (record { lines_go_on = both_whole x y; data_goes_on = refl; stands = refl })
 
+-- where the lane waits for a CONNECT line of the driver's own
 pub owns_on : (kept x y : List ℕ) → ReadsOn (Owns kept) x y
 owns_on kept x y = record { lines_go_on = both_whole x y; data_goes_on = refl; stands = refl }
 
+-- where a held `>` is owed
 pub owes_on : (x y : List ℕ) → ReadsOn Owes x y
 owes_on [] y = record { lines_go_on = refl; data_goes_on = refl; stands = refl }
 owes_on (c ∷ x) y = record { lines_go_on = ap (λ t. 62 ∷ t) (both_whole (c ∷ x) y); data_goes_on = refl; stands = refl }
 
+-- and where the lane waits for a prompt
 pub prompts_on : (starts : Bool) (x y : List ℕ) → ReadsOn (Prompts starts) x y
 prompts_on starts x y = record { lines_go_on = prompt_lines_on starts x y; data_goes_on = sym (no_data_by_prompt starts x y); stands = prompt_stands_on starts x y }
 
@@ -295,9 +304,11 @@ twice_on octets place = drop-drop 1 (place + 1) octets ∙ ap (λ n. drop n octe
 at_place : (octets : List ℕ) (place x : ℕ) → place < length octets → drop place octets ≡ slice_index_or octets place x ∷ drop (place + 1) octets
 at_place octets place x there = rw add-one (drop-cons octets place x there)
 
+-- what is left behind some octets is all of it, as counted
 pub rest_all : (octets : List ℕ) (n : ℕ) → take (length octets - n) (drop n octets) ≡ drop n octets
 rest_all octets n = let long = length-drop n octets in take_all (length octets - n) (drop n octets) (omega (arith, long))
 
+-- the prompt's `>` stands here: what is behind it are the lines behind the prompt, and the lane stands so
 pub found_here : (was starts : Bool) (octets : List ℕ) (place x : ℕ) → place < length octets → starts ≡ true → (slice_index_or octets place x == 62) ≡ true → may_prompt (drop (place + 1) octets) ≡ true → behind_prompt was octets ≡ behind_prompt starts (drop place octets) → carries_prompt was octets ≡ carries_prompt starts (drop place octets) → (behind_prompt was octets ≡ drop (place + 2) octets) × (carries_prompt was octets ≡ marked (drop (place + 1) octets))
 found_here was starts octets place x there begins octet may behind stands =
     let at = at_place octets place x there in

@@ -12,6 +12,7 @@ use Rattle.mux_frame.specs.Spelling.{body_of, spelled}
 use Rattle.mux_frame.proofs.Spellings.{spells_body}
 use Rattle.modem_data.specs.RelayRows.{RelaysSo, PromptsBySo, DiscWaits, disc}
 
+-- the worked pasts of a relay come to what they say
 pub relays_so : RelaysSo
 relays_so = record {
   as_they_came = refl;
@@ -57,6 +58,7 @@ relays_so = record {
   not_past_it = refl;
 }
 
+-- so do those of a lane by prompt
 pub prompts_by_so : PromptsBySo
 prompts_by_so = record {
   cut_there = refl;
@@ -89,6 +91,7 @@ disc_spelled = All-cons (HasSpelling 31) (disc 2) [] (record { octets = body_of 
 none_or_one : (f : Frame) → [] ≡ f ∷ [] → ⊥
 none_or_one f e = cc
 
+-- while a DISC of the driver's that was taken hasn't gone, no data may leave
 pub disc_waits : DiscWaits
 disc_waits first =
     let read = subst (λ (s : List ℕ). Reads 31 s (disc 2 ∷ []) (last_flag (disc 2 ∷ []))) (append-nil (spelled (disc 2))) (reads_spelled 31 (disc 2 ∷ []) disc_spelled) in

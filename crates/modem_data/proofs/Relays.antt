@@ -22,6 +22,7 @@ use Rattle.modem_data.specs.Hops.{Relay, RelayFits, Hop, Fed, Handed, Took, Wrot
 
 -- ## Octets
 
+-- octets come from the line
 pub hops_fed : (v w : Relay) (octets : List ℕ) → TakesIn v.outer octets w.outer → w.outer.n1 ≡ v.outer.n1 → w ≡ record v { outer = w.outer } → Hops v w (Fed octets)
 unfolding Hops LawfulHops
 hops_fed v w octets takes n e role n1 ds past h = rw e (record {
@@ -35,6 +36,7 @@ hops_fed v w octets takes n e role n1 ds past h = rw e (record {
   pipes_fit = h.pipes_fit;
 })
 
+-- octets come from the driver
 pub hops_took : (v w : Relay) (octets : List ℕ) → TakesIn v.inner octets w.inner → w.inner.n1 ≡ v.inner.n1 → w ≡ record v { inner = w.inner } → Hops v w (Took octets)
 unfolding Hops LawfulHops
 hops_took v w octets takes n e role n1 ds past h = rw e (record {
@@ -52,6 +54,7 @@ hops_took v w octets takes n e role n1 ds past h = rw e (record {
 given_on : (before waits : List ℕ) (n : ℕ) → (before ++ take n waits) ++ drop n waits ≡ before ++ waits
 given_on before waits n = append_assoc before (take n waits) (drop n waits) ∙ ap (λ t. before ++ t) (take-append-drop n waits)
 
+-- the driver is given the first of those that wait for it
 pub hops_handed : (v w : Relay) (octets : List ℕ) (n : ℕ) → octets ≡ take n v.to_driver → w.to_driver ≡ drop n v.to_driver → w ≡ record v { to_driver = w.to_driver } → Hops v w (Handed octets)
 unfolding Hops LawfulHops
 hops_handed v w octets n o t e role n1 ds past h = rw e (record {
@@ -65,6 +68,7 @@ hops_handed v w octets n o t e role n1 ds past h = rw e (record {
   pipes_fit = h.pipes_fit;
 })
 
+-- the line is given the first of those that wait for it
 pub hops_wrote : (v w : Relay) (octets : List ℕ) (n : ℕ) → octets ≡ take n v.to_line → w.to_line ≡ drop n v.to_line → w ≡ record v { to_line = w.to_line } → Hops v w (Wrote octets)
 unfolding Hops LawfulHops
 hops_wrote v w octets n o t e role n1 ds past h = rw e (record {
@@ -95,6 +99,7 @@ handed_due role n1 ds v past f (Some cut) h on =
 put_behind : (before waits more : List ℕ) (fs gs : List Frame) → before ++ waits ≡ spell fs → more ≡ spell gs → before ++ (waits ++ more) ≡ spell (fs ++ gs)
 put_behind before waits more fs gs h e = sym (append_assoc before waits more) ∙ (ap (λ x. x ++ more) h ∙ (ap (λ x. spell fs ++ x) e ∙ sym (flat_map-append spelled fs gs)))
 
+-- the line's frame at hand comes, and what of it is the driver's waits for it
 pub hops_came : (v w : Relay) → PassesIn v.outer.next v.pipes w.pipes v.to_driver w.to_driver → PassesOver v.outer w.outer → w.outer.n1 ≡ v.outer.n1 → w.inner ≡ v.inner → w.to_line ≡ v.to_line → HopsBy v w (λ f. Passed (Came f))
 unfolding Hops LawfulHops PassesOver AllLead
 hops_came v w p over n i l = record {
@@ -111,6 +116,7 @@ hops_came v w p over n i l = record {
   };
 }
 
+-- the driver's frame at hand goes to the line
 pub hops_went : (v w : Relay) → PassesOut v.inner.next v.pipes w.pipes v.to_line w.to_line → PassesOver v.inner w.inner → w.inner.n1 ≡ v.inner.n1 → w.outer ≡ v.outer → w.to_driver ≡ v.to_driver → HopsBy v w (λ f. Passed (Went f))
 unfolding Hops LawfulHops PassesOver AllLead
 hops_went v w p over n i l = record {
@@ -129,6 +135,7 @@ hops_went v w p over n i l = record {
 
 -- ## What forces progress
 
+-- where the line has no frame at hand, all of its frames have come
 pub all_came : (v : Relay) → IsDeframed → v.outer.next ≡ None → AllCame v
 unfolding AllCame
 all_came v law none role n1 ds past h = subst (λ n. Reads n (fed past) (came past) v.outer.undecided) h.outer_n1 ((law (fed past) (came past) v.outer h.line_in).all none)
@@ -142,6 +149,7 @@ all_went role n1 ds v past law none h = record {
 
 -- ## Data
 
+-- a frame of data leaves in its turn, where the driver has none at hand
 pub hops_left : (v w : Relay) (f : Frame) → IsDeframed → v.inner.next ≡ None → LeavesInTurn v.outer.n1 v.pipes w.pipes f → w.to_line ≡ v.to_line ++ spelled f → w ≡ record v { pipes = w.pipes; to_line = w.to_line } → Hops v w (Passed (Left f))
 unfolding Hops LawfulHops LeavesInTurn
 hops_left v w f law none leads out e role n1 ds past h =
@@ -159,10 +167,12 @@ hops_left v w f law none leads out e role n1 ds past h =
 
 -- ## What a call answers
 
+-- a call that answers that a frame passed lets one come
 pub came_by : {X : Type 0} (v w : Relay) (r : Result Bool X) → IfOk r (λ one. one ≡ true → PassesIn v.outer.next v.pipes w.pipes v.to_driver w.to_driver) → IfOk r (λ one. one ≡ true → PassesOver v.outer w.outer) → w.outer.n1 ≡ v.outer.n1 → w.inner ≡ v.inner → w.to_line ≡ v.to_line → IfOk r (λ one. one ≡ true → HopsBy v w (λ f. Passed (Came f)))
 came_by v w (Ok one) p over n i l = λ e. hops_came v w (p e) (over e) n i l
 came_by v w (Err x) p over n i l = tt
 
+-- one that answers that none did leaves none that hasn't come
 pub none_by : {X : Type 0} (v : Relay) (r : Result Bool X) → IsDeframed → IfOk r (λ one. one ≡ false → v.outer.next ≡ None) → IfOk r (λ one. one ≡ false → AllCame v)
 none_by v (Ok one) law none = λ e. all_came v law (none e)
 none_by v (Err x) law none = tt
@@ -183,6 +193,7 @@ hops_read v w c octets leads e role n1 ds past h = rw e (record {
   pipes_fit = leads role n1 ds (passes past) h.pipes_fit;
 })
 
+-- octets given to a pipe pass
 pub hops_gave : (v w : Relay) (e : ℕ) (octets : List ℕ) → AllLead v.pipes w.pipes (Gave e octets) → w ≡ record v { pipes = w.pipes } → Hops v w (Passed (Gave e octets))
 unfolding Hops LawfulHops AllLead
 hops_gave v w c octets leads e role n1 ds past h = rw e (record {
@@ -196,6 +207,7 @@ hops_gave v w c octets leads e role n1 ds past h = rw e (record {
   pipes_fit = leads role n1 ds (passes past) h.pipes_fit;
 })
 
+-- so does a loss of the line
 pub hops_lost : (v w : Relay) → AllLead v.pipes w.pipes Lost → w ≡ record v { pipes = w.pipes } → Hops v w (Passed Lost)
 unfolding Hops LawfulHops AllLead
 hops_lost v w leads e role n1 ds past h = rw e (record {
@@ -209,6 +221,7 @@ hops_lost v w leads e role n1 ds past h = rw e (record {
   pipes_fit = leads role n1 ds (passes past) h.pipes_fit;
 })
 
+-- so does a lane's beginning, on a connection of data
 pub hops_began : (v w : Relay) (d : ℕ) (how : Begin) (until : Until) → HasPipe v.pipes d → AllLead v.pipes w.pipes (Began d how until) → w ≡ record v { pipes = w.pipes } → Hops v w (Passed (Began d how until))
 unfolding Hops LawfulHops AllLead HasPipe
 hops_began v w d how until has leads e role n1 ds past h = rw e (record {
@@ -222,6 +235,7 @@ hops_began v w d how until has leads e role n1 ds past h = rw e (record {
   pipes_fit = leads role n1 ds (passes past) h.pipes_fit;
 })
 
+-- and its end by a call
 pub hops_ended : (v w : Relay) (d : ℕ) → AllLead v.pipes w.pipes (EndedLane d) → w ≡ record v { pipes = w.pipes } → Hops v w (Passed (EndedLane d))
 unfolding Hops LawfulHops AllLead
 hops_ended v w d leads e role n1 ds past h = rw e (record {
@@ -235,22 +249,27 @@ hops_ended v w d leads e role n1 ds past h = rw e (record {
   pipes_fit = leads role n1 ds (passes past) h.pipes_fit;
 })
 
+-- where the call is Ok, it ended the lane
 pub ended_by : {A X : Type 0} (v w : Relay) (d : ℕ) (r : Result A X) → OnOk r (AllLead v.pipes w.pipes (EndedLane d)) → w ≡ record v { pipes = w.pipes } → OnOk r (Hops v w (Passed (EndedLane d)))
 ended_by v w d (Ok x) leads is = hops_ended v w d leads is
 ended_by v w d (Err x) leads is = tt
 
+-- where the call is Ok, it gave as many octets as it counts
 pub gave_by : {X : Type 0} (v w : Relay) (e : ℕ) (octets : List ℕ) (r : Result ℕ X) → IfOk r (λ count. AllLead v.pipes w.pipes (Gave e (take count octets))) → w ≡ record v { pipes = w.pipes } → IfOk r (λ count. Hops v w (Passed (Gave e (take count octets))))
 gave_by v w e octets (Ok count) leads is = hops_gave v w e (take count octets) leads is
 gave_by v w e octets (Err x) leads is = tt
 
+-- where the call is Ok, a lane began on a connection of data
 pub began_by : {A X : Type 0} (v w : Relay) (d : ℕ) (how : Begin) (until : Until) (r : Result A X) → OnOk r (HasPipe v.pipes d) → OnOk r (AllLead v.pipes w.pipes (Began d how until)) → w ≡ record v { pipes = w.pipes } → OnOk r (Hops v w (Passed (Began d how until)))
 began_by v w d how until (Ok x) has leads is = hops_began v w d how until has leads is
 began_by v w d how until (Err x) has leads is = tt
 
+-- where the call is Ok, what it answers was read
 pub read_by : {X : Type 0} (v w : Relay) (d : ℕ) (octets : Reading → List ℕ) (r : Result Reading X) → IfOk r (λ x. AllLead v.pipes w.pipes (Read d (octets x))) → w ≡ record v { pipes = w.pipes } → IfOk r (λ x. Hops v w (Passed (Read d (octets x))))
 read_by v w d octets (Ok x) leads is = hops_read v w d (octets x) leads is
 read_by v w d octets (Err x) leads is = tt
 
+-- a relay of two new deframers and new pipes, for which nothing waits, begins
 pub begins : (role : Role) (n1 : ℕ) (ds : List ℕ) (v : Relay) → v.outer.n1 ≡ n1 → v.inner.n1 ≡ n1 → Deframes [] [] v.outer → Deframes [] [] v.inner → BeginsAll role ds v.pipes → v.to_driver ≡ [] → v.to_line ≡ [] → BeginsAs role n1 ds v
 unfolding BeginsAs BeginsAll LawfulHops
 begins role n1 ds v o i out inn p t l = record {
@@ -266,6 +285,7 @@ begins role n1 ds v o i out inn p t l = record {
 
 -- ## Nothing is held back
 
+-- where no frame of the driver is at hand, no octets wait, no flow is due and no data may leave, nothing is held back
 pub holds_nothing : (v : Relay) → IsDeframed → v.inner.next ≡ None → v.to_line ≡ [] → OfEachPast v.pipes (λ role past. (d : ℕ) (go : Bool) → ¬ IsDue role d past go) → OfEachPast v.pipes (λ role past. (d : ℕ) → NoneLeaves role past d) → HoldsNothing v
 unfolding HoldsNothing OfEachPast
 holds_nothing v law none l say idle role n1 ds past h = record {
@@ -277,9 +297,11 @@ holds_nothing v law none l say idle role n1 ds past h = record {
 
 -- ## Whole calls
 
+-- at first nothing came from the line
 pub line_none : (k : Relay) → LineIn k k []
 line_none k = record { hops = []; only = refl; fed_are = refl; leads = λ role n1 ds past h. h }
 
+-- and no frame passed
 pub passes_none : (k : Relay) → PassesOn k k
 unfolding PassesOn
 passes_none k first octets l = l
@@ -293,10 +315,12 @@ line_passed k0 k1 k2 octets l b = record {
   leads = λ role n1 ds past h. b.leads role n1 ds (l.hops ++ past) (l.leads role n1 ds past h);
 }
 
+-- one more frame that comes passes on
 pub passes_one : (k0 k1 k2 : Relay) → PassesOn k0 k1 → HopsBy k1 k2 (λ f. Passed (Came f)) → PassesOn k0 k2
 unfolding PassesOn
 passes_one k0 k1 k2 p b first octets l = line_passed first k1 k2 octets (p first octets l) b
 
+-- the frames that passed came of the same octets of the line
 pub line_on : (k0 k1 k2 : Relay) (octets : List ℕ) → LineIn k0 k1 octets → PassesOn k1 k2 → LineIn k0 k2 octets
 unfolding PassesOn
 line_on k0 k1 k2 octets l p = p k0 octets l
@@ -310,35 +334,45 @@ line_fed k0 k1 k2 xs ys l b = record {
   leads = λ role n1 ds past h. b role n1 ds (l.hops ++ past) (l.leads role n1 ds past h);
 }
 
+-- the next octets of the line come behind the first
 pub line_more : (k0 k1 k2 : Relay) (octets : List ℕ) (n count : ℕ) → LineIn k0 k1 (take n octets) → Hops k1 k2 (Fed (take count (drop n octets))) → LineIn k0 k2 (take (n + count) octets)
 line_more k0 k1 k2 octets n count l b = subst (λ xs. LineIn k0 k2 xs) (sym (take-add n count octets)) (line_fed k0 k1 k2 (take n octets) (take count (drop n octets)) l b)
 
+-- octets wait already for the line, so the driver's frame stays
 pub driver_waits : (k : Relay) → DriverOut k k
 driver_waits k = still_there refl
 
+-- the driver's frame goes out
 pub driver_goes : (v w : Relay) → HopsBy v w (λ f. Passed (Went f)) → DriverOut v w
 driver_goes v w b = driver_out b
 
+-- there is none
 pub driver_none : (v w : Relay) → w ≡ v → DriverOut v w
 driver_none v w e = still_there e
 
+-- octets wait already for the line, so nothing goes
 pub out_waits : (k : Relay) → OneOut k k
 out_waits k = still_out refl
 
+-- a frame of the driver's goes out
 pub out_goes : (v w : Relay) → HopsBy v w (λ f. Passed (Went f)) → OneOut v w
 out_goes v w b = went_out b
 
+-- a frame of data goes out
 pub out_leaves : (v w : Relay) → HopsBy v w (λ f. Passed (Left f)) → OneOut v w
 out_leaves v w b = left_out b
 
+-- a call that answers that no data left, after no frame of the driver's and no word of flow, leaves nothing held back
 pub holds_by : (v w y x : Relay) (said : Bool) → IsDeframed → (length v.to_line == 0) ≡ true → v.inner.next ≡ None → w ≡ v → OfEachPast w.pipes (λ role past. (d : ℕ) (go : Bool) → ¬ IsDue role d past go) → y ≡ w → (said ≡ false → OfEachPast y.pipes (λ role past. (d : ℕ) → NoneLeaves role past d)) → (said ≡ false → x ≡ y) → said ≡ false → HoldsNothing x
 holds_by v w y x said law empty none e say e2 idle still f = subst HoldsNothing (sym (still f ∙ (e2 ∙ e))) (holds_nothing v law none (nil_from_length v.to_line (eqb-true (length v.to_line) 0 empty)) (subst (λ (k : Relay). OfEachPast k.pipes (λ role past. (d : ℕ) (go : Bool) → ¬ IsDue role d past go)) e say) (subst (λ (k : Relay). OfEachPast k.pipes (λ role past. (d : ℕ) → NoneLeaves role past d)) (e2 ∙ e) (idle f)))
 
+-- a word of flow goes out
 pub out_flows : (v w : Relay) → HopsBy v w (λ f. Passed (Flowed f)) → OneOut v w
 out_flows v w b = flow_out b
 
 -- ## Flow
 
+-- what is due of the flow goes to the line, where the driver has no frame at hand
 pub hops_flowed : (v w : Relay) (f : Frame) → IsDeframed → v.inner.next ≡ None → AllLead v.pipes w.pipes (Flowed f) → w.to_line ≡ v.to_line ++ spelled f → w ≡ record v { pipes = w.pipes; to_line = w.to_line } → HopsBy v w (λ f. Passed (Flowed f))
 unfolding Hops LawfulHops AllLead
 hops_flowed v w f law none leads out e = record {

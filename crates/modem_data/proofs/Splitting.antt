@@ -55,6 +55,7 @@ stands_on kept (c ∷ x) y = at (connects kept c) (stands_on (kept_run (kept ++ 
 all_lines : (kept x y : List ℕ) → lines_from kept (x ++ y) ++ [] ≡ (lines_from kept x ++ []) ++ lines_of (carries_from kept x) y
 all_lines kept x y = append-nil (lines_from kept (x ++ y)) ∙ (lines_on kept x y ∙ ap (λ t. t ++ lines_of (carries_from kept x) y) (sym (append-nil (lines_from kept x))))
 
+-- however text is cut, its lines and its data are those of the whole
 pub reads_on : (m : Carries) (x y : List ℕ) → ReadsOn m x y
 reads_on Idle x y = whole_on Idle x y (inr refl)
 reads_on (Lines kept) x y = record { lines_go_on = all_lines kept x y; data_goes_on = data_on kept x y; stands = stands_on kept x y }
@@ -94,6 +95,7 @@ answered_on : (x y : List ℕ) → answered (x ++ y) ≡ carries_sent (answered 
 answered_on [] y = refl
 answered_on (c ∷ x) y = refl
 
+-- and what the driver writes is as written at once
 pub sends_on : (m : Carries) (x y : List ℕ) → SendsOn m x y
 sends_on Idle x y = refl
 sends_on (Lines kept) x y = refl
@@ -153,6 +155,7 @@ split_from p kept (c ∷ text) none e =
     split_at p kept c text (connects kept c) refl none (there p kept c none e)
     (λ b. split_from (p ++ c ∷ []) (kept_run (kept ++ c ∷ [])) text (there p kept c none e ∙ b) (later p kept c e))
 
+-- any text is split behind the end of its first CONNECT line
 pub are_split : (text : List ℕ) → AreSplit text
 are_split text = subst (λ (t : List ℕ). IsSplit text t (data_from [] text)) (sym (append-nil (lines_from [] text))) (split_from [] [] text refl refl)
 
@@ -181,5 +184,6 @@ own_from p kept (c ∷ text) none e =
     (own_at p kept c text (connects kept c) refl (there p kept c none e)
     (λ b. own_from (p ++ c ∷ []) (kept_run (kept ++ c ∷ [])) text (there p kept c none e ∙ b) (later p kept c e)))
 
+-- what the driver writes turns the lane to data just where a CONNECT line is in it
 pub own_switch : (text : List ℕ) → IsOwnSwitch text
 own_switch text = own_from [] [] text refl refl

@@ -48,6 +48,7 @@ all_stopped w past a h =
     ∙ (ap (λ b. said_last (opens_now w.role 0 past a) (belongs w.role 0 past a) (got_says flow_says a) b) h.all_stop_is
     ∙ sym (said_after (got_says flow_says) (opens_now w.role 0 past a) (belongs w.role 0 past a) a (since w.role 0 past))))
 
+-- what a watch keeps behind an act is what the past with the act says
 pub goes : (w : Watch) (past : List Act) (a : Act) → HasWatched w past → HasWatched (watched w a) (a ∷ past)
 goes w past a h = record {
   zero_is = ap (λ s. standing_after w.role s.is_open 0 s a) h.zero_is ∙ ap (λ s. standing_after w.role s.is_open 0 (standings w.role 0 past).own a) (zero_same w.role 0 past);
@@ -57,6 +58,7 @@ goes w past a h = record {
   carrier_is = own_last (dv_says w.dlci) w.carrier w past a h h.carrier_is;
 }
 
+-- so a watch set to that sees the act
 pub watches : (w v : Watch) (a : Act) → v ≡ watched w a → Watches w v a
 unfolding Watches
 watches w v a e past h = rw e (goes w past a h)
@@ -67,6 +69,7 @@ may_at true true false z t = refl
 may_at true false s z t = refl
 may_at false o s z t = refl
 
+-- a watch says whether data may leave its connection
 pub says_may_leave : (w : Watch) (b : Bool) → b ≡ (not (w.dlci == 0) && (w.own.is_open && (not w.own_stop && not (w.zero.is_open && w.all_stop)))) → SaysMayLeave w b
 unfolding SaysMayLeave
 says_may_leave w b e past h =
@@ -76,23 +79,28 @@ says_may_leave w b e past h =
     ∙ (ap (λ c. not (w.dlci == 0) && (is_open w.role w.dlci past && not (not (w.dlci == 0) && ((is_open w.role w.dlci past && c) || (is_open w.role 0 past && w.all_stop))))) h.own_stop_is
     ∙ ap (λ c. not (w.dlci == 0) && (is_open w.role w.dlci past && not (not (w.dlci == 0) && ((is_open w.role w.dlci past && last_said (got_says (msc_says w.dlci)) (since w.role w.dlci past)) || (is_open w.role 0 past && c))))) h.all_stop_is))))
 
+-- it says whether a frame is information on its open connection
 pub info_said : (w : Watch) (past : List Act) (f : Frame) → HasWatched w past → (is_on Uih w.dlci f && w.own.is_open) ≡ (is_on Uih w.dlci f && is_open w.role w.dlci past)
 info_said w past f h = ap (λ (s : Standing). is_on Uih w.dlci f && s.is_open) h.own_is
 
+-- whether that is open
 pub open_said : (w : Watch) (past : List Act) → HasWatched w past → w.own.is_open ≡ is_open w.role w.dlci past
 open_said w past h = ap (λ (s : Standing). s.is_open) h.own_is
 
+-- whether an act opens it
 pub opens_said : (w : Watch) (past : List Act) (a : Act) → HasWatched w past → watch_opens w a ≡ opens_now w.role w.dlci past a
 opens_said w past a h =
     ap (λ s. opens w.role s.is_open w.own.is_asked w.dlci a) (h.zero_is ∙ zero_same w.role w.dlci past)
     ∙ ap (λ s. opens w.role (standings w.role w.dlci past).zero.is_open s.is_asked w.dlci a) h.own_is
 
+-- whether an act ends its opening
 pub ends_said : (w : Watch) (past : List Act) (a : Act) → HasWatched w past → watch_ends w a ≡ ends_now w.role w.dlci past a
 ends_said w past a h =
     ap (λ o. w.own.is_open && (o || not (w.own.is_open && not (ends w.zero.is_open w.dlci a)))) (opens_said w past a h)
     ∙ (ap (λ (s : Standing). w.own.is_open && (opens_now w.role w.dlci past a || not (w.own.is_open && not (ends s.is_open w.dlci a)))) (h.zero_is ∙ zero_same w.role w.dlci past)
     ∙ ap (λ (s : Standing). s.is_open && (opens_now w.role w.dlci past a || not (s.is_open && not (ends (standings w.role w.dlci past).zero.is_open w.dlci a)))) h.own_is)
 
+-- and whether an act takes its carrier
 pub loses_said : (w : Watch) (past : List Act) (a : Act) → HasWatched w past → watch_loses w a ≡ loses_carrier w.role w.dlci past a
 loses_said w past a h =
     ap (λ (s : Standing). (s.is_open && w.carrier) && not (unwrap_or (got_says (dv_says w.dlci) a) true)) h.own_is
@@ -120,6 +128,7 @@ pub sent_opens_none : (r : Role) (z asked : Bool) (d : ℕ) (f : Frame) → open
 sent_opens_none Initiator z asked d f = refl
 sent_opens_none Responder z asked d f = refl
 
+-- nor does a loss of the line
 pub lost_opens_none : (r : Role) (z asked : Bool) (d : ℕ) → opens r z asked d Lost ≡ false
 lost_opens_none Initiator z asked d = refl
 lost_opens_none Responder z asked d = refl
@@ -140,16 +149,20 @@ sent_watch w f = record {
   carrier = said_last false (w.own.is_open && not (ends w.zero.is_open w.dlci (Sent f))) None w.carrier;
 }
 
+-- that is what the watch keeps behind a frame that goes
 pub after_sent : (w v : Watch) (f : Frame) → v ≡ sent_watch w f → v ≡ watched w (Sent f)
 after_sent w v f e = e ∙ rw (sent_opens_none w.role w.zero.is_open w.own.is_asked w.dlci f, sent_opens_none w.role w.zero.is_open w.zero.is_asked 0 f) refl
 
+-- so it sees the frame
 pub watches_sent : (w v : Watch) (f : Frame) → v ≡ sent_watch w f → Watches w v (Sent f)
 watches_sent w v f e = watches w v (Sent f) (after_sent w v f e)
 
+-- behind a loss both 0 and the connection are shut
 pub after_lost : (w v : Watch) → v ≡ record w { zero = not_open; own = not_open } → v ≡ watched w Lost
 after_lost w v e = e ∙ rw (lost_opens_none w.role w.zero.is_open w.own.is_asked w.dlci, lost_opens_none w.role w.zero.is_open w.zero.is_asked 0)
     (rw (no_command w.own.is_open, no_command w.own.is_asked, no_command w.zero.is_open, no_command w.zero.is_asked) refl)
 
+-- so the watch sees the loss
 pub watches_lost : (w v : Watch) → v ≡ record w { zero = not_open; own = not_open } → Watches w v Lost
 watches_lost w v e = watches w v Lost (after_lost w v e)
 
@@ -172,6 +185,7 @@ same_watched w e cr pf info n =
 of_kind : (w : Watch) (f : Frame) → f.kind ≡ Uih → (f.dlci == 0) ≡ false → watched w (Got f) ≡ w
 of_kind w f k n = subst (λ (k : Kind). watched w (Got (record f { kind = k })) ≡ w) (sym k) (same_watched w f.dlci f.cr f.pf f.info n)
 
+-- information that comes on a connection other than 0 leaves a watch as it is
 pub watched_info : (w : Watch) (past : List Act) (f : Frame) → f.kind ≡ Uih → (f.dlci == 0) ≡ false → HasWatched w past → HasWatched w (Got f ∷ past)
 watched_info w past f k n h = subst (λ (v : Watch). HasWatched v (Got f ∷ past)) (of_kind w f k n) (goes w past (Got f) h)
 
@@ -188,6 +202,7 @@ same_sent w e cr pf info n =
 sent_of_kind : (w : Watch) (f : Frame) → f.kind ≡ Uih → (f.dlci == 0) ≡ false → watched w (Sent f) ≡ w
 sent_of_kind w f k n = subst (λ (k : Kind). watched w (Sent (record f { kind = k })) ≡ w) (sym k) (same_sent w f.dlci f.cr f.pf f.info n)
 
+-- so does information that goes there
 pub watched_sent_info : (w : Watch) (past : List Act) (f : Frame) → f.kind ≡ Uih → (f.dlci == 0) ≡ false → HasWatched w past → HasWatched w (Sent f ∷ past)
 watched_sent_info w past f k n h = subst (λ (v : Watch). HasWatched v (Sent f ∷ past)) (sent_of_kind w f k n) (goes w past (Sent f) h)
 
@@ -202,6 +217,7 @@ none_end false = refl
 ends_of_kind : (z : Bool) (d : ℕ) (f : Frame) → f.kind ≡ Uih → (f.dlci == 0) ≡ false → ends z d (Got f) ≡ false
 ends_of_kind z d f k n = subst (λ (k : Kind). ends z d (Got (record f { kind = k })) ≡ false) (sym k) (ends_none z d f.dlci f.cr f.pf f.info n)
 
+-- on a connection other than 0 it ends no opening
 pub info_ends_none : (role : Role) (d : ℕ) (past : List Act) (f : Frame) → f.kind ≡ Uih → (f.dlci == 0) ≡ false → ends_now role d past (Got f) ≡ false
 info_ends_none role d past f k n =
     ap (λ b. is_open role d past && (b || not (is_open role d past && not (ends (standings role d past).zero.is_open d (Got f))))) (info_opens_none role d past f k)
@@ -212,5 +228,6 @@ info_ends_none role d past f k n =
 loses_none : (b : Bool) (d e : ℕ) (cr pf : Bool) (info : List ℕ) → (e == 0) ≡ false → b && not (unwrap_or (got_says (dv_says d) (Got (record { dlci = e; kind = Uih; cr = cr; pf = pf; info = info }))) true) ≡ false
 loses_none b d e cr pf info n = rw n (no_command b)
 
+-- so information there takes no carrier
 pub info_loses_none : (role : Role) (d : ℕ) (past : List Act) (f : Frame) → f.kind ≡ Uih → (f.dlci == 0) ≡ false → loses_carrier role d past (Got f) ≡ false
 info_loses_none role d past f k n = subst (λ (k : Kind). has_carrier role d past && not (unwrap_or (got_says (dv_says d) (Got (record f { kind = k }))) true) ≡ false) (sym k) (loses_none (has_carrier role d past) d f.dlci f.cr f.pf f.info n)

@@ -273,6 +273,7 @@ is_whole role d how past own e =
     let h = whole role d how own past e in
     record { lines_are = h.0.0; data_are = h.0.1; stands = h.1 }
 
+-- each lane under way is read as all of its octets since it began
 pub lanes_are_whole : LanesAreWhole
 unfolding LanesAreWhole
 lanes_are_whole role d past AtOnce e = is_whole role d AtOnce past refl e

@@ -68,6 +68,7 @@ all role n1 (Handed o ∷ past) h k = by_it role past (Handed o) (all role n1 pa
 all role n1 (Took o ∷ past) h k = by_it role past (Took o) (all role n1 past h.1 k) refl refl refl refl
 all role n1 (Wrote o ∷ past) h k = by_it role past (Wrote o) (all role n1 past h.1 k) refl refl refl refl
 
+-- without connections of data a relay passes frames as they come and go, and adds none
 pub adds_nothing : AddsNothing
 unfolding AddsNothing
 adds_nothing role n1 v past h = all role n1 past h.lawful h.pipes_fit.lawful

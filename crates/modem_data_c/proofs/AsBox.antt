@@ -11,11 +11,14 @@ use Rattle.modem_data.proofs.relay.Relay.TheLaws as relay
 use Rattle.box_parts.specs.contracts.parts.Parts as Parts
 use Rattle.modem_data_c.specs.contracts.handle.Handle as Handle
 
+-- a box of a relay, on the heap
 abbrev pub E : Bx
 E = record { row = Relay.the_row; laws = relay.the_row_laws; al = record { row = Heap.the_row; laws = heap.the_row_laws; g = ghosts; d = dict; drops = impl [] tnil dnil } }
 
+-- what `of_parts` takes: the parts of such a box
 abbrev pub FromParts : Slot 0
 FromParts = plain (λ _. Parts.the_row Relay.the_row Heap.the_row ghosts)
 
+-- what `into_parts` takes: a handle
 abbrev pub FromHandle : Slot 0
 FromHandle = plain (λ _. Handle.the_row)

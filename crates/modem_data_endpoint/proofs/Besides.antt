@@ -70,6 +70,7 @@ none_in (Took o ∷ hs) hops e = cc
 none_in (Wrote o ∷ hs) hops e = cc
 none_in (Passed p ∷ hs) hops e = none_in hs hops (and_parts (is_line_in (Passed p)) (list_all is_line_in hs) e).1
 
+-- nor the other way
 pub none_out : (hs hops : List Hop) → list_all is_line_in hs ≡ true → taken (hs ++ hops) ≡ taken hops
 none_out [] hops e = refl
 none_out (Fed o ∷ hs) hops e = none_out hs hops e
@@ -113,6 +114,7 @@ no_more xs ys e = ap (λ (zs : List ℕ). xs ++ zs) e ∙ append-nil xs
 
 -- ## The law
 
+-- what reads what a relay hands over, and writes what it takes, got the first of the frames due to it, and its first have gone
 pub behind_told : IsDeframed → (role : Role) (n1 : ℕ) (ds : List ℕ) (unfed fed_in : List ℕ) (d : Deframing) (unwritten since : List ℕ) (r : Relay) (hops : List Hop) (got given : List Frame) → n1 ≤ 32767 → RelayFits role n1 ds r hops → d.n1 ≡ n1
     → Deframes fed_in got d → handed_over hops ≡ fed_in ++ unfed → taken hops ≡ since → since ++ unwritten ≡ flat_map spelled given → TellsBehind role n1 unfed d unwritten r hops got given
 behind_told law role n1 ds unfed fed_in d unwritten since r hops got given high relay bound deframes parts gone written =
@@ -126,6 +128,7 @@ behind_told law role n1 ds unfed fed_in d unwritten since r hops got given high 
       all_went = λ sp o none. all_of n1 (taken hops) (went hops) given r.inner law relay.inner_n1 relay.driver_out sp none (gone ∙ (sym (no_more since unwritten o) ∙ written));
     }
 
+-- so it is of a driver with a history, behind a relay at the client's end
 pub frames_told : IsDeframed → (n1 : ℕ) (ds : List ℕ) (b : Beginning) (v : SessionView) (r : Relay) (hops : List Hop) (past : List Act) → n1 ≤ 32767 → SessionFits b v past → RelayFits Initiator n1 ds r hops
     → b.n1 ≡ n1 → v.line.received ≡ b.line.received ++ handed_over hops → v.line.sent ≡ b.line.sent ++ taken hops → TellsFrames n1 v r hops past
 frames_told law n1 ds b v r hops past high fits relay same read written_all =
@@ -135,6 +138,7 @@ frames_told law n1 ds b v r hops past high fits relay same read written_all =
     (append_cancel_left b.line.received (handed_over hops) (octets.fed ++ v.unfed) (sym read ∙ (octets.received_are ∙ append_assoc b.line.received octets.fed v.unfed)))
     (append_cancel_left b.line.sent (taken hops) written.since (sym written_all ∙ written.sent_are)) written.frames_are
 
+-- and so of an endpoint behind a relay, whatever calls follow
 pub data_law : IsDeframed → TellsAll → DataLaw
 unfolding DataLaw BeginsAs TellsAll
 data_law law tells_all dialect n1 ds kinds x y same some high begins starts none steps =

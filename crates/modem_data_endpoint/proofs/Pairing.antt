@@ -109,14 +109,17 @@ comes e r s octets h = record {
       (one_step (seen l d past (joined e r)) (seen l d (h.hops ++ past) (joined e s)) (came_in (record { line = l; driver = d; endpoint = e }) r s past octets h));
 }
 
+-- the endpoint took of what waited already, and none of the line's octets
 pub takes_blocked : (r s : Relay) (e f : EndpointState) (blocked : Option Blocked) (octets : List ℕ) → HandsOver r s e f blocked → CarriesIn (joined e r) (joined f s) (take 0 octets)
 takes_blocked r s e f blocked octets h = hands r s e f blocked h
 
+-- it took of what waited, then octets came from the line, and it took of those
 pub takes_on : (r m n s : Relay) (e f g : EndpointState) (first last : Option Blocked) (octets : List ℕ) → HandsOver r m e f first → LineIn m n octets → HandsOver n s f g last → CarriesIn (joined e r) (joined g s) octets
 takes_on r m n s e f g first last octets a b c =
     let one = takes_then (joined e r) (joined f m) (joined f n) [] octets (hands r m e f first a) (comes f m n octets b) in
     subst (λ (xs : List ℕ). CarriesIn (joined e r) (joined g s) xs) (append-nil octets) (takes_then (joined e r) (joined f n) (joined g s) octets [] one (hands n s f g last c))
 
+-- where neither is blocked in the end, all is taken
 pub takes_all : (n s : Relay) (f g : EndpointState) (last : Option Blocked) → HandsOver n s f g last → n.outer.next ≡ None → last ≡ None → TakesAll (joined g s)
 takes_all n s f g last c none all = record {
   none_at_relay = subst (λ o. o.next ≡ None) (sym c.same) none;
@@ -176,6 +179,7 @@ outs_passed hops x e m n a apart none outs leads = outs_then hops (a ∷ []) x (
 same_relay : (hops : List Hop) (x : Pair) (e : EndpointState) (m n : Relay) → n ≡ m → Outs hops x (joined e m) → Outs hops x (joined e n)
 same_relay hops x e m n q outs = subst (λ (k : Relay). Outs hops x (joined e k)) (sym q) outs
 
+-- what is next for the line waits there, and the line takes some of it
 pub gives : (x y : Pair) (s : Relay) (octets : List ℕ) (more : Bool) → NextOut x y more → Hops y.relay s (Wrote octets) → CarriesOut x (joined y.endpoint s) octets more
 gives x y s octets _ (took_one m h (still_there q)) leads =
     let first = same_relay (Took h.octets ∷ []) x y.endpoint m y.relay q (outs_took x.relay m x.endpoint y.endpoint h) in
@@ -202,12 +206,15 @@ gives x y s octets _ (none_behind g none (left_out b)) leads =
     let first = outs_passed [] x y.endpoint x.relay y.relay (Passed (Left b.frame)) refl refl (outs_called x.relay x.endpoint y.endpoint g) b.leads in
     by_parts (Wrote octets ∷ Passed (Left b.frame) ∷ []) x (joined y.endpoint s) octets false (outs_wrote (Passed (Left b.frame) ∷ []) x y.endpoint y.relay s octets first leads) refl refl (λ q. none) (λ (q : false ≡ true). cc)
 
+-- an octet of the endpoint's is next
 pub next_took : (r m n : Relay) (e f : EndpointState) → TakesOver r m e f → DriverOut m n → NextOut (joined e r) (joined f n) true
 next_took r m n e f h out = took_one m h out
 
+-- the driver's frame at the relay is next
 pub next_first : (r m n : Relay) (e f : EndpointState) → m ≡ r → f ≡ e → DriverOut m n → NextOut (joined e r) (joined f n) false
 next_first r m n e f same still out = relay_first still (subst (λ (k : Relay). DriverOut k n) same out)
 
+-- the endpoint has none, and a frame of the relay's own may be next
 pub next_behind : (r m n : Relay) (e f : EndpointState) → m ≡ r → ((l : LineView) (d : DriverView) → GivesOctets l d e f []) → HoldsNothingBack f → OneOut m n → NextOut (joined e r) (joined f n) false
 next_behind r m n e f same g none out = none_behind g none (subst (λ (k : Relay). OneOut k n) same out)
 
@@ -217,10 +224,12 @@ never_first r m n f true first same some none empty = let x = some refl in absur
 never_first r m n f false (inl a) same some none empty = let x = subst (λ (k : Relay). length k.to_line ≡ 0) same (none refl).0 in absurd (omega (arith, x, a))
 never_first r m n f false (inr b) same some none empty = absurd (b (subst (λ (k : Relay). k.inner.next ≡ None) same (none refl).1))
 
+-- the endpoint has none: where nothing waits for the line, nothing is held back
 pub idle_behind : (n : Relay) (f : EndpointState) (said : Bool) → HoldsNothingBack f → (said ≡ true → 0 < length n.to_line) → (said ≡ false → HoldsNothing n) → length n.to_line ≡ 0 → HoldsNothingBack f × HoldsNothing n
 idle_behind n f true none some idle empty = let x = some refl in absurd (omega (arith, x, empty))
 idle_behind n f false none some idle empty = (none, idle refl)
 
+-- a call that gave no octets, though there was room, left nothing held back
 pub idles : (n s : Relay) (f : EndpointState) (count room : ℕ) (more : Bool) → (more ≡ false → length n.to_line ≡ 0 → HoldsNothingBack f × HoldsNothing n) → (count ≡ 0 → s ≡ n) → (count ≡ 0 → 0 < room → length n.to_line ≡ 0) → count ≡ 0 → more ≡ false → 0 < room → HoldsNothingBack f × HoldsNothing s
 idles n s f count room more idle same empty none over some =
     let both = idle over (empty none some) in
@@ -238,6 +247,7 @@ all_steps : (x y : Both) → PairCalls x y → Steps x y
 all_steps x _ (no_call _) = no_step x
 all_steps x z (more_calls _ y _ before one) = steps_then x y z (all_steps x y before) (call_steps y z one)
 
+-- what holds of relay and endpoint beside one another holds of the two as one value
 pub pair_law : DataLaw → PairLaw
 unfolding DataLaw PairLaw
 pair_law law dialect n1 ds kinds x y same some high begins starts none calls = law dialect n1 ds kinds x y same some high begins starts none (all_steps x y calls)

@@ -31,6 +31,7 @@ reads_spelled_ones n1 s _ _ (frame _ b x f fs rest e k q) = All-cons (HasSpellin
 reads_spelled_ones n1 s _ _ (cut_short _ t e c) = All-nil (HasSpelling n1)
 reads_spelled_ones n1 s _ _ (other _ t fs rest e nf nh nc q) = reads_spelled_ones n1 t fs rest q
 
+-- of frames that have spellings the first have
 pub first_spelled : (n1 : ℕ) (fs gs : List Frame) → AreSpelled n1 (fs ++ gs) → AreSpelled n1 fs
 first_spelled n1 [] gs h = All-nil (HasSpelling n1)
 first_spelled n1 (f ∷ fs) gs h = All-cons (HasSpelling n1) f fs (All-head (HasSpelling n1) f (fs ++ gs) h) (first_spelled n1 fs gs (All-tail (HasSpelling n1) f (fs ++ gs) h))
@@ -39,6 +40,7 @@ last_spelled : (n1 : ℕ) (fs : List Frame) (f : Frame) → AreSpelled n1 (fs ++
 last_spelled n1 [] f h = All-head (HasSpelling n1) f [] h
 last_spelled n1 (g ∷ fs) f h = last_spelled n1 fs f (All-tail (HasSpelling n1) g (fs ++ f ∷ []) h)
 
+-- those that a deframer handed out have
 pub handed_spelled : (taken : List ℕ) (handed : List Frame) (d : Deframing) → Deframes taken handed d → AreSpelled d.n1 handed
 handed_spelled taken handed d k =
     let more = total_reading d.n1 (d.undecided ++ []) (octets_both d.undecided [] k.octets (λ i. lit< tt)) in
@@ -156,6 +158,7 @@ due_spelled role n1 p f high h = at (is_data role f.dlci p f) refl
         frames_spelled n1 f (carries role f.dlci p) high h (and_parts (is_kind f.kind Uih) (f.dlci == f.dlci) on).0
     at false e = All-cons (HasSpelling n1) f [] h (All-nil (HasSpelling n1))
 
+-- where those that came have, all that are due to the driver have
 pub all_due_spelled : (role : Role) (n1 : ℕ) (hops : List Hop) → n1 ≤ 32767 → AreSpelled n1 (came hops) → AreSpelled n1 (for_driver role hops)
 all_due_spelled role n1 [] high h = All-nil (HasSpelling n1)
 all_due_spelled role n1 (Passed (Came f) ∷ past) high h = All-append (HasSpelling n1) (for_driver role past) (due role (passes past) f) (all_due_spelled role n1 past high (first_spelled n1 (came past) (f ∷ []) h)) (due_spelled role n1 (passes past) f high (last_spelled n1 (came past) f h))

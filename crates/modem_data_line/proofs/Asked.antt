@@ -21,6 +21,7 @@ asked : (r0 r1 unfed : List ℕ) (n e0 e1 : ℕ) → r1 ≡ r0 ++ unfed → n �
 asked r0 r1 [] n e0 e1 cm c e = inr (e ∙ ap (λ (k : ℕ). counted_if_none 512 k e0) c)
 asked r0 r1 (y ∷ ys) n e0 e1 cm c e = inl (λ q. grown_differs r0 y ys (sym cm ∙ q))
 
+-- a read of the line, into a room of 512 octets, gave some, or had none and was counted
 pub is_asked : {X : Type 0} (r : X → List ℕ) (e : X → ℕ) (old new : X) (unfed : List ℕ) (n : ℕ) → r new ≡ r old ++ unfed → n ≡ length unfed
     → e new ≡ counted_if_none 512 n (e old) → IsAsked r e old new
 is_asked r e old new unfed n cm c em = asked (r old) (r new) unfed n (e old) (e new) cm c em
@@ -35,6 +36,7 @@ pub none_came : {X : Type 0} (e : X → ℕ) (old new : X) (n : ℕ) → e new �
 none_came e old new zero c none = c
 none_came e old new (suc n) c none = absurd (true≢false (sym (lt-ltb 0 (suc n) (omega (arith))) ∙ none))
 
+-- octets whose count is 0 are none
 pub none_left : (xs : List ℕ) → (length xs == 0) ≡ true → xs ≡ []
 none_left xs e = nil_from_length xs (eqb-true (length xs) 0 e)
 
@@ -50,6 +52,7 @@ asked_from : {X : Type 0} (r : X → List ℕ) (e : X → ℕ) (l m n k : X) →
 asked_from r e l m n k a b q (inl differs) = inl (λ z. differs (sym (ap r q) ∙ (z ∙ sym a)))
 asked_from r e l m n k a b q (inr one) = inr (ap e q ∙ (one ∙ ap one_more b))
 
+-- what was asked between two states was asked between two whose lines had given, and counted, as much
 pub asked_or : {X : Type 0} (r : X → List ℕ) (e : X → ℕ) (u v w x : DataLineState X) → r v.line ≡ r u.line → e v.line ≡ e u.line → x.line ≡ w.line → x.is_lost ≡ w.is_lost
     → (w.is_lost ≡ true) ⊎ IsAsked r e v.line w.line → (x.is_lost ≡ true) ⊎ IsAsked r e u.line x.line
 asked_or r e u v w x a b l lost (inl q) = inl (lost ∙ q)
@@ -65,6 +68,7 @@ asked_by_count r e u v w x n k c z some a b un l lost still asks none =
     let first = none_first v.relay.to_driver w.relay.to_driver (λ q. ap (λ (y : DataLineState _). y.relay.to_driver) (still q)) empty in
     asked_or r e u v w x a b l lost (asks first (un ∙ none))
 
+-- where none went on to the driver, and octets still wait for the relay, a frame is at hand there
 pub blocked_by_count : {X : Type 0} (v w x : DataLineState X) (n k : ℕ) → n ≡ min (length w.relay.to_driver) k → n ≡ 0 → 0 < k
     → x.unfed ≡ w.unfed → x.relay.outer ≡ w.relay.outer → (v.relay.to_driver ≢ [] → w ≡ v)
     → (v.relay.to_driver ≡ [] → w.unfed ≢ [] → w.relay.outer.next ≢ None) → x.unfed ≢ [] → x.relay.outer.next ≢ None

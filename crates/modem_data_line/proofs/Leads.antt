@@ -60,6 +60,7 @@ all_kind p q (a ∷ xs) on e =
 abbrev pub Leads : {X : Type 0} (r s : X → List ℕ) → List Hop → DataLineState X → DataLineState X → Type 0
 Leads r s hops v w = (role : Role) (n1 : ℕ) (ds : List ℕ) (b : Before) (past : List Hop) → LineFits r s role n1 ds b v past → LineFits r s role n1 ds b w (hops ++ past)
 
+-- the relay leads on by these hops, whatever passed before
 abbrev pub RelayLeads : List Hop → Relay → Relay → Type 0
 RelayLeads hops v w = (role : Role) (n1 : ℕ) (ds : List ℕ) (past : List Hop) → RelayFits role n1 ds v past → RelayFits role n1 ds w (hops ++ past)
 
@@ -93,9 +94,11 @@ leads_on : {X : Type 0} (r s : X → List ℕ) (a b : List Hop) (u v w : DataLin
 leads_on r s a b u v w one two role n1 ds e past h =
     subst (λ (hs : List Hop). LineFits r s role n1 ds e w hs) (sym (append_assoc b a past)) (two role n1 ds e (a ++ past) (one role n1 ds e past h))
 
+-- by no hop
 pub leads_none : {X : Type 0} (r s : X → List ℕ) (k : Hop → Bool) (v : DataLineState X) → LeadsBy r s k v v
 leads_none r s k v = record { hops = []; only = refl; leads = λ role n1 ds b past h. h }
 
+-- by some hops of a kind, and then others of it
 pub leads_then : {X : Type 0} (r s : X → List ℕ) (k : Hop → Bool) (u v w : DataLineState X) → LeadsBy r s k u v → LeadsBy r s k v w → LeadsBy r s k u w
 leads_then r s k u v w one two = record {
   hops = two.hops ++ one.hops;
@@ -103,11 +106,13 @@ leads_then r s k u v w one two = record {
   leads = leads_on r s one.hops two.hops u v w one.leads two.leads;
 }
 
+-- by hops of a kind, and so of any that is wider
 pub leads_kind : {X : Type 0} (r s : X → List ℕ) (k m : Hop → Bool) (v w : DataLineState X) → ((a : Hop) → k a ≡ true → m a ≡ true) → LeadsBy r s k v w → LeadsBy r s m v w
 leads_kind r s k m v w on h = record { hops = h.hops; only = all_kind k m h.hops on h.only; leads = h.leads }
 
 -- ## Kinds
 
+-- what is of the driver may go out, whether it is behind or not
 pub driver_goes : (behind : Bool) (a : Hop) → is_of_driver a ≡ true → may_go behind a ≡ true
 driver_goes true a e = e
 driver_goes false (Passed (Flowed f)) e = cc
@@ -121,6 +126,7 @@ driver_goes false (Handed o) e = e
 driver_goes false (Took o) e = e
 driver_goes false (Wrote o) e = e
 
+-- what may go out, and then what is of the driver
 pub then_driver : {X : Type 0} (r s : X → List ℕ) (behind : Bool) (u v w : DataLineState X) → LeadsBy r s (may_go behind) u v → LeadsBy r s is_of_driver v w → LeadsBy r s (may_go behind) u w
 then_driver r s behind u v w one two = leads_then r s (may_go behind) u v w one (leads_kind r s is_of_driver (may_go behind) v w (driver_goes behind) two)
 
@@ -137,6 +143,7 @@ by_relay r s k v w a is hops f h t o cm wt un rd st = record {
   leads = lift_out r s (a ∷ []) v w hops f h t cm (wt ∙ (sym (append-nil (s v.line)) ∙ ap (λ (xs : List ℕ). s v.line ++ xs) (sym o))) un rd st;
 }
 
+-- the line is lost
 pub loses : {X : Type 0} (r s : X → List ℕ) (v w : DataLineState X) → Hops v.relay w.relay (Passed Lost) → w ≡ record v { relay = w.relay; is_lost = true } → LeadsBy r s is_of_driver v w
 loses r s v w h e = by_relay r s is_of_driver v w (Passed Lost) refl h refl refl refl refl (ap (λ (x : DataLineState _). r x.line) e) (ap (λ (x : DataLineState _). s x.line) e)
     (ap (λ (x : DataLineState _). x.unfed) e) (ap (λ (x : DataLineState _). x.received) e) (ap (λ (x : DataLineState _). x.sent) e)
@@ -151,16 +158,19 @@ only_relay : {X : Type 0} (r s : X → List ℕ) (k : Hop → Bool) (v w : DataL
 only_relay r s k v w a is h f hd t o e = by_relay r s k v w a is h f hd t o (ap (λ (x : DataLineState _). r x.line) e) (ap (λ (x : DataLineState _). s x.line) e)
     (ap (λ (x : DataLineState _). x.unfed) e) (ap (λ (x : DataLineState _). x.received) e) (ap (λ (x : DataLineState _). x.sent) e)
 
+-- while the driver is behind, its next frame alone goes on
 pub readies_driver : {X : Type 0} (r s : X → List ℕ) (v w : DataLineState X) → DriverOut v.relay w.relay → w ≡ record v { relay = w.relay } → v.is_behind ≡ true → LeadsBy r s (may_go v.is_behind) v w
 readies_driver r s v w (still_there q) e b = same_relay r s (may_go v.is_behind) v w q e
 readies_driver r s v w (driver_out h) e b = subst (λ (k : Bool). LeadsBy r s (may_go k) v w) (sym b) (only_relay r s is_of_driver v w (Passed (Went h.frame)) refl h.leads refl refl refl refl e)
 
+-- while it isn't, any frame that may go next does
 pub readies_any : {X : Type 0} (r s : X → List ℕ) (v w : DataLineState X) → OneOut v.relay w.relay → w ≡ record v { relay = w.relay } → v.is_behind ≡ false → LeadsBy r s (may_go v.is_behind) v w
 readies_any r s v w (still_out q) e b = same_relay r s (may_go v.is_behind) v w q e
 readies_any r s v w (went_out h) e b = subst (λ (k : Bool). LeadsBy r s (may_go k) v w) (sym b) (only_relay r s is_outward v w (Passed (Went h.frame)) refl h.leads refl refl refl refl e)
 readies_any r s v w (flow_out h) e b = subst (λ (k : Bool). LeadsBy r s (may_go k) v w) (sym b) (only_relay r s is_outward v w (Passed (Flowed h.frame)) refl h.leads refl refl refl refl e)
 readies_any r s v w (left_out h) e b = subst (λ (k : Bool). LeadsBy r s (may_go k) v w) (sym b) (only_relay r s is_outward v w (Passed (Left h.frame)) refl h.leads refl refl refl refl e)
 
+-- the line takes octets of the relay
 pub writes_once : {X : Type 0} (r s : X → List ℕ) (v w : DataLineState X) → WritesOn (s v.line) (s w.line) v.relay w.relay → r w.line ≡ r v.line → w ≡ record v { line = w.line; relay = w.relay } → LeadsBy r s is_of_driver v w
 unfolding Hops
 writes_once r s v w h cm e = record {
@@ -188,6 +198,7 @@ line_passes behind (Handed o) e = cc
 line_passes behind (Took o) e = cc
 line_passes behind (Wrote o) e = cc
 
+-- what may go out may pass
 pub goes_passes : (behind : Bool) (a : Hop) → may_go behind a ≡ true → may_pass behind a ≡ true
 goes_passes behind (Fed o) e = refl
 goes_passes behind (Handed o) e = refl
@@ -264,21 +275,26 @@ hands_driver r s v w octets h rd e = record {
       (ap (λ (x : DataLineState _). x.sent) e ∙ sym (append-nil v.sent));
 }
 
+-- what is of the driver may pass
 pub of_driver_passes : (behind : Bool) (a : Hop) → is_of_driver a ≡ true → may_pass behind a ≡ true
 of_driver_passes behind a e = goes_passes behind a (driver_goes behind a e)
 
+-- so what leads by that alone leads by what may pass
 pub lost_passes : {X : Type 0} (r s : X → List ℕ) (behind : Bool) (v w : DataLineState X) → LeadsBy r s is_of_driver v w → LeadsBy r s (may_pass behind) v w
 lost_passes r s behind v w h = leads_kind r s is_of_driver (may_pass behind) v w (of_driver_passes behind) h
 
+-- and so does what leads by what may go out
 pub went_passes : {X : Type 0} (r s : X → List ℕ) (behind : Bool) (v w : DataLineState X) → LeadsBy r s (may_go behind) v w → LeadsBy r s (may_pass behind) v w
 went_passes r s behind v w h = leads_kind r s (may_go behind) (may_pass behind) v w (goes_passes behind) h
 
+-- the line failed in a read, when nothing waited for the relay, and gave nothing
 pub loses_reading : {X : Type 0} (r s : X → List ℕ) (v w : DataLineState X) → v.unfed ≡ [] → w.unfed ≡ [] → Hops v.relay w.relay (Passed Lost) → r w.line ≡ r v.line ++ w.unfed → s w.line ≡ s v.line
     → w ≡ record v { line = w.line; relay = w.relay; unfed = w.unfed; is_lost = true } → LeadsBy r s (may_pass v.is_behind) v w
 loses_reading r s v w none still h cm wt e = lost_passes r s v.is_behind v w
     (by_relay r s is_of_driver v w (Passed Lost) refl h refl refl refl refl (cm ∙ (ap (λ (xs : List ℕ). r v.line ++ xs) still ∙ append-nil (r v.line))) wt
     (still ∙ sym none) (ap (λ (x : DataLineState _). x.received) e) (ap (λ (x : DataLineState _). x.sent) e))
 
+-- what goes out, and then passes, and passes again, passes
 pub passes_in : {X : Type 0} (r s : X → List ℕ) (u v w x : DataLineState X) → LeadsBy r s (may_go u.is_behind) u v → LeadsBy r s (may_pass v.is_behind) v w
     → LeadsBy r s (may_pass w.is_behind) w x → v.is_behind ≡ u.is_behind → w.is_behind ≡ v.is_behind → LeadsBy r s (may_pass u.is_behind) u x
 passes_in r s u v w x one two three e f =
@@ -292,6 +308,7 @@ passes_in r s u v w x one two three e f =
 flag_leads : {X : Type 0} (r s : X → List ℕ) (hops : List Hop) (v w : DataLineState X) (k : Bool) → Leads r s hops (record v { is_behind = k }) w → Leads r s hops v w
 flag_leads r s hops v w k on role n1 ds b past h = on role n1 ds b past (record { relay_fits = h.relay_fits; came = h.came; went = h.went; read_are = h.read_are; sent_are = h.sent_are })
 
+-- hops of the driver's lead from a line whose driver is taken to be behind, and so from this one
 pub writes_first : {X : Type 0} (r s : X → List ℕ) (v w : DataLineState X) → LeadsBy r s is_of_driver (record v { is_behind = true }) w → LeadsBy r s is_of_driver v w
 writes_first r s v w h = record { hops = h.hops; only = h.only; leads = flag_leads r s h.hops v w true h.leads }
 
@@ -325,10 +342,12 @@ take_some : (n : ℕ) (octets : List ℕ) → take n octets ≢ [] → 0 < n
 take_some zero octets some = absurd (some refl)
 take_some (suc n) octets some = omega (arith)
 
+-- the relay took the first of the octets that were offered, or none of them
 pub takes_octets : {X : Type 0} (r s : X → List ℕ) (v w : DataLineState X) (n : ℕ) (octets : List ℕ) → n ≤ length octets → (n ≡ 0 → w.relay ≡ v.relay) → (0 < n → Hops v.relay w.relay (Took (take n octets)))
     → w.sent ≡ v.sent ++ take n octets → w ≡ record v { relay = w.relay; sent = w.sent; is_behind = w.is_behind } → TakesOn r s (take n octets) v w
 takes_octets r s v w n octets few none some st e = takes_these r s v w (take n octets) (λ q. none (take_none n octets few q)) (λ q. some (take_some n octets q)) st e
 
+-- what is of the driver goes out, its octets are taken, and then what may go out does
 pub takes_by : {X : Type 0} (r s : X → List ℕ) (u v w x : DataLineState X) (octets : List ℕ) → LeadsBy r s is_of_driver u v → TakesOn r s octets v w
     → LeadsBy r s (may_go w.is_behind) w x → x.is_behind ≡ w.is_behind → TakesBy r s octets u x
 unfolding TakesOn
@@ -348,6 +367,7 @@ counted_fits : {X : Type 0} (r s : X → List ℕ) (role : Role) (n1 : ℕ) (ds 
 counted_fits r s role n1 ds b past u v e h =
     subst (λ (x : DataLineState _). LineFits r s role n1 ds b x past) (sym e) (record { relay_fits = h.relay_fits; came = h.came; went = h.went; read_are = h.read_are; sent_are = h.sent_are })
 
+-- only counts change
 pub counted_leads : {X : Type 0} (r s : X → List ℕ) (k : Hop → Bool) (u v : DataLineState X)
     → v ≡ record u { calls = v.calls; failures = v.failures; empty_reads = v.empty_reads; stalled_writes = v.stalled_writes } → LeadsBy r s k u v
 counted_leads r s k u v e = record { hops = []; only = refl; leads = λ role n1 ds b past h. counted_fits r s role n1 ds b past u v e h }
@@ -361,6 +381,7 @@ counted_round r s u v w x a h c =
     let k = may_pass u.is_behind in
     leads_then r s k u w x (leads_then r s k u v w (counted_leads r s k u v a) (subst (λ (y : Bool). LeadsBy r s (may_pass y) v w) (ap (λ (y : DataLineState _). y.is_behind) a) h)) (counted_leads r s k w x c)
 
+-- counted before and behind, octets are taken as without that
 pub counted_takes : {X : Type 0} (r s : X → List ℕ) (u v w x : DataLineState X) (octets : List ℕ)
     → v ≡ record u { calls = v.calls; failures = v.failures; empty_reads = v.empty_reads; stalled_writes = v.stalled_writes }
     → TakesBy r s octets v w
@@ -375,6 +396,7 @@ counted_takes r s u v w x octets a h c = record {
 
 -- ## Calls of the lanes
 
+-- a call of the lanes is one hop of the line
 pub lanes_lead : {X : Type 0} (r s : X → List ℕ) (v w : DataLineState X) (a : Pass) → Hops v.relay w.relay (Passed a) → w ≡ record v { relay = w.relay } → Leads r s (Passed a ∷ []) v w
 unfolding Hops
 lanes_lead r s v w a h e = lift_out r s (Passed a ∷ []) v w h refl refl refl (ap (λ (x : DataLineState _). r x.line) e)

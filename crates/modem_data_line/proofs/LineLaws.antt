@@ -26,6 +26,7 @@ begins r s role n1 ds line relay h = record {
   fits = record { relay_fits = h; came = sym (append-nil (r line)); went = sym (append-nil (s line)); read_are = refl; sent_are = refl };
 }
 
+-- any calls of a new line with a new relay have one past
 pub have_one_past : {X : Type 0} (r s : X → List ℕ) → HaveOnePast r s
 unfolding HaveOnePast
 have_one_past r s role n1 ds line relay v h calls = calls_on r s role n1 ds (before_of r s line) (new_data_line line relay) v (begins r s role n1 ds line relay h) calls
@@ -33,6 +34,7 @@ have_one_past r s role n1 ds line relay v h calls = calls_on r s role n1 ds (bef
 from_none : (line since before : List ℕ) → before ≡ [] → line ≡ since → line ≡ before ++ since
 from_none line since before none e = e ∙ ap (λ (xs : List ℕ). xs ++ since) (sym none)
 
+-- a session over it got the frames of the line but data, and its own went to the line
 pub tells_session : {X : Type 0} (r s : X → List ℕ) → IsDeframed → TellsSession r s
 unfolding TellsSession
 tells_session r t law n1 ds before b s v past hops high same none_in none_out read sent_all fits line = frames_told law n1 ds b s v.relay hops past high fits line.relay_fits same

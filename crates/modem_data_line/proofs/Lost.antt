@@ -7,6 +7,7 @@ use Rattle.serial_line.specs.Counts.{one_more}
 use Rattle.modem_data_line.specs.DataLines.{DataLineState}
 use Rattle.modem_data_line.specs.Moving.{IsLostBy, IsOffered, NothingGoes}
 
+-- nothing happens to it
 pub lost_none : {X : Type 0} (f : X → ℕ) (v : DataLineState X) → IsLostBy f v v
 lost_none f v = record { more = omega (arith); by_fault = λ e. inl e }
 
@@ -14,6 +15,7 @@ lost_none f v = record { more = omega (arith); by_fault = λ e. inl e }
 pub lost_sound : {X : Type 0} (f : X → ℕ) (v w : DataLineState X) → f w.line ≡ f v.line → w.is_lost ≡ v.is_lost → IsLostBy f v w
 lost_sound f v w e q = record { more = omega (arith, e); by_fault = λ l. inl (sym q ∙ l) }
 
+-- a call of the line failed
 pub lost_fault : {X : Type 0} (f : X → ℕ) (v w : DataLineState X) → f w.line ≡ f v.line + 1 → IsLostBy f v w
 lost_fault f v w e = record { more = omega (arith, e); by_fault = λ l. inr (omega (arith, e)) }
 
@@ -25,6 +27,7 @@ then_fault : {P Q : Type 0} (a b c : ℕ) → a ≤ b → b ≤ c → (P → Q �
 then_fault a b c x y on (inl p) = either_fault a b c x y (on p)
 then_fault a b c x y on (inr l) = inr (omega (arith, x, l))
 
+-- it is lost by one of two steps, or by neither
 pub lost_then : {X : Type 0} (f : X → ℕ) (u v w : DataLineState X) → IsLostBy f u v → IsLostBy f v w → IsLostBy f u w
 lost_then f u v w one two = record {
   more = let a = one.more in let b = two.more in omega (arith, a, b);
@@ -55,9 +58,11 @@ offered_stuck s e u v x (inl lost) l q r stuck = inl (q ∙ lost)
 offered_stuck s e u v x (inr (inl offered)) l q r stuck = inr (subst (λ k. IsOffered s e u.line k) (sym l) offered)
 offered_stuck s e u v x (inr (inr nothing)) l q r stuck = absurd (refutes x.relay (subst (λ (k : Relay). NothingGoes true k) (sym r) nothing) stuck)
 
+-- a driver that offered some octets, none of which was taken, is behind
 pub behind_of : (n len : ℕ) → n ≡ 0 → 0 < len → nat_lt n len ≡ true
 behind_of n len e some = lt-ltb n len (omega (arith, e, some))
 
+-- what was offered between two states was offered between two that are the same
 pub offered_or : {X : Type 0} (s : X → List ℕ) (e : X → ℕ) (k l m n : X) (was now : Bool) → l ≡ k → n ≡ m → now ≡ was → (was ≡ true) ⊎ IsOffered s e l m → (now ≡ true) ⊎ IsOffered s e k n
 offered_or s e k l m n was now a b c (inl lost) = inl (c ∙ lost)
 offered_or s e k l m n was now a b c (inr offered) = inr (subst (λ (y : _). IsOffered s e y n) a (subst (λ (y : _). IsOffered s e l y) (sym b) offered))

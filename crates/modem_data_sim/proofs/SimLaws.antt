@@ -12,6 +12,7 @@ use Rattle.modem_data.specs.Switching.{is_connect}
 use Rattle.modem_data_endpoint.proofs.Besides.{behind_told}
 use Rattle.modem_data_sim.specs.SimLaws.{RepeatsNone, TellsSim}
 
+-- a simulated modem behind a relay got the frames of the line but data, and its own went to the line
 pub tells_sim : {X : Type 0} (r s : X → List ℕ) → IsDeframed → TellsSim r s
 unfolding TellsSim
 tells_sim r t law n1 ds before e s past hops high same fits line =
@@ -36,5 +37,6 @@ no_connect [] is = cc
 no_connect (a ∷ []) is = cc
 no_connect (a ∷ t ∷ rest) is = first_letter a t rest (or_cases (a == 65) (a == 97) (and_parts (is_letter_a a) (is_letter_t t) is).0)
 
+-- a line that a modem repeats, though it isn't to repeat all, is no CONNECT
 pub repeats_none : RepeatsNone
 repeats_none m line is = no_connect line (and_parts (echoes_as m.words) (begins_with_at line) is).1

@@ -83,6 +83,7 @@ wrote_more first old new text written n was is =
     is ∙ ap (λ (x : List ℕ). x ++ take n (drop written text)) was ∙ append_assoc first (take written text) (take n (drop written text))
     ∙ ap (λ (x : List ℕ). first ++ x) (sym (take-add written n text))
 
+-- a write takes some of the text, or none, and the entry is still under way
 pub wrote : (old new : LineView) (was now : Entry) (n : ℕ) → was.written < 10 → n ≤ length (take (10 - was.written) (drop was.written entry_text))
     → new.sent ≡ old.sent ++ take n (take (10 - was.written) (drop was.written entry_text)) → new.received ≡ old.received
     → new.calls ≡ one_more old.calls → new.failures ≡ old.failures
@@ -113,6 +114,7 @@ wrote old new was now n few short sent received calls failures stalled empty is 
       sound = failures ∙ h.sound;
     }
 
+-- the same of the entry as the code sees it
 pub wrote_as : (old new : LineView) (seen was now : Entry) (n : ℕ) → seen ≡ was → was.written < 10
     → n ≤ length (take (10 - seen.written) (drop seen.written entry_text))
     → new.sent ≡ old.sent ++ take n (take (10 - seen.written) (drop seen.written entry_text)) → new.received ≡ old.received
@@ -129,6 +131,7 @@ said_whole : (written : ℕ) (read : List ℕ) → (read ≡ []) ⊎ (written �
 said_whole written read (inl none) = inl none
 said_whole written read (inr all) = inr (subst (λ (n : ℕ). take n entry_text ≡ entry_text) (sym all) refl)
 
+-- a call that fails ends the entry in LineFailed
 pub failed : (old new : LineView) (was : Entry) → new.sent ≡ old.sent → new.received ≡ old.received
     → new.calls ≡ one_more old.calls → new.failures ≡ old.failures + 1 → Fails old new was
 unfolding Fails
@@ -144,16 +147,19 @@ failed old new was sent received calls failures made first h turns few = record 
   means = h.none;
 }
 
+-- what holds in any case holds where a call was refused
 pub on_err : {T E P : Type 0} (r : Result T E) → P → OnErr r P
 on_err (Ok value) p = tt
 on_err (Err why) p = p
 
 -- ## Octets come
 
+-- an octet that ends a line is seen with the code that the line is
 pub sees_line : (kept : List ℕ) (octet : ℕ) (line : List ℕ) (code : Option Final) → ((octets : List ℕ) → HasRead kept octets → lines (octets ++ octet ∷ []) ≡ lines octets ++ line ∷ [])
     → code ≡ final_of line → SeesCode kept octet code
 sees_line kept octet line code past is = record { given = line ∷ []; one = inr (line, refl); past = past; code_is = is }
 
+-- a read that gives nothing leaves the entry under way
 pub none_came : (old new : LineView) (was : Entry) (o : Option ℕ) → o ≡ None → new.sent ≡ old.sent → new.received ≡ old.received ++ octet_in o
     → new.calls ≡ one_more old.calls → new.failures ≡ old.failures → new.empty_reads ≡ counted_if_none 1 (length (octet_in o)) old.empty_reads → new.stalled_writes ≡ old.stalled_writes → EntryGoesOn old new was was None
 unfolding EntryGoesOn
@@ -207,6 +213,7 @@ on_from old new was now octet given k none made first h = record {
   sound = k.failures ∙ h.sound;
 }
 
+-- so does an octet that ends no line
 pub no_line : (old new : LineView) (was now : Entry) (octet : ℕ) → OneCame old new was now octet [] → EntryGoesOn old new was now None
 unfolding EntryGoesOn
 no_line old new was now octet k made first h = on_from old new was now octet [] k refl made first h
@@ -281,6 +288,7 @@ comes_by old new was now octet line (Some (Named n)) e k made first h =
     (λ read q turns f. record { whole = refl; line = line; other = λ ok. true≢false (ap (λ (l : List ℕ). is_good (final_of l)) (sym ok) ∙ ap is_good e); ended = q })
     (λ f q. q) (ap is_some e) made first h
 
+-- an octet that ends a line ends the entry where that is a final code
 pub one_line : (old new : LineView) (was now : Entry) (octet : ℕ) (line : List ℕ) → OneCame old new was now octet (line ∷ []) → EntryGoesOn old new was now (final_of line)
 unfolding EntryGoesOn
 one_line old new was now octet line k made first h = comes_by old new was now octet line (final_of line) refl k made first h
@@ -292,6 +300,7 @@ comes_from old new was now octet given (inl none) k =
 comes_from old new was now octet given (inr one) k =
     subst (λ (g : List (List ℕ)). OneCame old new was now octet g → EntryGoesOn old new was now (code_in g)) (sym one.1) (one_line old new was now octet one.0) k
 
+-- any octet that comes ends the entry where a final code ends with it, and else leaves it under way
 pub one_came : (old new : LineView) (seen was now : Entry) (o : Option ℕ) (octet : ℕ) (code : Option Final) → seen ≡ was → o ≡ Some octet → was.written ≡ 10
     → now.written ≡ seen.written → new.sent ≡ old.sent → new.received ≡ old.received ++ octet_in o → new.calls ≡ one_more old.calls → new.failures ≡ old.failures
     → new.empty_reads ≡ counted_if_none 1 (length (octet_in o)) old.empty_reads → new.stalled_writes ≡ old.stalled_writes
@@ -313,6 +322,7 @@ one_came old new seen was now o octet code same is whole written sent came calls
 
 -- ## From the beginning to the end
 
+-- an entry that has made no call is under way
 pub begun : (first : LineView) → IsUnderWay 0 first first entry_begun
 begun first = record {
   read = [];
@@ -328,6 +338,7 @@ begun first = record {
   sound = refl;
 }
 
+-- one that has made all its calls without a final code ends in NoAnswer
 pub none_answered : (made turns : ℕ) (first now : LineView) (entry : Entry) → IsUnderWay made first now entry → made ≡ turns → IsEntry turns first now NoAnswer
 none_answered made turns first now entry h all = subst (λ (n : ℕ). IsEntry n first now NoAnswer) all record {
   sent = take entry.written entry_text;
@@ -341,26 +352,31 @@ none_answered made turns first now entry h all = subst (λ (n : ℕ). IsEntry n 
   means = record { all_made = h.counted; with_room = h.with_room; none = h.none };
 }
 
+-- after one call more without a final code it is under way
 pub goes_on : (made : ℕ) (first old new : LineView) (was now : Entry) (code : Option Final) → IsUnderWay made first old was
     → EntryGoesOn old new was now code → code ≡ None → IsUnderWay (made + 1) first new now
 unfolding EntryGoesOn
 goes_on made first old new was now code h goes is = subst (Comes made first new now) is (goes made first h)
 
+-- a call in which a final code came ends it in what the code says
 pub ends_by : (made turns : ℕ) (first old new : LineView) (was now : Entry) (o : Option Final) (code : Final) → IsUnderWay made first old was
     → EntryGoesOn old new was now o → o ≡ Some code → made < turns → IsEntry turns first new (answer_by code)
 unfolding EntryGoesOn
 ends_by made turns first old new was now o code h goes is few = subst (Comes made first new now) is (goes made first h) turns (omega (arith, few))
 
+-- and a call that failed in LineFailed
 pub ends_failed : (made turns : ℕ) (first old new : LineView) (was : Entry) → IsUnderWay made first old was
     → Fails old new was → made < turns → IsEntry turns first new LineFailed
 unfolding Fails
 ends_failed made turns first old new was h fails few = fails made first h turns (omega (arith, few))
 
+-- where it succeeds its answer is Entered
 pub says_entered : {T E : Type 0} (turns : ℕ) (first now : LineView) (said : EntryAnswer) (r : Result T E) → IsEntry turns first now said
     → OnOk r (said ≡ Entered) → OnOk r (IsEntry turns first now Entered)
 says_entered turns first now said (Ok x) h is = subst (IsEntry turns first now) is h
 says_entered turns first now said (Err why) h is = tt
 
+-- where it is refused the refusal names its answer
 pub says_why : {T : Type 0} (turns : ℕ) (first now : LineView) (said : EntryAnswer) (r : Result T EntryError) → IsEntry turns first now said
     → IfErr r (λ why. said ≡ entry_answer why) → IfErr r (λ why. IsEntry turns first now (entry_answer why))
 says_why turns first now said (Ok x) h is = tt

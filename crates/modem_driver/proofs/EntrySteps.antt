@@ -49,6 +49,7 @@ wrote_as first old new seen was n same more short sent received h =
     wrote first old new seen n (subst (λ (e : EntryView). e.written < length e.text) (sym same) more) (offered seen.text seen.written n short)
     (sent ∙ ap (λ (l : List ℕ). old.sent ++ take n l) (take_rest seen.text seen.written)) received (subst (IsAsked first old) (sym same) h)
 
+-- a step that says Moved leads to an entry that sent what the line took more
 pub wrote_some : (old new : LineView) (seen was : EntryView) (n : ℕ) → seen ≡ was → was.written < length was.text
     → n ≤ length (take (length seen.text - seen.written) (drop seen.written seen.text))
     → new.sent ≡ old.sent ++ take n (take (length seen.text - seen.written) (drop seen.written seen.text)) → new.received ≡ old.received
@@ -56,6 +57,7 @@ pub wrote_some : (old new : LineView) (seen was : EntryView) (n : ℕ) → seen 
 unfolding EntryStepsOn
 wrote_some old new seen was n same more short sent received first h = wrote_as first old new seen was n same more short sent received h
 
+-- and so does one that says Idle
 pub wrote_none : (old new : LineView) (seen was : EntryView) (n : ℕ) → seen ≡ was → was.written < length was.text
     → n ≤ length (take (length seen.text - seen.written) (drop seen.written seen.text))
     → new.sent ≡ old.sent ++ take n (take (length seen.text - seen.written) (drop seen.written seen.text)) → new.received ≡ old.received
@@ -157,6 +159,7 @@ none_came old new was o is sent more first h = record {
   none = h.none;
 }
 
+-- the CLD frame on the line: eight octets
 pub closes_down : spelled close_down_frame ≡ 0xF9 ∷ 0x03 ∷ 0xEF ∷ 0x05 ∷ 0xC3 ∷ 0x01 ∷ 0xF2 ∷ 0xF9 ∷ []
 unfolding body_of check_octet_of
 closes_down = refl

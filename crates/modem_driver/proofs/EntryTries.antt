@@ -27,6 +27,7 @@ hand_wants look s says e b past h = e ∙ ap (list_any wants_time) (sym h.inside
 
 -- ## Asking
 
+-- before the first step nothing has answered
 pub asking : (line : LineView) (text : List ℕ) (entry : EntryView) (count : ℕ) → entry.text ≡ text → IsAsked line line entry → IsAsking line line text 0 entry count count
 asking line text entry count is asked = record { asked = asked; text_is = is; sound = refl; made_is = omega arith; keeps_up = omega arith }
 
@@ -44,29 +45,34 @@ goes_on first old new text made was now a b c h asked same sound counted more =
       keeps_up = omega (arith, keeps, counted, more);
     }
 
+-- after a step that says Moved nothing has
 pub on_moved : (first old new : LineView) (text : List ℕ) (made : ℕ) (was now : EntryView) (a b c : ℕ) (said : EntryStep) → said ≡ Moved → IsAsking first old text made was a b → EntryStepsOn old new was now said
     → now.text ≡ was.text → new.failures ≡ old.failures → new.calls ≡ one_more old.calls → c ≡ one_more b → IsAsking first new text (made + 1) now a c
 unfolding EntryStepsOn
 on_moved first old new text made was now a b c said is h steps same sound counted more =
     goes_on first old new text made was now a b c h (subst (StepsTo first new now) is (steps first h.asked)) same sound counted more
 
+-- nor after one that says Idle
 pub on_idle : (first old new : LineView) (text : List ℕ) (made : ℕ) (was now : EntryView) (a b c : ℕ) (said : EntryStep) → said ≡ Idle → IsAsking first old text made was a b → EntryStepsOn old new was now said
     → now.text ≡ was.text → new.failures ≡ old.failures → new.calls ≡ one_more old.calls → c ≡ one_more b → IsAsking first new text (made + 1) now a c
 unfolding EntryStepsOn
 on_idle first old new text made was now a b c said is h steps same sound counted more =
     goes_on first old new text made was now a b c h (subst (StepsTo first new now) is (steps first h.asked)) same sound counted more
 
+-- a step that says Answered: this code answered the text
 pub answered : (first old new : LineView) (text : List ℕ) (made : ℕ) (was now : EntryView) (a b : ℕ) (said : EntryStep) (code : Final) → said ≡ Answered code → IsAsking first old text made was a b → EntryStepsOn old new was now said
     → now.text ≡ was.text → IsAnswered first new text code
 unfolding EntryStepsOn
 answered first old new text made was now a b said code is h steps same =
     subst (λ (t : List ℕ). IsAnswered first new t code) (same ∙ h.text_is) (subst (StepsTo first new now) is (steps first h.asked))
 
+-- where no step says so the text wasn't answered
 pub unanswered : (first now : LineView) (text : List ℕ) (made : ℕ) (entry : EntryView) (a b : ℕ) → IsAsking first now text made entry a b → IsUnanswered first now text
 unanswered first now text made entry a b h = record { entry = entry; text_is = h.text_is; asked = h.asked }
 
 -- ## What patience is asked
 
+-- before any call of the line patience needn't be asked
 pub asks_none : (line : LineView) (a i : ℕ) → AsksEach 0 line line a a i i
 asks_none line a i =
     record { each = λ below. record { calls = omega arith; reads = omega arith; writes = omega arith; asked = omega arith; each = omega arith; idle = refl } }
@@ -140,12 +146,14 @@ asks_answered but first old new a b i j said code is moves calls h =
     let m : MovesSome old new = subst (λ (s : EntryStep). MovesBy s old new) is moves in
     asks_then but (but + 1) 0 0 0 first old new a b b i j j (omega arith) (counts_on _ _ calls) (stays_at _ _ m.reads) (stays_at _ _ m.writes) (stays_at _ _ refl) (stays_at _ _ refl) h
 
+-- patience was asked after a step that says Moved
 pub asks_on_moved : (but : ℕ) (first old new : LineView) (a b c i j k : ℕ) (said : EntryStep) (m : Bool) → said ≡ Moved → m ≡ true → MovesBy said old new → new.calls ≡ one_more old.calls
     → c ≡ one_more b → k ≡ (if m then j else one_more j) → AsksEach but first old a b i j → AsksEach but first new a c i k
 asks_on_moved but first old new a b c i j k said m is so moves calls asked idle h =
     let s : MovesSome old new = subst (λ (s : EntryStep). MovesBy s old new) is moves in
     asks_moved but first old new a b c i j k s.reads s.writes calls asked (idle ∙ ap (λ (x : Bool). if x then j else one_more j) so) h
 
+-- it was asked after one that says Idle, and told that nothing moved
 pub asks_on_idle : (but : ℕ) (first old new : LineView) (a b c i j k : ℕ) (said : EntryStep) (m : Bool) → said ≡ Idle → m ≡ false → MovesBy said old new → new.calls ≡ one_more old.calls
     → c ≡ one_more b → k ≡ (if m then j else one_more j) → AsksEach but first old a b i j → AsksEach but first new a c i k
 asks_on_idle but first old new a b c i j k said m is so moves calls asked idle h =
@@ -201,6 +209,7 @@ pub asks_behind : (m n more : ℕ) (first mid now : LineView) (a b d c i j l k :
 asks_behind m n more first mid now a b d c i j l k enough asked idle x y =
     asks_both m n more first mid now a b c i j k enough x (subst (λ (n1 : ℕ). AsksEach n mid now n1 c j k) asked (subst (λ (n2 : ℕ). AsksEach n mid now d c n2 k) idle y))
 
+-- where it was asked after each call but few, so it was but for more
 pub asks_at_most : (m more : ℕ) (first now : LineView) (a b i j : ℕ) → m ≤ more → AsksEach m first now a b i j → AsksEach more first now a b i j
 asks_at_most m more first now a b i j enough h = asks_both m 0 more first now now a b b i j j (omega (arith, enough)) h (asks_none now b j)
 
@@ -209,6 +218,7 @@ asks_at_most m more first now a b i j enough h = asks_both m 0 more first now no
 equal : (m n : ℕ) → (m == n) ≡ true → m ≡ n
 equal m n h = search rules
 
+-- once all of a text is written it was sent
 pub sent_whole : (first now : LineView) (octets : List ℕ) (made : ℕ) (entry : EntryView) (a b : ℕ) → IsAsking first now octets made entry a b → (entry.written == length entry.text) ≡ true → IsSent first now octets
 sent_whole first now octets made entry a b h whole =
     let all : entry.written ≡ length entry.text = equal entry.written (length entry.text) whole in
@@ -228,9 +238,11 @@ none_answers first now text made entry a b said code h unsent none is = subst Is
     below : (m n : ℕ) → m ≤ n → (m == n) ≡ false → m < n
     below m n few other = grind arith
 
+-- a text that was answered was sent
 pub sent_by : (first now : LineView) (octets : List ℕ) (code : Final) → IsAnswered first now octets code → IsSent first now octets
 sent_by first now octets code h = record { sent_are = h.sent_are; read = h.read; read_are = h.read_are }
 
+-- of a text that nothing answered a beginning was sent
 pub partly_sent : (first now : LineView) (octets : List ℕ) (made : ℕ) (entry : EntryView) (a b : ℕ) → IsAsking first now octets made entry a b → IsPartlySent first now octets
 partly_sent first now octets made entry a b h = record {
   begun = take entry.written octets;
@@ -243,9 +255,11 @@ partly_sent first now octets made entry a b h = record {
   };
 }
 
+-- at first no octets were sent
 pub sent_none : (line : LineView) → IsSent line line []
 sent_none line = record { sent_are = sym (append-nil line.sent); read = []; read_are = sym (append-nil line.received) }
 
+-- a read sends none
 pub sent_none_more : (first old new : LineView) (o : Option ℕ) → new.sent ≡ old.sent → new.received ≡ old.received ++ octet_in o → IsSent first old [] → IsSent first new []
 sent_none_more first old new o sent came h = record {
   sent_are = sent ∙ h.sent_are;
@@ -253,6 +267,7 @@ sent_none_more first old new o sent came h = record {
   read_are = came ∙ (ap (λ (s : List ℕ). s ++ octet_in o) h.read_are ∙ append_assoc first.received h.read (octet_in o));
 }
 
+-- octets that are sent behind others
 pub sent_both : (first mid now : LineView) (xs ys : List ℕ) → IsSent first mid xs → IsSent mid now ys → IsSent first now (xs ++ ys)
 sent_both first mid now xs ys a b = record {
   sent_are = b.sent_are ∙ (ap (λ (s : List ℕ). s ++ ys) a.sent_are ∙ append_assoc first.sent xs ys);
@@ -283,9 +298,11 @@ flags_behind (suc m) n =
     let one : suc (m + n) ≡ suc m + n = omega arith in
     subst (λ (k : ℕ). flags k ≡ flags (suc m) ++ flags n) one (ap (λ (xs : List ℕ). 0xF9 ∷ xs) (flags_behind m n))
 
+-- one flag more was sent
 pub flag_more : (first mid now : LineView) (count : ℕ) → IsSent first mid (flags count) → IsSent mid now (0xF9 ∷ []) → IsSent first now (flags (count + 1))
 flag_more first mid now count a b = subst (IsSent first now) (sym (flags_behind count 1)) (sent_both first mid now (flags count) (0xF9 ∷ []) a b)
 
+-- a part of one flag more is a part of the flags
 pub flag_partly : (first mid now : LineView) (count all : ℕ) → count < all → IsSent first mid (flags count) → IsPartlySent mid now (0xF9 ∷ []) → IsPartlySent first now (flags all)
 flag_partly first mid now count all less a p =
     let rest = all - (count + 1) in
@@ -293,16 +310,19 @@ flag_partly first mid now count all less a p =
     let whole : flags all ≡ flags count ++ (0xF9 ∷ flags rest) = subst (λ (n : ℕ). flags n ≡ flags count ++ (0xF9 ∷ flags rest)) sum (flags_behind count (suc rest)) in
     sent_partly first mid now (flags count) (0xF9 ∷ []) (flags rest) (flags all) whole a p
 
+-- N1 and three flags are the fill
 pub flags_all : (first now : LineView) (count n1 : ℕ) → count ≡ n1 + 3 → IsSent first now (flags count) → IsSent first now (fill n1)
 flags_all first now count n1 is a = subst (λ (n : ℕ). IsSent first now (flags n)) is a
 
 -- ## The fill and the CLD frame
 
+-- fill and CLD frame were sent, and what came then was read
 pub closed_by : (first mid later now : LineView) (n1 : ℕ) → IsSent first mid (fill n1) → IsSent mid later (spelled close_down_frame) → IsSent later now [] → IsSent first now (closing n1)
 closed_by first mid later now n1 a b c =
     let both = sent_both first mid later (fill n1) (spelled close_down_frame) a b in
     subst (IsSent first now) (append-nil (closing n1)) (sent_both first later now (closing n1) [] both c)
 
+-- the same where the wait behind them was done
 pub closed_if : (first mid later now : LineView) (n1 : ℕ) (cld : List ℕ) (r : Result Unit EntryError) → cld ≡ spelled close_down_frame → IsSent first mid (fill n1) → IsSent mid later cld
     → OnOk r (IsSent later now []) → OnOk r (IsSent first now (closing n1))
 closed_if first mid later now n1 cld (Ok x) is a b c = closed_by first mid later now n1 a (subst (IsSent mid later) is b) c
@@ -315,10 +335,12 @@ waited_if (Err error.Refused) W done refused none sound = absurd (none refl)
 waited_if (Err error.NoAnswer) W done refused none sound = refused refl
 waited_if (Err error.Line) W done refused none sound = absurd (sound refl)
 
+-- a beginning of the fill is one of fill and CLD frame
 pub fill_partly : (first now : LineView) (n1 : ℕ) → IsPartlySent first now (fill n1) → IsPartlySent first now (closing n1)
 fill_partly first now n1 p =
     sent_partly first first now [] (fill n1) (spelled close_down_frame) (closing n1) refl (sent_none first) p
 
+-- so is the fill with a beginning of the CLD frame
 pub cld_partly : (first mid now : LineView) (n1 : ℕ) (cld : List ℕ) → cld ≡ spelled close_down_frame → IsSent first mid (fill n1) → IsPartlySent mid now cld → IsPartlySent first now (closing n1)
 cld_partly first mid now n1 cld is a p =
     sent_partly first mid now (fill n1) (spelled close_down_frame) [] (closing n1) (ap (λ (o : List ℕ). fill n1 ++ o) (sym (append-nil (spelled close_down_frame)))) a
@@ -326,38 +348,48 @@ cld_partly first mid now n1 cld is a p =
 
 -- ## A try
 
+-- the final code of a try, or why there is none
 abbrev pub Code : Type 0
 Code = Result Final EntryError
 
+-- a try without the ranges, whose text this code answered
 pub tried_at : (first now : LineView) (text : List ℕ) (code : Final) → IsAnswered first now text code → IsTried first now false text code
 tried_at first now text code h = record { mid = first; before = asked_none; answered = h }
 
+-- a try with the ranges, once they were answered
 pub tried_behind : (first mid now : LineView) (text : List ℕ) (code other : Final) → IsAnswered mid now text code → IsAnswered first mid ranges_text other → IsTried first now true text code
 tried_behind first mid now text code other h before = record { mid = mid; before = asked_ranges mid other before; answered = h }
 
+-- a try without the ranges, whose text nothing answered
 pub no_reply_at : (first now : LineView) (ranges : Bool) (text : List ℕ) → ranges ≡ false → IsUnanswered first now text → HasNoReply first now ranges text
 no_reply_at first now ranges text is h = subst (λ (b : Bool). HasNoReply first now b text) (sym is) (no_code first asked_none h)
 
+-- a try whose ranges were answered, but not its text
 pub no_reply_behind : (first mid now : LineView) (ranges : Bool) (text : List ℕ) (other : Final) → ranges ≡ true → IsUnanswered mid now text → IsAnswered first mid ranges_text other → HasNoReply first now ranges text
 no_reply_behind first mid now ranges text other is h before =
     subst (λ (b : Bool). HasNoReply first now b text) (sym is) (no_code mid (asked_ranges mid other before) h)
 
+-- a try whose ranges nothing answered
 pub no_ranges_told : (first now : LineView) (text : List ℕ) → IsUnanswered first now ranges_text → HasNoReply first now true text
 no_ranges_told first now text h = no_ranges refl h
 
 -- ## Three tries
 
+-- a try that is answered, behind two at most that weren't, answers the entry
 pub replied_at : (first before now : LineView) (n1 : ℕ) (ranges : Bool) (text : List ℕ) (code : Final) (tries : ℕ) → tries ≤ 2 → HasTried n1 ranges text first tries before → IsTried before now ranges text code → IsRepliedTo first now n1 ranges text code
 replied_at first before now n1 ranges text code tries few tried h = record { tries = tries; few = few; before = before; tried = tried; answered = h }
 
+-- so it is of a try's result where that is a code
 pub replied_last : (first before now : LineView) (n1 : ℕ) (ranges : Bool) (text : List ℕ) (result : Code) (tries : ℕ) → tries ≤ 2 → HasTried n1 ranges text first tries before
     → IfOk result (λ code. IsTried before now ranges text code) → IfOk result (λ code. IsRepliedTo first now n1 ranges text code)
 replied_last first before now n1 ranges text (Ok code) tries few tried h = replied_at first before now n1 ranges text code tries few tried h
 replied_last first before now n1 ranges text (Err why) tries few tried h = tt
 
+-- where two tries weren't answered, nor the third, nothing answers the entry
 pub never_last : (first before now : LineView) (n1 : ℕ) (ranges : Bool) (text : List ℕ) (tries : ℕ) → tries ≡ 2 → HasTried n1 ranges text first tries before → HasNoReply before now ranges text → IsNeverRepliedTo first now n1 ranges text
 never_last first before now n1 ranges text tries all tried h = not_answered before (subst (λ (n : ℕ). HasTried n1 ranges text first n before) all tried) h
 
+-- a try that was refused for this
 abbrev pub refused : EntryError → Code
 refused why = Err why
 
@@ -369,13 +401,16 @@ refusal_in : Code → EntryError
 refusal_in (Ok code) = error.NoAnswer
 refusal_in (Err why) = why
 
+-- refusals that are the same of a try are the same of a call that gives nothing else
 pub same_refusal : (why other : EntryError) → refused why ≡ refused other → unsent why ≡ unsent other
 unfolding refusal_in
 same_refusal why other is = ap (λ (r : Code). unsent (refusal_in r)) is
 
+-- a try that was refused for NoAnswer
 pub is_no_answer : (why : EntryError) → why ≡ error.NoAnswer → refused why ≡ refused error.NoAnswer
 is_no_answer why is = ap refused is
 
+-- a call that was done, and gave this
 abbrev pub ok_of : {A : Type 0} → A → Result A EntryError
 ok_of x = Ok x
 
@@ -383,6 +418,7 @@ ok_of x = Ok x
 not_line : error.NoAnswer ≡ error.Line → ⊥
 not_line e = cc
 
+-- a refusal for NoAnswer isn't one for the line
 pub no_failure : (why : EntryError) → why ≡ error.NoAnswer → refused why ≢ refused error.Line
 unfolding refusal_in
 no_failure why is same = not_line (sym is ∙ ap refusal_in same)
@@ -396,15 +432,18 @@ pub not_line_of : (why : EntryError) → refused why ≢ refused error.Line → 
 unfolding why_in
 not_line_of why other same = other (ap (λ (r : Result Unit EntryError). refused (why_in r)) same)
 
+-- nor is a call that was done
 pub ok_no_failure : {A : Type 0} (x : A) → ok_of x ≢ Err error.Line
 ok_no_failure x e = cc
 
 -- ## What a refusal says
 
+-- an entry that a code other than OK answered is refused for that
 pub turned_down : (first now : LineView) (n1 : ℕ) (ranges : Bool) (text : List ℕ) (code : Final) (why : EntryError) → IsRepliedTo first now n1 ranges text code → (why ≡ error.Refused) × (code ≢ Good) → SaysWhy why first now n1 ranges text
 turned_down first now n1 ranges text code why h other =
     subst (λ (w : EntryError). SaysWhy w first now n1 ranges text) (sym other.0) (record { code = code; other = other.1; replied = h })
 
+-- a refusal for NoAnswer or for the line says what was sent and what came, or that a call failed
 pub says_why : (first now : LineView) (n1 : ℕ) (ranges : Bool) (text : List ℕ) (result : Code) (why : EntryError) → result ≡ Err why
     → (result ≡ Err error.NoAnswer → IsNeverRepliedTo first now n1 ranges text) → (result ≡ Err error.Line → now.failures ≡ first.failures + 1) → result ≢ Err error.Refused
     → SaysWhy why first now n1 ranges text

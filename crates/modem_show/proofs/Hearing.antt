@@ -11,16 +11,19 @@ use Rattle.modem_show.specs.declared.told.Told.{Told}
 use Rattle.modem_show.specs.declared.told.Told.TheVariants.{Command, Text}
 use Rattle.modem_show.specs.Talking.{Talk, TellsLines, told, told_each, told_of, told_by, heard, heard_each, window_after, window_by, line_of, run_of}
 
+-- what follows from two facts of a call that went well follows, where it did
 pub both_ok : {T E : Type 0} (P Q R : Type 0) (r : Result T E) → (P → Q → R) → OnOk r P → OnOk r Q → OnOk r R
 both_ok P Q R (Ok x) f p q = f p q
 both_ok P Q R (Err e) f p q = tt
 
+-- the driver's unfinished line and the window behind octets to the modem are what is kept of these
 pub driver_says : (dialect : Dialect) (d : Direction) (t : Talk) (octets run : List ℕ) (w : Option OpenWindow) → d ≡ ToModem
     → run ≡ kept_run (t.driver ++ octets) → w ≡ window_after dialect ToModem t.window (lines (t.driver ++ octets))
     → record { driver = run; modem = t.modem; window = w } ≡ heard dialect d t octets
 driver_says dialect ToModem t octets run w e a b = cc
 driver_says dialect FromModem t octets run w e a b = cc
 
+-- and the modem's, behind octets from there
 pub modem_says : (dialect : Dialect) (d : Direction) (t : Talk) (octets run : List ℕ) (w : Option OpenWindow) → d ≡ FromModem
     → run ≡ kept_run (t.modem ++ octets) → w ≡ window_after dialect FromModem t.window (lines (t.modem ++ octets))
     → record { driver = t.driver; modem = run; window = w } ≡ heard dialect d t octets
@@ -29,12 +32,14 @@ modem_says dialect ToModem t octets run w e a b = cc
 
 -- ## One octet more
 
+-- with one octet more kept on, what is kept behind the rest is what is kept behind all
 pub kept_on : (dialect : Dialect) (d : Direction) (t next first : Talk) (octet : ℕ) (left rest all : List ℕ) → left ≡ octet ∷ rest
     → next ≡ heard dialect d t (octet ∷ []) → heard_each dialect d t left ≡ heard_each dialect d first all
     → heard_each dialect d next rest ≡ heard_each dialect d first all
 kept_on dialect d t next first octet left rest all e n h =
     ap (λ (v : Talk). heard_each dialect d v rest) n ∙ (ap (λ (os : List ℕ). heard_each dialect d t os) (sym e) ∙ h)
 
+-- and what is told of it and of the rest is what is told of all
 pub told_on : (dialect : Dialect) (d : Direction) (t next first : Talk) (octet : ℕ) (left rest all : List ℕ) (before after start : List Told)
     → left ≡ octet ∷ rest → next ≡ heard dialect d t (octet ∷ []) → after ≡ before ++ told dialect d t (octet ∷ [])
     → before ++ told_each dialect d t left ≡ start ++ told_each dialect d first all
@@ -125,6 +130,7 @@ heard_whole reads dialect d t octet (next ∷ octets) =
     heard_whole reads dialect d (heard dialect d t (octet ∷ [])) next octets
     ∙ sym (joined_heard reads dialect d t octet (next ∷ octets))
 
+-- octets tell at once what they tell one by one, each line once and in order
 pub tells_lines : ((x y : List ℕ) → ReadsOn x y) → (dialect : Dialect) (d : Direction) (t : Talk) (octet : ℕ) (octets : List ℕ)
     → TellsLines dialect d t octet octets
 tells_lines reads dialect d t octet octets = record {

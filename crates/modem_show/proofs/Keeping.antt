@@ -36,6 +36,7 @@ steps_there r d past a =
     ap (λ (b : Bool). place (standing_after r z d s a) b)
     (said_after (opens r z s.is_asked d a) (s.is_open && not (ends z d a)) (got_says (says_at d)) a (since r d past))
 
+-- what is kept of a connection is kept on by each act, with 0 as it stands before it
 pub place_steps : (r : Role) (d : ℕ) (past : List Act) (a : Act)
     → place_of r d (a ∷ past) ≡ place_after r (place_of r 0 past).is_open d (place_of r d past) a
 place_steps r d past a =
@@ -54,6 +55,7 @@ end_goes_on e places past a fits after = record {
       ∙ sym (place_steps e.role d past a)));
 }
 
+-- of an end to which nothing happened, each connection is shut
 pub new_end : (r : Role) → EndFits (record { role = r; places = replicate 62 shut_place }) []
 new_end r = record { each = λ d l. get_or-replicate 62 d shut_place shut_place l ∙ none r d }
   where
@@ -69,6 +71,7 @@ stops_alike : (r : Role) (past : List Act) (d : ℕ) (z : Bool) → (d == 0) ≡
 stops_alike r past d true e = rw e refl
 stops_alike r past d false e = rw e refl
 
+-- and what is stopped
 pub stopped_fits : (e : End) (past : List Act) (d : ℕ) → EndFits e past → d < 62 → is_stopped_at e d ≡ is_stopped e.role d past
 stopped_fits e past d fits l =
     ap (λ (p : Place). not (d == 0) && ((p.is_open && p.is_stopped) || ((place_at e 0).is_open && (place_at e 0).is_stopped))) (fits.each d l)
@@ -83,6 +86,7 @@ pub record SoFar (f : ℕ → Place → Place) (old ps : List Place) (i : ℕ) :
   pub done : (d : ℕ) → d < i → slice_index_or ps d shut_place ≡ f d (slice_index_or old d shut_place)
   pub left : (d : ℕ) → i ≤ d → slice_index_or ps d shut_place ≡ slice_index_or old d shut_place
 
+-- with one place more kept on
 pub one_more : (f : ℕ → Place → Place) (old ps : List Place) (i j k : ℕ) (p q : Place) → SoFar f old ps i → i < 62 → j ≡ i → k ≡ i
     → p ≡ slice_index_or ps j p → q ≡ f i p → SoFar f old (slice_set ps k q) (i + 1)
 one_more f old ps i j k p q h l ej ek e g = record {
@@ -95,9 +99,11 @@ one_more f old ps i j k p q h l ej ek e g = record {
   left = λ d b. let ne : d ≢ k = omega arith in get_or-set_other ps k d q shut_place ne ∙ h.left d (omega arith);
 }
 
+-- the place that was read at 0 is that of 0
 pub zero_read : (ps : List Place) (p : Place) → length ps ≡ 62 → p ≡ slice_index_or ps 0 p → p ≡ slice_index_or ps 0 shut_place
 zero_read ps p h e = e ∙ get_or_default ps 0 p shut_place (omega (arith, h))
 
+-- where each place is kept on by an act, with 0 as it was read before, the end fits the past with it
 pub end_acts : (r : Role) (old new : List Place) (p : Place) (past : List Act) (a : Act) → length old ≡ 62
     → p ≡ slice_index_or old 0 p
     → EndFits (record { role = r; places = old }) past

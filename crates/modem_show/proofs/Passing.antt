@@ -54,6 +54,7 @@ sides_fit r c line from to from_after to_after hf ht s g w1 w2 o1 o2 = (
   },
 )
 
+-- where one end sends a frame and the other gets it, both are kept on by it
 pub passes : (stamp : Stamp) (direction : Direction) (f : Frame) (from to from_after to_after : Side)
     → Sends stamp f from from_after (answered_by f to.asks) → Gets f to to_after
     → Passes (caught stamp direction f) from to from_after to_after
@@ -115,6 +116,7 @@ steps_judge n1 stamp direction f from from1 to taken unasked in_doubt faults l e
 
 -- ## Both ways
 
+-- a frame to the modem keeps on both ends
 pub watch_to : (w : Watch) (stamp : Stamp) (d : Direction) (f : Frame) (from to : Side) → d ≡ ToModem
     → Passes (caught stamp d f) w.initiator w.responder from to
     → (line : List Caught) → WatchFits w line
@@ -122,6 +124,7 @@ pub watch_to : (w : Watch) (stamp : Stamp) (d : Direction) (f : Frame) (from to 
 watch_to w stamp ToModem f from to e p line h = let both = p.fits line h.initiator h.responder in record { initiator = both.0; responder = both.1 }
 watch_to w stamp FromModem f from to e p line h = cc
 
+-- so does one from there
 pub watch_from : (w : Watch) (stamp : Stamp) (d : Direction) (f : Frame) (from to : Side) → d ≡ FromModem
     → Passes (caught stamp d f) w.responder w.initiator from to
     → (line : List Caught) → WatchFits w line
@@ -129,12 +132,14 @@ pub watch_from : (w : Watch) (stamp : Stamp) (d : Direction) (f : Frame) (from t
 watch_from w stamp FromModem f from to e p line h = let both = p.fits line h.responder h.initiator in record { initiator = both.1; responder = both.0 }
 watch_from w stamp ToModem f from to e p line h = cc
 
+-- a frame to the modem is judged as by all that passed
 pub judged_to : (w : Watch) (stamp : Stamp) (d : Direction) (f : Frame) (faults : Faults) → d ≡ ToModem
     → JudgedBy w.n1 (caught stamp d f) w.initiator w.responder faults
     → (line : List Caught) → WatchFits w line → faults ≡ faults_of w.n1 line (caught stamp d f)
 judged_to w stamp ToModem f faults e j line h = j.says line h.initiator h.responder
 judged_to w stamp FromModem f faults e j line h = cc
 
+-- so is one from there
 pub judged_from : (w : Watch) (stamp : Stamp) (d : Direction) (f : Frame) (faults : Faults) → d ≡ FromModem
     → JudgedBy w.n1 (caught stamp d f) w.responder w.initiator faults
     → (line : List Caught) → WatchFits w line → faults ≡ faults_of w.n1 line (caught stamp d f)
@@ -143,10 +148,12 @@ judged_from w stamp ToModem f faults e j line h = cc
 
 -- ## What is open and stopped
 
+-- what is kept of an end says what is open for it
 pub open_by : (e : End) (r : Role) (line : List Caught) (d : ℕ) → EndFits e (own r line) → e.role ≡ r → d < 62
     → is_open_at e d ≡ is_open r d (own r line)
 open_by e r line d h k l = open_fits e (own r line) d h l ∙ ap (λ (s : Role). is_open s d (own r line)) k
 
+-- and what is stopped
 pub stopped_by : (e : End) (r : Role) (line : List Caught) (d : ℕ) → EndFits e (own r line) → e.role ≡ r → d < 62
     → is_stopped_at e d ≡ is_stopped r d (own r line)
 stopped_by e r line d h k l = stopped_fits e (own r line) d h l ∙ ap (λ (s : Role). is_stopped s d (own r line)) k

@@ -23,6 +23,7 @@ found_there p xs i x e h =
     let at : x ≡ slice_index_or xs (position_or_len p xs) x = h ∙ ap (λ (k : ℕ). slice_index_or xs k x) (sym w.1) in
     ap (λ y. Some y) at ∙ (sym (slice_get-get_or xs (position_or_len p xs) x l) ∙ sym (find_at p xs))
 
+-- where there is no place nothing is found
 pub found_nowhere : {X : Type 0} (p : X → Bool) (xs : List X) → position p xs ≡ None → None ≡ find p xs
 found_nowhere p xs e =
     let past = is_past (nat_lt (position_or_len p xs) (length xs)) (position_or_len p xs) e in
@@ -32,5 +33,6 @@ found_nowhere p xs e =
 pub is_first : {X : Type 0} (p : X → Bool) (xs : List X) (i : ℕ) → position p xs ≡ Some i → i ≡ position_or_len p xs
 is_first p xs i e = sym (is_within (nat_lt (position_or_len p xs) (length xs)) (position_or_len p xs) i e).1
 
+-- and the list without it is the whole one
 pub stays_whole : {X : Type 0} (p : X → Bool) (xs : List X) → position p xs ≡ None → xs ≡ remove xs (position_or_len p xs)
 stays_whole p xs e = grind (arith, common_steps)

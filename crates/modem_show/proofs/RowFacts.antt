@@ -3,6 +3,7 @@ use Rattle.std.specs.Prelude.{refl}
 use Rattle.modem_show.specs.Rows.{AreJudged, AreAnswered}
 use Rattle.modem_show.specs.TalkRows.{AreTold}
 
+-- each fault is found in the smallest capture that has it, and not in one nearly like it
 pub are_judged : AreJudged
 are_judged = record {
   opening = refl;
@@ -39,6 +40,7 @@ are_judged = record {
   test_in_command = refl;
 }
 
+-- what was never answered is found, and not what was answered or needn't be
 pub are_answered : AreAnswered
 are_answered = record {
   unechoed = refl;
@@ -55,6 +57,7 @@ are_answered = record {
   down = refl;
 }
 
+-- what is told of lines, and which of them are wrong
 pub are_told : AreTold
 are_told = record {
   answered = refl;

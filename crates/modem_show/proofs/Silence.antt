@@ -6,6 +6,7 @@ use Rattle.mux_frame.specs.declared.dlci.Dlci.{Dlci}
 use Rattle.at_text.specs.Rules.{Rules}
 use Rattle.modem_show.specs.Talking.{Talk, TalksFit, silence}
 
+-- where no frame passed, silence is what is kept of each
 pub silent_fit : (rules : Rules) (ds : List Dlci) (ts : List Talk) → ts ≡ replicate 62 silence
     → TalksFit (record { rules = rules; data_channels = ds; talks = ts }) []
 silent_fit rules ds ts e = record {

@@ -21,6 +21,7 @@ pub unread_plainly : (explained : Bool) (what path : List ℕ) (fault : FileFaul
 unread_plainly true what path fault before after e said = absurd (cc)
 unread_plainly false what path fault before after e said = inl said
 
+-- in two it is said of which file, and why
 pub unread_explained : (explained : Bool) (what path : List ℕ) (fault : FileFault) (before after : Option (List ℕ)) → explained ≡ true → SaysWhy (stop_line Stop.Input) what path fault before after
     → SaysUnread explained what path fault before after ⊎ IsBegun before after (stop_line Stop.NoMemory)
 unread_explained true what path fault before after e says = says

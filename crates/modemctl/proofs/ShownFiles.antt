@@ -27,9 +27,11 @@ use Rattle.modemctl.specs.declared.words.file_faults.FileFault.TheVariants as Fi
 
 -- ## The connections of data
 
+-- the texts given for the option are the connections' numbers
 pub some_channels : (o : Option (List Text)) (texts : List Text) (ds : List Dlci) → Some texts ≡ o → texts ≡ map (λ d. decimal d.number) ds → AreChannels o ds
 some_channels o texts ds e h = subst (λ (p : Option (List Text)). AreChannels p ds) e h
 
+-- where no text is given, there are no connections of data
 pub no_channels : (o : Option (List Text)) (ds : List Dlci) → None ≡ o → ds ≡ [] → AreChannels o ds
 no_channels o ds e h = subst (λ (p : Option (List Text)). AreChannels p ds) e h
 
@@ -37,6 +39,7 @@ no_channels o ds e h = subst (λ (p : Option (List Text)). AreChannels p ds) e h
 pub memory_said : (dialect : Option Text) (before after : Option (List ℕ)) (status : ℕ) → status ≡ 1 → IsBegun before after (stop_line Stop.NoMemory) → IsNoText true (codes "dialect") dialect before after status
 memory_said dialect before after status one said = inr (record { stop = Stop.NoMemory; has_status = one; said = begun_line true Stop.NoMemory before after said })
 
+-- the N1, the dialect, the connections and the strictness are those that the words give
 pub wanted_so : (texts : Text → Option (List ℕ)) (n1 : ℕ) (m : ArgMatches) (o : ShowOptions) → o.n1 ≡ n1 → IsGivenDialect texts (first_value (found_of m) (codes "dialect")) o.dialect
     → AreChannels (option_map raw_values (matched_of (found_of m) (codes "data"))) o.data_channels.items → IsFlag (one_text (found_of m) (codes "strict")) o.strict → AreWantedBy texts n1 m o
 wanted_so texts n1 m o is named data_given strict_given = record { n1_is = is; named = named; data_given = data_given; strict_given = strict_given }
@@ -53,6 +56,7 @@ unread remaining r inner capacity e b c is =
     ap (λ (n : ℕ). if n == 0 then None else prepend_known (reader_buffer r) (remaining r.inner)) (c ∙ is)
     ∙ (ap (λ (xs : List ℕ). prepend_known xs (remaining r.inner)) b ∙ (none_read (remaining r.inner) ∙ ap remaining e))
 
+-- what was shown of a new reader over a file was shown of the file
 pub shown_of_reader : {T A : Type 0} (remaining : T → Option (List ℕ)) (r : BufReader T A) (inner : T) (s : Setting) (strict : Bool) (before after : Option (List ℕ)) (status : ℕ)
     → reader_inner r ≡ inner → reader_buffer r ≡ [] → reader_capacity r ≡ 8192 → HasShown s strict (reader_remaining remaining r) before after status → HasShown s strict (remaining inner) before after status
 shown_of_reader remaining r inner s strict before after status e b c h =
@@ -60,26 +64,33 @@ shown_of_reader remaining r inner s strict before after status e b c h =
 
 -- ## Files
 
+-- what was shown of a file was shown of the text in it
 pub shown_of_file : (s : Setting) (strict : Bool) (file text before after : Option (List ℕ)) (status : ℕ) → file ≡ text → HasShown s strict file before after status → HasShown s strict text before after status
 shown_of_file s strict file text before after status e h = subst (λ (o : Option (List ℕ)). HasShown s strict o before after status) e h
 
+-- so it is of the file of the octets from the modem
 pub shown_of_from : (s : Setting) (strict : Bool) (to file text before after : Option (List ℕ)) (status : ℕ) → file ≡ text → HasShownUntimed s strict to file before after status → HasShownUntimed s strict to text before after status
 shown_of_from s strict to file text before after status e h = subst (λ (o : Option (List ℕ)). HasShownUntimed s strict to o before after status) e h
 
+-- and of that of the octets to it
 pub shown_of_to : (s : Setting) (strict : Bool) (file text from before after : Option (List ℕ)) (status : ℕ) → file ≡ text → HasShownUntimed s strict file from before after status → HasShownUntimed s strict text from before after status
 shown_of_to s strict file text from before after status e h = subst (λ (o : Option (List ℕ)). HasShownUntimed s strict o from before after status) e h
 
+-- it is said that the file can't be opened, and why
 pub says_closed : (what path : Text) (kind : ErrorKind) (before after : Option (List ℕ)) (status : ℕ) → SaysWhy (codes "fault: ") what path (FileFault.Closed kind) before after → SaysUnread what path before after status
 says_closed what path kind before after status h = closed kind h
 
+-- or that memory was refused
 pub says_memory : (what path : Text) (before after : Option (List ℕ)) (status : ℕ) → IsBegun before after (stop_line Stop.NoMemory) → SaysUnread what path before after status
 says_memory what path before after status h = no_memory h
 
+-- or why what is read isn't shown to its end
 pub says_cut : (what path : Text) (before after : Option (List ℕ)) (status : ℕ) → SaysFault before after status → SaysUnread what path before after status
 says_cut what path before after status h = cut h
 
 -- ## What the words name
 
+-- the files that the words name were shown as the options want
 pub shows_with : (texts : Text → Option (List ℕ)) (n1 : ℕ) (m : ArgMatches) (before after : Option (List ℕ)) (status : ℕ) (o : ShowOptions) (path : Text) (raw : Option Text)
     → AreWantedBy texts n1 m o → Some path ≡ first_value (found_of m) (codes "file") → raw ≡ first_value (found_of m) (codes "raw") → ShowsFiles texts o raw path before after status
     → ShowsWith texts n1 m before after status
@@ -91,6 +102,7 @@ shows_with texts n1 m before after status o path raw wanted path_is raw_is shown
   shown = subst (λ (r : Option Text). ShowsFiles texts o r path before after status) raw_is shown;
 }
 
+-- of the file that the words name it is said why it isn't shown
 pub files_unread : (dialect raw raw_word file : Option Text) (path : Text) (before after : Option (List ℕ)) (status : ℕ) → Some path ≡ file → raw ≡ raw_word → SaysUnreadOf raw path before after status
     → SaysUnshown dialect raw_word file before after status
 files_unread dialect raw raw_word file path before after status path_is raw_is says = inr (record {
@@ -123,11 +135,13 @@ not_read input before p status same some few = record {
   told = subst (λ (o : Option (List ℕ)). HasTold o p 0) same (none_told p);
 }
 
+-- what is told of a new reader over a file is told of the file
 pub read_of_reader : {T A : Type 0} (remaining : T → Option (List ℕ)) (r : BufReader T A) (inner : T) (before : Option (List ℕ)) (p : ProgressState) (status : ℕ)
     → reader_inner r ≡ inner → reader_buffer r ≡ [] → reader_capacity r ≡ 8192 → TellsRead (reader_remaining remaining r) before p status → TellsRead (remaining inner) before p status
 read_of_reader remaining r inner before p status e b c h =
     subst (λ (o : Option (List ℕ)). TellsRead o before p status) (unread remaining r inner 8192 e b c refl) h
 
+-- what is told of a file is told of the text in it
 pub read_of_file : (file text before : Option (List ℕ)) (p : ProgressState) (status : ℕ) → file ≡ text → TellsRead file before p status → TellsRead text before p status
 read_of_file file text before p status e h = subst (λ (o : Option (List ℕ)). TellsRead o before p status) e h
 
@@ -138,6 +152,7 @@ not_shown texts raw None before p status same some few = same
 not_shown texts None (Some path) before p status same some few = not_read (texts path) before p status same some few
 not_shown texts (Some from) (Some path) before p status same some few = same
 
+-- it is told of the files that the words name
 pub shown_by : (texts : Text → Option (List ℕ)) (raw raw_word file : Option Text) (path : Text) (before : Option (List ℕ)) (p : ProgressState) (status : ℕ) → Some path ≡ file → raw ≡ raw_word
     → TellsFiles texts raw path before p status → TellsShow texts raw_word file before p status
 shown_by texts raw raw_word file path before p status path_is raw_is tells =

@@ -70,6 +70,7 @@ all_rest n1 s _ _ (other _ t fs rest e nf nh nc r) size =
 undecided : (n1 : ℕ) (s : List ℕ) → Reads n1 s [] s → (s ≡ []) ⊎ IsBegun n1 s
 undecided n1 s reads = all_rest n1 s [] s reads refl
 
+-- where a text is read so that all of it is left it can become a frame
 pub begins : (n1 : ℕ) (s : List ℕ) (fs : List Frame) (rest : List ℕ) → Reads n1 s fs rest → length rest ≡ length s → Reads n1 s [] s
 begins n1 s fs rest reads size = by_case (all_rest n1 s fs rest reads size)
   where
@@ -252,6 +253,7 @@ last_of x (y ∷ xs) =
       front_is = let count : length (x ∷ y ∷ xs) - 1 ≡ suc (length (y ∷ xs) - 1) = omega arith in ap (λ n. take n (x ∷ y ∷ xs)) count ∙ ap (λ l. x ∷ l) on.front_is;
     }
 
+-- where it could before its last octet, can't now, and its first frame is shorter, none begins with its first octet
 pub passes : (n1 : ℕ) (u : List ℕ) (fs : List Frame) (rest : List ℕ) → AreOctets u → u ≢ [] → Reads n1 (take (length u - 1) u) [] (take (length u - 1) u) → Reads n1 u fs rest → length rest ≢ length u → ((f : Frame) (gs : List Frame) → fs ≡ f ∷ gs → length f.info + 7 < length u) → PassesOver n1 u (drop 1 u)
 passes n1 [] fs rest octets some undecided reads size longer = absurd (some refl)
 passes n1 (x ∷ t) fs rest octets some undecided reads size longer =
@@ -332,6 +334,7 @@ text_at n1 x front t c f gs rest true is octets joins before reads most =
     (text_flag n1 front t c f gs rest (verdict_on n1 t) (verdict_means n1 t (octets_tail x t octets)) (subst (λ (y : ℕ). AreOctets (y ∷ t)) same octets) (joins ∙ ap (λ y. y ∷ t) same) before
     (subst (λ (y : ℕ). Reads n1 (y ∷ t) (f ∷ gs) rest) same reads) most)
 
+-- where its first frame can be as long as it, such a text is that frame from flag to flag
 pub is_frame_text : (n1 : ℕ) (u : List ℕ) (f : Frame) (fs gs : List Frame) (rest : List ℕ) → AreOctets u → u ≢ [] → Reads n1 (take (length u - 1) u) [] (take (length u - 1) u) → fs ≡ f ∷ gs → Reads n1 u fs rest → length u ≤ length f.info + 7 → IsFrameText n1 u
 is_frame_text n1 [] f fs gs rest octets some before is reads most = absurd (some refl)
 is_frame_text n1 (x ∷ t) f fs gs rest octets some before is reads most =
@@ -341,9 +344,11 @@ is_frame_text n1 (x ∷ t) f fs gs rest octets some before is reads most =
 
 -- ## On and on
 
+-- nothing is passed over
 pub passes_none : (n1 : ℕ) (s : List ℕ) → PassesOver n1 s s
 passes_none n1 s = record { no_longer = omega arith; first = λ z x f reads. reads; none = λ z rest reads. reads }
 
+-- and then more
 pub passes_more : (n1 : ℕ) (s t u : List ℕ) → PassesOver n1 s t → PassesOver n1 t u → PassesOver n1 s u
 passes_more n1 s t u p q = record {
   no_longer = let one = p.no_longer in let two = q.no_longer in omega (arith, one, two);
@@ -370,9 +375,11 @@ filled f n is = grind (arith, nat_tests, is)
 longer_by : (fs : List Frame) (u : List ℕ) → can_fill fs (length u) ≡ false → (f : Frame) (gs : List Frame) → fs ≡ f ∷ gs → length f.info + 7 < length u
 longer_by fs u is f gs same = not_filled f (length u) (sym (ap (λ (l : List Frame). can_fill l (length u)) same) ∙ is)
 
+-- where the first frame can't fill the text, none begins with its first octet
 pub is_other : (n1 : ℕ) (u : List ℕ) (fs : List Frame) (rest : List ℕ) → AreOctets u → u ≢ [] → Reads n1 (take (length u - 1) u) [] (take (length u - 1) u) → Reads n1 u fs rest → length rest ≢ length u → can_fill fs (length u) ≡ false → PassesOver n1 u (drop 1 u)
 is_other n1 u fs rest octets some before reads size is = passes n1 u fs rest octets some before reads size (longer_by fs u is)
 
+-- where it can, the text is a frame
 pub is_text : (n1 : ℕ) (u : List ℕ) (fs : List Frame) (rest : List ℕ) → AreOctets u → u ≢ [] → Reads n1 (take (length u - 1) u) [] (take (length u - 1) u) → Reads n1 u fs rest → can_fill fs (length u) ≡ true → IsFrameText n1 (take (length u) u)
 is_text n1 u [] rest octets some before reads is = absurd (let bad : false ≡ true = is in cc)
 is_text n1 u (f ∷ fs) rest octets some before reads is =
@@ -396,6 +403,7 @@ front_at n1 n [] the_front.Other within decided is = absurd (omega (arith, withi
 front_at n1 n (x ∷ t) the_front.Other within decided is =
     subst (λ (l : List ℕ). PassesOver n1 (x ∷ l) l) (take-append-drop n t) (passes_front n1 (x ∷ take n t) (take n t) (drop n t) is)
 
+-- what is decided of a front of a text is so of the text, but that it can still become a frame
 pub front_grows : (n1 n count : ℕ) (text : List ℕ) (front : Front) → count ≡ n + 1 → n < length text → (front ≡ the_front.Begins → ⊥) → IsFront n1 (take count text) front → IsFront n1 text front
 front_grows n1 n count text front same within decided is =
     let next : count ≡ suc n = omega (arith, same) in

@@ -19,6 +19,7 @@ framed n1 b x f spells = record { frame = f; octets = b; later = x; text = refl;
 same_text : (s t u : List ℕ) → after_flag s ≡ Some t → after_flag s ≡ Some u → t ≡ u
 same_text s t u a b = some_same t u (sym a ∙ b)
 
+-- a text has one first frame at most, and tells what stands behind it
 pub one_first : OneFirst
 one_first n1 s _ _ _ _ (fill _ t x f e r) (fill _ u y g h q) =
     one_first n1 (flag ∷ t) x y f g r (subst (λ (l : List ℕ). ReadsFirst n1 l g y) (sym (same_text s (flag ∷ t) (flag ∷ u) e h)) q)
@@ -40,6 +41,7 @@ one_first n1 s _ _ _ _ (other _ t x f e nf nh nc r) (first _ b y g h k) =
 one_first n1 s _ _ _ _ (other _ t x f e nf nh nc r) (other _ u y g h mf mh mc q) =
     one_first n1 t x y f g r (subst (λ (l : List ℕ). ReadsFirst n1 l g y) (sym (same_text s t u e h)) q)
 
+-- reading goes on from the frame's closing flag
 pub first_is_read : FirstIsRead
 first_is_read n1 s _ _ fs rest (fill _ t x f e r) reads = reading.fill s t (f ∷ fs) rest e (first_is_read n1 (flag ∷ t) x f fs rest r reads)
 first_is_read n1 s _ _ fs rest (first _ b x f e k) reads = reading.frame s b x f fs rest e k reads
@@ -66,6 +68,7 @@ no_fill_later : (n1 : ℕ) (t z : List ℕ) → ¬ IsFill t → ¬ IsCutShort n1
 no_fill_later n1 [] z nf nc h = nc (cut_none n1)
 no_fill_later n1 (a ∷ t) z nf nc h = nf (record { later = t; text = ap (λ b. b ∷ t) (head_same a flag (t ++ z) h.later h.text) })
 
+-- more octets change neither the frame nor where it ends
 pub first_stays : FirstStays
 first_stays n1 s _ z _ (fill _ t x f e r) = fill (s ++ z) (t ++ z) (x ++ z) f (after_flag-some s z (flag ∷ t) e) (first_stays n1 (flag ∷ t) x z f r)
 first_stays n1 s _ z _ (first _ b x f e k) = first (s ++ z) b (x ++ z) f (after_flag-some s z (b ++ flag ∷ x) e ∙ ap Some (append_assoc b (flag ∷ x) z)) k

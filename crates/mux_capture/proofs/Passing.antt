@@ -25,6 +25,7 @@ weaker (Err e) f holds = tt
 
 -- ## Known octets
 
+-- octets were written, and then others
 pub appended_more : (a b c : Option (List ℕ)) (xs ys : List ℕ) → Appends a b xs → Appends b c ys → Appends a c (xs ++ ys)
 appended_more None b c xs ys p q = tt
 appended_more (Some x) None c xs ys p q = absurd p
@@ -57,6 +58,7 @@ written_on before between after ended packed stamp direction ps first second =
     subst (λ (l : List Packed). Appends before after (file_header ++ flat_map packet_with l)) (append_assoc ended packed (map (packed_at stamp direction) ps))
     (written_more before between after (ended ++ packed) stamp direction ps first second)
 
+-- octets to the modem are captured, where the packets of what they come to were written
 pub captures_to_modem : (old : CaptureState) (w x : Option (List ℕ)) (n1 : ℕ) (to rest from : List ℕ) (failed : Bool) (stamp : Stamp) (octets : List ℕ) → old ≡ state w n1 to from failed
     → Passes n1 stamp ToModem to octets rest w x → Captures old (state x n1 rest from failed) (passed_at stamp ToModem octets)
 unfolding Captures
@@ -71,6 +73,7 @@ captures_to_modem old w x n1 to rest from failed stamp octets same p =
       written = written_on before w x h.ended h.packed stamp ToModem p.pieces h.written p.written;
     })
 
+-- so are octets from there
 pub captures_from_modem : (old : CaptureState) (w x : Option (List ℕ)) (n1 : ℕ) (to from rest : List ℕ) (failed : Bool) (stamp : Stamp) (octets : List ℕ) → old ≡ state w n1 to from failed
     → Passes n1 stamp FromModem from octets rest w x → Captures old (state x n1 to rest failed) (passed_at stamp FromModem octets)
 unfolding Captures
@@ -85,6 +88,7 @@ captures_from_modem old w x n1 to from rest failed stamp octets same p =
       written = written_on before w x h.ended h.packed stamp FromModem p.pieces h.written p.written;
     })
 
+-- with the header of a file alone nothing is captured
 pub captured_none : (before after : Option (List ℕ)) (n1 : ℕ) (to from : List ℕ) → to ≡ [] → from ≡ [] → Appends before after file_header → HasCaptured before [] (state after n1 to from false)
 captured_none before after n1 to from no_to no_from written = record {
   good = refl;
@@ -130,6 +134,7 @@ over_written before between after ended packed rests first second =
 nothing_passed : (n1 : ℕ) (to from : List ℕ) → to ≡ [] → from ≡ [] → Catches n1 [] [] to from
 nothing_passed n1 to from no_to no_from = subst (λ (l : List ℕ × List ℕ). Catches n1 [] [] l.0 l.1) (λ i. (sym no_to i, sym no_from i)) catches.none
 
+-- where what could still become a frame is written as damage, the stretch is over
 pub renews_by : (old : CaptureState) (w x : Option (List ℕ)) (n1 m : ℕ) (to from to_left from_left : List ℕ) (failed : Bool) (stamp : Stamp) → old ≡ state w n1 to from failed
     → PushesRests stamp to from to_left from_left w x → Renews old (state x m to_left from_left failed)
 unfolding Renews
@@ -207,6 +212,7 @@ reads_still n1 d passed packed p new kept s reads =
     subst (λ l. Reads n1 l (frames_in d (packed ++ new)) kept) (sym (s.octets_are ∙ append-nil (octets_in d passed)))
     (subst (λ l. Reads n1 (octets_in d passed) l kept) (sym (ap frames_of (s.pieces_are ∙ append-nil (pieces_in d packed)))) reads)
 
+-- the frames captured each way are those that all octets that passed that way are read as
 pub catches_frames : CatchesFrames
 catches_frames n1 _ _ _ _ catches.none = (reading.no_flag [] refl, reading.no_flag [] refl)
 catches_frames n1 _ _ _ _ (catches.to_modem passed packed to from octets rest stamp pieces c shown) =
@@ -245,6 +251,7 @@ all_still : (d : Direction) (passed : List Passed) (packed : List Packed) (p : P
 all_still d passed packed p new kept s first =
     subst (λ (l : List ℕ × List Piece). IsAll l.0 l.1 kept) (λ i. (sym (s.octets_are ∙ append-nil (octets_in d passed)) i, sym (s.pieces_are ∙ append-nil (pieces_in d packed)) i)) first
 
+-- nothing that passed is missing
 pub catches_all : CatchesAll
 catches_all n1 _ _ _ _ catches.none = (refl, refl)
 catches_all n1 _ _ _ _ (catches.to_modem passed packed to from octets rest stamp pieces c shown) =
@@ -316,6 +323,7 @@ from_over s packed o = record {
       ∙ from_from o.stamp o.are_rests.came);
 }
 
+-- so it is of a stretch that is over, but for flags
 pub over_is_read : OverIsRead
 over_is_read s packed o =
     let reads = catches_frames s.n1 s.passed o.before o.to o.from o.catches in

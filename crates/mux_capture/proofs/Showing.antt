@@ -23,14 +23,17 @@ use Rattle.mux_capture.proofs.FirstLaws.{first_is_read}
 
 -- ## Packets
 
+-- no packet was written
 pub pushed_none : (stamp : Stamp) (direction : Direction) (out : List ℕ) → ArePushed stamp direction [] out out
 pushed_none stamp direction out = sym (append-nil out)
 
+-- packets of some pieces were, and then of others
 pub pushed_more : (stamp : Stamp) (direction : Direction) (ps qs : List Piece) (a b c : List ℕ) → ArePushed stamp direction ps a b → ArePushed stamp direction qs b c → ArePushed stamp direction (ps ++ qs) a c
 pushed_more stamp direction ps qs a b c p q =
     q ∙ ap (λ l. l ++ flat_map (piece_packet stamp direction) qs) p ∙ append_assoc a (flat_map (piece_packet stamp direction) ps) (flat_map (piece_packet stamp direction) qs)
     ∙ ap (λ l. a ++ l) (sym (flat_map-append (piece_packet stamp direction) ps qs))
 
+-- that of one piece was
 pub pushed_one : (stamp : Stamp) (direction : Direction) (p : Piece) (a b : List ℕ) → b ≡ a ++ piece_packet stamp direction p → ArePushed stamp direction (p ∷ []) a b
 pushed_one stamp direction p a b is = is ∙ ap (λ l. a ++ l) (sym (append-nil (piece_packet stamp direction p)))
 
@@ -42,9 +45,11 @@ pub record DamageSoFar (stamp : Stamp) (direction : Direction) (whole left befor
   pub leads : (more : List Piece) → AreDamage left more → AreDamage whole (pieces ++ more)
   pub pushed : ArePushed stamp direction pieces before now
 
+-- of octets that are no frame nothing is written yet
 pub damage_none : (stamp : Stamp) (direction : Direction) (whole out : List ℕ) → DamageSoFar stamp direction whole whole out out
 damage_none stamp direction whole out = record { pieces = []; leads = λ more are. are; pushed = pushed_none stamp direction out }
 
+-- and then a packet of as many as one may have
 pub damage_more : (stamp : Stamp) (direction : Direction) (whole left part rest before now after : List ℕ) → left ≢ [] → part ≡ take most_damage left → rest ≡ drop most_damage left
     → DamageSoFar stamp direction whole left before now → after ≡ now ++ piece_packet stamp direction (damage part) → DamageSoFar stamp direction whole rest before after
 damage_more stamp direction whole left part rest before now after some part_is rest_is so_far written = record {
@@ -55,6 +60,7 @@ damage_more stamp direction whole left part rest before now after some part_is r
   pushed = pushed_more stamp direction so_far.pieces (damage part ∷ []) before now after so_far.pushed (pushed_one stamp direction (damage part) now after written);
 }
 
+-- where nothing is left all of them are written
 pub damage_all : (stamp : Stamp) (direction : Direction) (octets whole left before now : List ℕ) → whole ≡ behind_flags octets → left ≡ [] → DamageSoFar stamp direction whole left before now → PushesDamage stamp direction octets before now
 damage_all stamp direction octets whole left before now is none so_far = record {
   pieces = so_far.pieces;
@@ -78,6 +84,7 @@ drop_short (suc n) (x ∷ xs) = let on = drop_short n xs in omega (arith, on)
 pub cut_short : (left part : List ℕ) → part ≡ take most_damage left → length part ≤ 65532
 cut_short left part is = let size = take_short most_damage left in let same = ap length is in omega (arith, size, same)
 
+-- behind such a packet less is left
 pub cut_less : (left rest : List ℕ) → left ≢ [] → rest ≡ drop most_damage left → length rest < length left
 cut_less [] rest some is = absurd (some refl)
 cut_less (x ∷ xs) rest some is = let size = drop_short 65531 xs in let same : length rest ≡ length (drop 65531 xs) = ap length is in omega (arith, size, same)
@@ -87,6 +94,7 @@ cut_less (x ∷ xs) rest some is = let size = drop_short 65531 xs in let same : 
 not_more : {A : Type 0} → false ≡ true → A
 not_more e = absurd (false≢true e)
 
+-- where no frame is found what begins none is written, and the rest can become one
 pub pushes_none : (n1 : ℕ) (stamp : Stamp) (direction : Direction) (text front rest before after : List ℕ) → text ≡ front ++ rest → PassesOver n1 text rest → Reads n1 rest [] rest
     → PushesDamage stamp direction front before after → PushesFirst n1 stamp direction text rest false before after
 pushes_none n1 stamp direction text front rest before after is passes reads pushes = record {
@@ -110,6 +118,7 @@ drop_front : (front more : List ℕ) (n : ℕ) → drop (length front + n) (fron
 drop_front [] more n = let none : length {A = ℕ} [] + n ≡ n = omega arith in ap (λ k. drop k more) none
 drop_front (x ∷ front) more n = let count : length (x ∷ front) + n ≡ suc (length front + n) = omega arith in ap (λ k. drop k (x ∷ (front ++ more))) count ∙ drop_front front more n
 
+-- a text goes on from the closing flag of a frame
 pub left_is : (text front frame b behind : List ℕ) → text ≡ front ++ (frame ++ behind) → frame ≡ flag ∷ b ++ flag ∷ [] → drop (length front + length frame - 1) text ≡ flag ∷ behind
 left_is text front frame b behind is frame_is =
     let size : length frame ≡ length (flag ∷ b) + 1 = ap length frame_is ∙ length-append (flag ∷ b) (flag ∷ []) in
@@ -119,6 +128,7 @@ left_is text front frame b behind is frame_is =
     ∙ drop_front front (flag ∷ b ++ flag ∷ behind) (length (flag ∷ b))
     ∙ ap (λ k. drop k ((flag ∷ b) ++ flag ∷ behind)) zero_more ∙ drop_front (flag ∷ b) (flag ∷ behind) 0
 
+-- where a frame is found what stands before it is written, and then the frame
 pub pushes_frame : (n1 : ℕ) (stamp : Stamp) (direction : Direction) (text front frame behind left before between after : List ℕ) → text ≡ front ++ (frame ++ behind) → PassesOver n1 text (frame ++ behind) → (t : IsFrameText n1 frame)
     → left ≡ drop (length front + length frame - 1) text
     → PushesDamage stamp direction front before between → after ≡ between ++ piece_packet stamp direction (framed t.octets t.frame) → PushesFirst n1 stamp direction text left true before after
@@ -146,6 +156,7 @@ pushes_frame n1 stamp direction text front frame behind left before between afte
         subst (λ (l : List ℕ). ReadsFirst n1 l t.frame behind) (append-nil text ∙ joins)
         (passes.first [] behind t.frame (subst (λ (l : List ℕ). ReadsFirst n1 l t.frame behind) (sym (append-nil (frame ++ behind))) at_first))
 
+-- behind that less is left
 pub left_shorter : (n1 : ℕ) (text front frame behind left : List ℕ) → text ≡ front ++ (frame ++ behind) → (t : IsFrameText n1 frame) → left ≡ drop (length front + length frame - 1) text → length left < length text
 left_shorter n1 text front frame behind left is t left_from =
     let one : length left ≡ length (flag ∷ behind) = ap length (left_from ∙ left_is text front frame t.octets behind is t.text_is) in
@@ -173,6 +184,7 @@ framed_packet stamp direction frame before after n1 t is = is ∙ ap (λ l. befo
 
 -- ## All of a text
 
+-- of a text nothing is written yet
 pub first_none : (n1 : ℕ) (stamp : Stamp) (direction : Direction) (text out : List ℕ) → PushesFirst n1 stamp direction text text true out out
 first_none n1 stamp direction text out = record {
   pieces = [];
@@ -181,6 +193,7 @@ first_none n1 stamp direction text out = record {
   pushed = pushed_none stamp direction out;
 }
 
+-- and then all up to the end of one frame more
 pub first_more : (n1 : ℕ) (stamp : Stamp) (direction : Direction) (text left rest : List ℕ) (so_far more : Bool) (a b c : List ℕ) → so_far ≡ true → PushesFirst n1 stamp direction text left so_far a b → PushesFirst n1 stamp direction left rest more b c
     → PushesFirst n1 stamp direction text rest more a c
 first_more n1 stamp direction text left rest so_far more a b c is p q = record {
@@ -191,20 +204,24 @@ first_more n1 stamp direction text left rest so_far more a b c is p q = record {
   pushed = pushed_more stamp direction p.pieces q.pieces a b c p.pushed q.pushed;
 }
 
+-- where there is no frame more all of it is written
 pub first_all : (n1 : ℕ) (stamp : Stamp) (direction : Direction) (text rest : List ℕ) (more : Bool) (before after : List ℕ) → more ≡ false → PushesFirst n1 stamp direction text rest more before after → PushesAll n1 stamp direction text rest before after
 first_all n1 stamp direction text rest more before after is p = record { pieces = p.pieces; shows = p.ends is; pushed = p.pushed }
 
 -- ## Laws
 
+-- the frames of two lists of pieces are those of both
 pub frames_both : (ps qs : List Piece) → frames_of (ps ++ qs) ≡ frames_of ps ++ frames_of qs
 frames_both [] qs = refl
 frames_both (framed b f ∷ ps) qs = ap (λ l. f ∷ l) (frames_both ps qs)
 frames_both (damage d ∷ ps) qs = frames_both ps qs
 
+-- pieces of damage have no frame
 pub no_frames : (octets : List ℕ) (ps : List Piece) → AreDamage octets ps → frames_of ps ≡ []
 no_frames _ _ shows.none = refl
 no_frames _ _ (shows.some octets more some are) = no_frames (drop most_damage octets) more are
 
+-- the frames among the pieces of a text are those that the text is read as
 pub shows_frames : ShowsFrames
 shows_frames n1 _ _ _ (shows.ends front rest pieces reads are) = subst (λ l. Reads n1 (front ++ rest) l rest) (sym (no_frames (behind_flags front) pieces are)) reads
 shows_frames n1 _ _ _ (shows.frame front b x rest f pieces more spells reads are shown) =
@@ -216,6 +233,7 @@ unflagged_by : (b : Bool) (x : ℕ) (u v w : List ℕ) → u ≡ v ++ w → (if 
 unflagged_by true x u v w e = e
 unflagged_by false x u v w e = ap (λ l. x ∷ l) e
 
+-- two texts without their flags are both together without them
 pub unflagged_both : (xs ys : List ℕ) → unflagged (xs ++ ys) ≡ unflagged xs ++ unflagged ys
 unflagged_both [] ys = refl
 unflagged_both (x ∷ xs) ys = unflagged_by (x == flag) x (unflagged (xs ++ ys)) (unflagged xs) (unflagged ys) (unflagged_both xs ys)
@@ -237,9 +255,11 @@ damage_of_all _ _ (shows.some octets more some are) =
     ap unflagged (sym (take-append-drop most_damage octets)) ∙ unflagged_both (take most_damage octets) (drop most_damage octets)
     ∙ ap (λ l. unflagged (take most_damage octets) ++ l) (damage_of_all (drop most_damage octets) more are)
 
+-- but for flags, octets that are no frame are those of their pieces
 pub front_of_all : (front : List ℕ) (ps : List Piece) → AreDamage (behind_flags front) ps → unflagged front ≡ all_of ps
 front_of_all front ps are = sym (unflagged_front front) ∙ damage_of_all (behind_flags front) ps are
 
+-- nothing of a text is missing
 pub shows_all : ShowsAll
 shows_all n1 _ _ _ (shows.ends front rest pieces reads are) = unflagged_both front rest ∙ ap (λ l. l ++ unflagged rest) (front_of_all front pieces are)
 shows_all n1 _ _ _ (shows.frame front b x rest f pieces more spells reads are shown) =

@@ -62,6 +62,7 @@ same_bits_same (false ∷ xs) (true ∷ ys) e = cc
 table_computed : agree_below (λ x. same_bits (shifted_times 8 (octet_bits x)) (octet_bits (slice_index REMAINDERS x))) (λ _. true) 256 ≡ true
 table_computed = refl
 
+-- eight places of the division make of an octet what the table holds for it
 pub table_right : (x : ℕ) → x < 256 → shifted_times 8 (octet_bits x) ≡ octet_bits (slice_index REMAINDERS x)
 table_right x h = same_bits_same _ _ (agree_below_at (λ y. same_bits (shifted_times 8 (octet_bits y)) (octet_bits (slice_index REMAINDERS y))) (λ _. true) 256 x table_computed h)
 
@@ -114,6 +115,7 @@ entry_small = refl
 entry_lt : (x : ℕ) → x < 256 → slice_index REMAINDERS x < 256
 entry_lt x h = ltb-true (slice_index REMAINDERS x) 256 (agree_below_at (λ y. nat_lt (slice_index REMAINDERS y) 256) (λ _. true) 256 x entry_small h)
 
+-- over octets the register stays an octet
 pub registered_lt : (xs : List ℕ) (r : ℕ) → r < 256 → ((i : ℕ) → slice_index xs i < 256) → registered r xs < 256
 registered_lt [] r h k = h
 registered_lt (x ∷ xs) r h k = registered_lt xs (slice_index REMAINDERS (bit_xor r x)) (entry_lt (bit_xor r x) (xor_lt 8 r x h (k 0))) (λ i. k (suc i))
@@ -161,11 +163,13 @@ check_octet_registered xs k =
     ∙ ap (λ bs. number_of (map not bs)) (divided_all xs 255 small k)
     ∙ complement (registered 255 xs) (registered_lt xs 255 small k)
 
+-- one octet further by the table, the register over the others still comes to what it is over all
 pub registered_step : (xs : List ℕ) (i r v : ℕ) → i < length xs → v ≡ bit_xor r (slice_index xs i) → registered r (drop i xs) ≡ registered 255 xs → registered (slice_index REMAINDERS v) (drop (i + 1) xs) ≡ registered 255 xs
 registered_step xs i r v h e k =
     let d : drop i xs ≡ slice_index xs i ∷ drop (i + 1) xs = rw (add-one, drop-cons xs i 0) refl in
     rw e (sym (ap (registered r) d) ∙ k)
 
+-- and behind the last octet its complement is the check octet
 pub registered_end : (xs : List ℕ) (i r : ℕ) → length xs ≤ i → ((j : ℕ) → slice_index xs j < 256) → registered r (drop i xs) ≡ registered 255 xs → 255 - r ≡ check_octet_of xs
 registered_end xs i r h k e =
     let d : drop i xs ≡ [] = drop_all i xs h in

@@ -36,5 +36,6 @@ found_flag xs (Some k) h = first_flag xs k h.0.high (λ j l e. h.0.before j (ome
 pub found_none : (xs : List ℕ) → IsFirstByte (is_byte flag) xs None → after_flag xs ≡ None
 found_none xs h = found_flag xs None h
 
+-- a place that is found is that of the first flag
 pub found_some : (xs : List ℕ) (k : ℕ) → IsFirstByte (is_byte flag) xs (Some k) → IsFirstFlag xs k
 found_some xs k h = found_flag xs (Some k) h

@@ -10,6 +10,7 @@ use Rattle.mux_frame.specs.Laws.{AreOctets}
 use Rattle.mux_frame.specs.Rows.{AreSpelled, AreRead}
 use Rattle.mux_frame.proofs.readings.ComputedReadings.{found_in, found_reads}
 
+-- the frames of the examples are spelled so
 pub spelled_so : AreSpelled
 unfolding check_octet_of body_of
 spelled_so = refl
@@ -27,6 +28,7 @@ small_octets (x ∷ xs) e (suc i) = small_octets xs (and_parts (nat_lt x 256) (a
 reading : (s : List ℕ) → all_small s ≡ true → Reads 31 s (found_in 31 (length s) s).frames (found_in 31 (length s) s).rest
 reading s e = found_reads 31 (length s) s (omega arith) (small_octets s e)
 
+-- and their texts are read so
 pub read_so : AreRead
 unfolding check_octet_of verdict_on by_header by_end
 read_so = record {

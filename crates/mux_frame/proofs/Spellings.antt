@@ -53,9 +53,11 @@ kind_kept Uih false = refl
 control_tells : (k l : Kind) (p q : Bool) → control_of_kind k + (if p then 0x10 else 0) ≡ control_of_kind l + (if q then 0x10 else 0) → (k ≡ l) × (p ≡ q)
 control_tells k l p q e = (sym (kind_kept k p) ∙ ap kind_in e ∙ kind_kept l q, sym (pf_kept k p) ∙ ap pf_in e ∙ pf_kept l q)
 
+-- lists that are the same begin with the same octet
 pub head_same : (x y : ℕ) (xs ys : List ℕ) → x ∷ xs ≡ y ∷ ys → x ≡ y
 head_same x y xs ys e = cc
 
+-- and go on with the same ones
 pub tail_same : (x y : ℕ) (xs ys : List ℕ) → x ∷ xs ≡ y ∷ ys → xs ≡ ys
 tail_same x y xs ys e = cc
 
@@ -99,6 +101,7 @@ frame_same f g d k c p i =
     ∙ ap (λ x. frame_with g.dlci g.kind g.cr x f.info) p
     ∙ ap (λ x. frame_with g.dlci g.kind g.cr g.pf x) i
 
+-- four lists joined from the left are the same as joined from the right
 pub regroup : (xs ys zs us : List ℕ) → ((xs ++ ys) ++ zs) ++ us ≡ xs ++ (ys ++ (zs ++ us))
 regroup xs ys zs us = simp append_assoc
 
@@ -109,6 +112,7 @@ octets_of f indicator = header f indicator ++ f.info ++ check_octet_of (header f
 octets_same : (f g : Frame) (xs ys : List ℕ) → f ≡ g → xs ≡ ys → octets_of f xs ≡ octets_of g ys
 octets_same f g xs ys e h = ap (λ u. octets_of u xs) e ∙ ap (octets_of g) h
 
+-- octets spell one frame, and no spelling is the beginning of another
 pub one_spelling : (n m : ℕ) (b c x y : List ℕ) (f g : Frame) → Spells n b f → Spells m c g → b ++ x ≡ c ++ y → (b ≡ c) × (f ≡ g) × (x ≡ y)
 one_spelling n m b c x y f g sb sc e =
     let k : ℕ = check_octet_of (header f sb.indicator) in
@@ -138,6 +142,7 @@ pub spells_body : (n1 : ℕ) (f : Frame) → f.dlci < 62 → length f.info ≤ m
 unfolding body_of
 spells_body n1 f d r h = record { indicator = indicator_of (length f.info); octets = refl; dlci = d; indicates = indicates_of (length f.info) h; room = r }
 
+-- a length that is indicated is less than 32768
 pub length_small : (xs : List ℕ) (n : ℕ) → Indicates xs n → n < 32768
 length_small _ n (short _ h) = omega arith
 length_small _ n (long _ h) = h
@@ -151,6 +156,7 @@ shortest_at false _ n e (long _ h) = omega arith
 length-octets_of : (f : Frame) (xs : List ℕ) → length (octets_of f xs) ≡ 3 + length xs + length f.info
 length-octets_of f xs = simp (length-append) (omega arith)
 
+-- a frame that has a spelling has the shortest form as one, and no spelling is shorter
 pub spells_shortest : (n1 : ℕ) (b : List ℕ) (f : Frame) → Spells n1 b f → Spells n1 (body_of f) f × (length (body_of f) ≤ length b)
 unfolding body_of
 spells_shortest n1 b f s =
@@ -165,6 +171,7 @@ spells_shortest n1 b f s =
 joined : (a b c d e f : List ℕ) → ((((a ++ b) ++ c) ++ d) ++ e) ++ f ≡ a ++ (b ++ (((c ++ d) ++ e) ++ f))
 joined a b c d e f = simp append_assoc
 
+-- flag, header, information, check octet and flag, put behind one another, are the spelled frame
 pub written : (old a b d e g : List ℕ) (f : Frame) → a ≡ old ++ flag ∷ [] → b ≡ a ++ header f (indicator_of (length f.info)) → d ≡ b ++ f.info → e ≡ d ++ check_octet_of (header f (indicator_of (length f.info))) ∷ [] → g ≡ e ++ flag ∷ [] → g ≡ old ++ spelled f
 unfolding body_of
 written old a b d e g f p q r s t = rw (t, s, r, q, p) (joined old (flag ∷ []) (header f (indicator_of (length f.info))) f.info (check_octet_of (header f (indicator_of (length f.info))) ∷ []) (flag ∷ []))

@@ -49,6 +49,7 @@ counted_on : (place d : ℕ) (t u v : Tally) (b : Bool) → (place == d) ≡ b �
 counted_on place d t u v true e h = h (eqb-true place d e)
 counted_on place d t u v false e h = refl
 
+-- a frame that passed, was judged and heard, and was written and counted, is told
 pub frame_tells : (old mid new : Teller) (s : Stamp) (d : Direction) (f : Frame) (answered : Option Kind) (faults : Faults) (told : List Told)
     → length old.tallies ≡ 62 → f.dlci < 62
     → mid.tallies ≡ old.tallies → mid.text ≡ old.text → mid.is_wrong ≡ old.is_wrong
@@ -105,15 +106,18 @@ frame_tells old mid new s d f answered faults told n l mt mx mw e1 e2 e3 hw hf h
     setting_is : setting_of mid ≡ setting_of old
     setting_is = cc (e1, e2, e3)
 
+-- what follows from a fact of a call that went well follows, where it did
 pub on_ok : {T E : Type 0} (P Q : Type 0) (r : Result T E) → (P → Q) → OnOk r P → OnOk r Q
 on_ok P Q (Ok x) f p = f p
 on_ok P Q (Err e) f p = tt
 
+-- so an item is told, where the call went well
 pub tells_on_ok : {T E : Type 0} (r : Result T E) (old old2 new : Teller) (P : Type 0) (item : Item) → old ≡ old2 → (P → Tells old new item) → OnOk r P
     → OnOk r (Tells old2 new item)
 tells_on_ok r old old2 new P item e f p =
     on_ok P (Tells old2 new item) r (λ x. subst (λ (t : Teller). Tells t new item) e (f x)) p
 
+-- the counts that were read are those of the connection
 pub tally_read : (ts : List Tally) (i : ℕ) (t : Tally) → length ts ≡ 62 → i < 62 → t ≡ slice_index_or ts i t → t ≡ tally_at ts i
 tally_read ts i t n l e = e ∙ get_or_default ts i t no_tally (omega (arith, n))
 

@@ -30,6 +30,7 @@ alike s items d f g to from to_left from_left to2 from2 to_left2 from_left2 a b 
     subst (λ (x : Frame × List Frame × List Frame × List Frame × List Frame). Comes s items x.1 x.2 d x.0 x.3 x.4)
     (λ i. (sym a i, sym b i, sym c i, sym e i, sym h i)) m
 
+-- where the driver has no frame left the modem's next one comes
 pub modem_alone_comes : (s : Setting) (items : List Item) (to from : List FrameBuf) (b : FrameBuf) (f : Frame) → length to < 1 → 0 < length from
     → b ≡ slice_index_or from 0 b → f ≡ kept_frame b
     → Comes s items (map kept_frame to) (map kept_frame from) FromModem f (map kept_frame to) (map kept_frame (take (length from - 1) (drop 1 from)))
@@ -37,6 +38,7 @@ modem_alone_comes s items to from b f l m e is =
     alike s items FromModem f (kept_frame b) _ _ _ _ [] (kept_frame b ∷ map kept_frame (take (length from - 1) (drop 1 from))) [] (map kept_frame (take (length from - 1) (drop 1 from)))
     is (none_kept to l) (first_kept from b m e) (none_kept to l) refl (modem_alone (kept_frame b) _)
 
+-- where the modem has none left the driver's comes
 pub driver_alone_comes : (s : Setting) (items : List Item) (to from : List FrameBuf) (b : FrameBuf) (f : Frame) → 0 < length to → length from < 1
     → b ≡ slice_index_or to 0 b → f ≡ kept_frame b
     → Comes s items (map kept_frame to) (map kept_frame from) ToModem f (map kept_frame (take (length to - 1) (drop 1 to))) (map kept_frame from)
@@ -44,6 +46,7 @@ driver_alone_comes s items to from b f l m e is =
     alike s items ToModem f (kept_frame b) _ _ _ _ (kept_frame b ∷ map kept_frame (take (length to - 1) (drop 1 to))) [] (map kept_frame (take (length to - 1) (drop 1 to))) []
     is (first_kept to b l e) (none_kept from m) refl (none_kept from m) (driver_alone (kept_frame b) _)
 
+-- where both have some, and the driver's waits, the modem's comes
 pub modem_comes : (s : Setting) (items : List Item) (to from : List FrameBuf) (a b : FrameBuf) (w : Bool) (f g : Frame) → 0 < length to → 0 < length from
     → a ≡ slice_index_or to 0 a → b ≡ slice_index_or from 0 b → f ≡ kept_frame a → g ≡ kept_frame b → w ≡ waits s (frames_of items) f → w ≡ true
     → Comes s items (map kept_frame to) (map kept_frame from) FromModem g (map kept_frame to) (map kept_frame (take (length from - 1) (drop 1 from)))
@@ -54,6 +57,7 @@ modem_comes s items to from a b w f g l m ea eb fa gb ew is =
     gb (first_kept to a l ea) (first_kept from b m eb) (first_kept to a l ea) refl
     (modem (kept_frame a) (kept_frame b) _ _ (ap (λ (x : Frame). waits s (frames_of items) x) (sym fa) ∙ (sym ew ∙ is)))
 
+-- where the driver's doesn't wait it comes
 pub driver_comes : (s : Setting) (items : List Item) (to from : List FrameBuf) (a b : FrameBuf) (w : Bool) (f g : Frame) → 0 < length to → 0 < length from
     → a ≡ slice_index_or to 0 a → b ≡ slice_index_or from 0 b → f ≡ kept_frame a → g ≡ kept_frame a → w ≡ waits s (frames_of items) f → w ≡ false
     → Comes s items (map kept_frame to) (map kept_frame from) ToModem g (map kept_frame (take (length to - 1) (drop 1 to))) (map kept_frame from)
@@ -66,6 +70,7 @@ driver_comes s items to from a b w f g l m ea eb fa ga ew is =
 
 -- ## All frames
 
+-- no frame is told yet
 pub none_so_far : (t : Teller) (to from : List Frame) → BothSoFar t t to from to from
 none_so_far t to from = record { setting = refl; items = []; fits = λ h. h; merged = λ h all m. m }
 

@@ -41,6 +41,7 @@ steps_up_to told steps le =
 begun_none : (a : Option (List ℕ)) → IsBegun a a []
 begun_none a = record { part = []; left = []; split = refl; appended = appends_none a }
 
+-- behind the steps that are told no text stands yet
 pub steps_none : (told : ℕ) (a : Option (List ℕ)) → TellsSteps told told a a true
 steps_none told a = record {
   text = [];
@@ -49,6 +50,7 @@ steps_none told a = record {
   begun = begun_none a;
 }
 
+-- and then that of the next step
 pub steps_more : (told now : ℕ) (a b c : Option (List ℕ)) → TellsSteps told now a b true → Appends b c (step_text (now + 1)) → TellsSteps told (now + 1) a c true
 steps_more told now a b c h p =
     let all : Appends a c (h.text ++ step_text (now + 1)) = appends_more a b c h.text (step_text (now + 1)) (h.whole refl) p in
@@ -59,6 +61,7 @@ steps_more told now a b c h p =
       begun = record { part = h.text ++ step_text (now + 1); left = []; split = sym (append-nil (h.text ++ step_text (now + 1))); appended = all };
     }
 
+-- where the text of a step is cut off, a beginning of all those up to the last stands there
 pub steps_cut : (told now steps : ℕ) (a b c : Option (List ℕ)) → TellsSteps told now a b true → now < steps → IsBegun b c (step_text (now + 1)) → TellsSteps told steps a c false
 steps_cut told now steps a b c h le p =
     let behind = steps_behind (now + 1) (steps - (now + 1)) in
@@ -88,6 +91,7 @@ begun_on a b n count h =
     subst (λ (l : List ℕ). IsBegun a b l) (sym (steps_up_to (n / step) ((n + count) / step) le))
     (begun_first a b (steps_text (n / step)) (steps_behind (n / step) ((n + count) / step - n / step)) h)
 
+-- where nothing is told any more, nothing has to be for more octets
 pub counts_off : (old new : ProgressState) (count : ℕ) → new.is_on ≡ false → new.shown ≡ old.shown → Counts old new count
 unfolding Counts
 counts_off old new count off same before n h = record {
@@ -96,6 +100,7 @@ counts_off old new count off same before n h = record {
   begun = subst (λ (o : Option (List ℕ)). IsBegun before o (steps_text ((n + count) / step))) (sym same) (begun_on before old.shown n count h.begun);
 }
 
+-- else octets are counted where the steps that they make whole are told
 pub counts_on : (old new : ProgressState) (count : ℕ) → old.is_on ≡ true → new.read ≡ old.read + count
     → TellsSteps (old.read / step) (new.read / step) old.shown new.shown new.is_on → Counts old new count
 unfolding Counts
@@ -125,6 +130,7 @@ counts_more a b c m n p q before k h = subst (λ (i : ℕ). IsTold before c i) (
 
 -- ## The beginning and the end
 
+-- before any octet was read nothing is told
 pub begins : (p : ProgressState) (a : Option (List ℕ)) → p.shown ≡ a → (p.is_on ≡ true → p.read ≡ 0) → IsTold a p 0
 begins p a same none = record {
   read = none;
@@ -139,6 +145,7 @@ one_whole : (k : ℕ) → 1 ≤ k → clear_text k ≡ clear_text 1
 one_whole zero le = absurd (omega (arith, le))
 one_whole (suc k) le = refl
 
+-- where no step is whole there is nothing to clear
 pub ends_same : (p : ProgressState) (before : Option (List ℕ)) (n : ℕ) → (p.is_on ≡ true → p.read < step) → IsTold before p n → HasTold before p n
 ends_same p before n less h = record {
   whole =
@@ -150,6 +157,7 @@ ends_same p before n less h = record {
   begun = begun_first before p.shown (steps_text (n / step)) (clear_text (n / step)) h.begun;
 }
 
+-- else the line is cleared, or a beginning of that stands there
 pub ends_clear : (old new : ProgressState) (before : Option (List ℕ)) (n : ℕ) → old.is_on ≡ true → step ≤ old.read
     → (new.is_on ≡ true → Appends old.shown new.shown (clear_text 1)) → IsBegun old.shown new.shown (clear_text 1) → IsTold before old n → HasTold before new n
 ends_clear old new before n on much whole begun h =
@@ -181,9 +189,11 @@ at_end (Some all) (Some left) (Some last) octets p q e =
     let none : left ≡ [] = q ∙ e in
     sym (ap length p ∙ ap (λ (l : List ℕ). length (octets ++ l)) none ∙ ap length (append-nil octets))
 
+-- no octets were read yet
 pub read_none_counted : (input : Option (List ℕ)) (p : ProgressState) → CountsRead input input p p
 read_none_counted input p = record { octets = []; read = consumed_none input; counts = counts_none p }
 
+-- and then some, which are counted
 pub read_counted : (a b c : Option (List ℕ)) (old mid new : ProgressState) (octets : List ℕ) → CountsRead a b old mid → Consumes b c octets → Counts mid new (length octets) → CountsRead a c old new
 read_counted a b c old mid new octets h r k = record {
   octets = h.octets ++ octets;
@@ -193,13 +203,16 @@ read_counted a b c old mid new octets h r k = record {
       (counts_more old mid new (length h.octets) (length octets) h.counts k);
 }
 
+-- no octets are counted yet
 pub part_none : (input : Option (List ℕ)) (p : ProgressState) → CountsPart input p p
 part_none None p = record { count = 0; within = tt; counts = counts_none p }
 part_none (Some all) p = record { count = 0; within = omega arith; counts = counts_none p }
 
+-- what was read and counted is no more than the input has
 pub part_read : (input left : Option (List ℕ)) (old new : ProgressState) → CountsRead input left old new → CountsPart input old new
 part_read input left old new h = record { count = length h.octets; within = within input left h.octets h.read; counts = h.counts }
 
+-- and is all of it, where nothing more is to be read
 pub all_read : (input left last : Option (List ℕ)) (old new : ProgressState) → CountsRead input left old new → Consumes left last [] → IsAtEnd last → CountsAll input old new
 all_read input left last old new h r e = record { count = length h.octets; all = at_end input left last h.octets h.read r e; counts = h.counts }
 
@@ -213,6 +226,7 @@ more_all None left octets n p q = tt
 more_all (Some all) None octets n p q = absurd p
 more_all (Some all) (Some left) octets n p q = let e = ap length p ∙ length-append octets left in omega (arith, e, q)
 
+-- with octets that were read before, it is still no more than the input has
 pub part_behind : (input left : Option (List ℕ)) (old mid new : ProgressState) (octets : List ℕ) → Consumes input left octets → Counts old mid (length octets) → CountsPart left mid new → CountsPart input old new
 part_behind input left old mid new octets r k h = record {
   count = length octets + h.count;
@@ -220,6 +234,7 @@ part_behind input left old mid new octets r k h = record {
   counts = counts_more old mid new (length octets) h.count k h.counts;
 }
 
+-- or all of it
 pub all_behind : (input left : Option (List ℕ)) (old mid new : ProgressState) (octets : List ℕ) → Consumes input left octets → Counts old mid (length octets) → CountsAll left mid new → CountsAll input old new
 all_behind input left old mid new octets r k h = record {
   count = length octets + h.count;
@@ -231,9 +246,11 @@ all_within : (input : Option (List ℕ)) (n : ℕ) → IfSome input (λ all. n �
 all_within None n e = tt
 all_within (Some all) n e = omega (arith, e)
 
+-- all of it is no more than it has
 pub part_all : (input : Option (List ℕ)) (old new : ProgressState) → CountsAll input old new → CountsPart input old new
 part_all input old new h = record { count = h.count; within = all_within input h.count h.all; counts = h.counts }
 
+-- no more octets are told than an input has, where its status says that it isn't shown to its end
 pub tells_part : (input before : Option (List ℕ)) (old now new : ProgressState) (status : ℕ) → IsTold before old 0 → CountsPart input old now
     → ((a : Option (List ℕ)) (n : ℕ) → IsTold a now n → HasTold a new n) → ((status ≡ 0) ⊎ (status ≡ 3) → ⊥) → TellsRead input before new status
 unfolding Counts
@@ -244,6 +261,7 @@ tells_part input before old now new status begun h end bad = record {
   told = end before h.count (subst (λ (n : ℕ). IsTold before now n) (omega arith) (h.counts before 0 begun));
 }
 
+-- and all are told where all were counted, whatever the status
 pub tells_all : (input before : Option (List ℕ)) (old now new : ProgressState) (status : ℕ) → IsTold before old 0 → CountsAll input old now
     → ((a : Option (List ℕ)) (n : ℕ) → IsTold a now n → HasTold a new n) → TellsRead input before new status
 unfolding Counts

@@ -8,6 +8,7 @@ use Rattle.show_texts.specs.Complaints.{complaint_if}
 use Rattle.show_texts.specs.Progress.{AreTold}
 use Rattle.show_texts.specs.Rows.{ArePrinted}
 
+-- what is printed of frames, and of what is counted
 pub are_printed : ArePrinted
 unfolding complaint_if digits encode_with body_of check_octet_of
 are_printed = record {
@@ -30,6 +31,7 @@ are_printed = record {
   no_total = refl;
 }
 
+-- what is told of no step, of one and of three
 pub are_told : AreTold
 unfolding digits
 are_told = record { none = refl; one = refl; three = refl }

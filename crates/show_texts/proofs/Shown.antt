@@ -16,10 +16,12 @@ use Rattle.show_texts.specs.Telling.{Closes, Damage, Framed, Item, Setting, Tell
 
 -- ## Octets read and written
 
+-- no octets were read
 pub consumed_none : (a : Option (List ℕ)) → Consumes a a []
 consumed_none None = tt
 consumed_none (Some x) = refl
 
+-- some were read, and then others
 pub consumed_more : (a b c : Option (List ℕ)) (xs ys : List ℕ) → Consumes a b xs → Consumes b c ys → Consumes a c (xs ++ ys)
 consumed_more None b c xs ys p q = tt
 consumed_more (Some x) None c xs ys p q = absurd p
@@ -37,35 +39,43 @@ kept_same a None c xs p q e = tt
 kept_same a (Some y) None xs p q e = absurd q
 kept_same a (Some y) (Some z) xs p q e = q ∙ e
 
+-- no octets were written
 pub appended_none : (a : Option (List ℕ)) → Appends a a []
 appended_none None = tt
 appended_none (Some x) = sym (append-nil x)
 
+-- some were written, and then others
 pub appended_more : (a b c : Option (List ℕ)) (xs ys : List ℕ) → Appends a b xs → Appends b c ys → Appends a c (xs ++ ys)
 appended_more None b c xs ys p q = tt
 appended_more (Some x) None c xs ys p q = absurd p
 appended_more (Some x) (Some y) None xs ys p q = absurd q
 appended_more (Some x) (Some y) (Some z) xs ys p q = q ∙ (ap (λ l. l ++ ys) p ∙ append_assoc x xs ys)
 
+-- no octets were read behind these
 pub read_none : (a : Option (List ℕ)) (octets : List ℕ) → ReadsMore a a octets octets
 read_none a octets = record { more = []; read = consumed_none a; kept = sym (append-nil octets) }
 
+-- none were read where a reader keeps its octets, behind a read of none
 pub consumed_keeps : (a b c : Option (List ℕ)) → Consumes a b [] → Keeps b c → Consumes a c []
 consumed_keeps None b c p q = tt
 consumed_keeps (Some x) None c p q = absurd p
 consumed_keeps (Some x) (Some y) None p q = absurd q
 consumed_keeps (Some x) (Some y) (Some z) p q = p ∙ sym q
 
+-- a piece was read that stands behind the others
 pub read_at_once : (a b : Option (List ℕ)) (x y piece : List ℕ) → Consumes a b piece → y ≡ x ++ piece → ReadsMore a b x y
 read_at_once a b x y piece p e = record { more = piece; read = p; kept = e }
 
+-- so it was where none were read before it
 pub read_piece_on : (a b c : Option (List ℕ)) (x y piece : List ℕ) → Consumes a b [] → Consumes b c piece → y ≡ x ++ piece → ReadsMore a c x y
 read_piece_on a b c x y piece p q e = record { more = piece; read = consumed_more a b c [] piece p q; kept = e }
 
+-- a packet is told, and a part of the text, or none, is written
 pub octets_shown : (old mid new : Teller) (octets : List ℕ) (a b : Option (List ℕ)) → TellsOctets old mid octets → Writes mid new a b
     → ShowsOctets old new octets a b
 octets_shown old mid new octets a b t w = record { mid = mid; tells = t; writes = w }
 
+-- octets were read behind others, and then more
 pub read_on : (a b c : Option (List ℕ)) (x y z : List ℕ) → ReadsMore a b x y → ReadsMore b c y z → ReadsMore a c x z
 read_on a b c x y z p q = record {
   more = p.more ++ q.more;
@@ -73,6 +83,7 @@ read_on a b c x y z p q = record {
   kept = q.kept ∙ (ap (λ l. l ++ q.more) p.kept ∙ append_assoc x p.more q.more);
 }
 
+-- behind none, all octets that are there were read
 pub read_whole : (a b : Option (List ℕ)) (x y : List ℕ) → ReadsMore a b x y → x ≡ [] → Consumes a b y
 read_whole a b x y p e = subst (λ l. Consumes a b l) (sym (p.kept ∙ ap (λ l. l ++ p.more) e)) p.read
 
@@ -83,9 +94,11 @@ with_one_more : (p : Passed) (f : Frame) (frames : List Frame) (items : List Ite
 with_one_more p f [] items = refl
 with_one_more p f (g ∷ frames) items = with_one_more p f frames (Framed (caught p.stamp p.direction g) ∷ items)
 
+-- no frame of a packet is told yet
 pub no_frame_told : (t : Teller) (p : Passed) (frames : List Frame) → frames ≡ [] → TellsFrames t t p frames
 no_frame_told t p frames e = rw e (record { setting = refl; fits = λ written items h. h })
 
+-- and then one more
 pub frame_more_told : (old mid new : Teller) (p : Passed) (f : Frame) (frames all : List Frame) → TellsFrames old mid p frames
     → Tells mid new (Framed (caught p.stamp p.direction f)) → all ≡ frames ++ f ∷ [] → TellsFrames old new p all
 frame_more_told old mid new p f frames all h t e = rw e (record {
@@ -99,19 +112,23 @@ zero_is : (b : Bool) → b ≡ (0 == 0) → b ≡ false → ⊥
 zero_is true e f = cc
 zero_is false e f = cc
 
+-- where frames are counted there are some
 pub not_none : (frames : List FrameBuf) (n : ℕ) (b : Bool) → length frames ≡ n → b ≡ (n == 0) → b ≡ false → ¬ (map kept_frame frames ≡ [])
 not_none [] n b e f g h = zero_is b (f ∙ ap (λ (k : ℕ). k == 0) (sym e)) g
 not_none (x ∷ frames) n b e f g h = cc
 
+-- a packet in which no frame is read is told as damage
 pub packet_damage : (old new : Teller) (p : Passed) (frames : List Frame) (rest : List ℕ) → Reads 32767 p.octets frames rest → frames ≡ []
     → Tells old new (Damage p) → TellsPacket old new kind.Frame p
 packet_damage old new p [] rest r e t =
     record { setting = t.setting; frames = []; reads = record { rest = rest; reads = r }; fits = t.fits }
 packet_damage old new p (f ∷ frames) rest r e t = cc
 
+-- a packet of damage is told as that
 pub damage_packet : (old new : Teller) (p : Passed) → Tells old new (Damage p) → TellsPacket old new kind.Damage p
 damage_packet old new p t = record { setting = t.setting; frames = []; reads = refl; fits = t.fits }
 
+-- a packet in which frames are read is told by those
 pub packet_frames : (old new : Teller) (p : Passed) (frames : List Frame) (rest : List ℕ) → Reads 32767 p.octets frames rest → ¬ (frames ≡ [])
     → TellsFrames old new p frames → TellsPacket old new kind.Frame p
 packet_frames old new p [] rest r e t = absurd (e refl)
@@ -120,6 +137,7 @@ packet_frames old new p (f ∷ frames) rest r e t =
 
 -- ## Packets
 
+-- octets that are one packet, with nothing behind it, are told as that
 pub octets_told : (old new : Teller) (k : Kind) (p : Passed) (octets rest : List ℕ) → octets ≡ packet k p.stamp p.direction p.octets ++ rest → rest ≡ []
     → TellsPacket old new k p → TellsOctets old new octets
 octets_told old new k p octets rest e n t = record {
@@ -129,6 +147,7 @@ octets_told old new k p octets rest e n t = record {
   tells = t;
 }
 
+-- no packet is told yet
 pub none_so_far : (t : Teller) (a x : Option (List ℕ)) → ToldSoFar t t a a x x
 none_so_far t a x = record {
   packets = [];
@@ -141,6 +160,7 @@ none_so_far t a x = record {
   fits = λ h. h;
 }
 
+-- and then one more
 pub more_so_far : (old now new : Teller) (a b c x y z : Option (List ℕ)) (octets : List ℕ) → ToldSoFar old now a b x y
     → Consumes b c octets → ShowsOctets now new octets y z → ToldSoFar old new a c x z
 more_so_far old now new a b c x y z octets h r s =
@@ -158,6 +178,7 @@ more_so_far old now new a b c x y z octets h r s =
       fits = λ k. s.writes.fits h.written (with_packet s.tells.p t.frames h.items) (t.fits h.written h.items (h.fits k));
     }
 
+-- where nothing more is to be read all are
 pub whole_told : (old now : Teller) (a b c x y : Option (List ℕ)) → ToldSoFar old now a b x y → Consumes b c [] → IsAtEnd c
     → IsToldWhole old now a x y
 whole_told old now a b c x y h r e = record { left = b; end = kept_same a b c (packets_octets h.packets) h.read r e; told = h }

@@ -36,5 +36,6 @@ lowered start text has =
 named_is : (n : Name) (text : List ℕ) → HasHead (head n) text → named (map to_ascii_lowercase text) ≡ n
 named_is n text has = ap named (lowered (head n) text has) ∙ named-head n (map to_ascii_lowercase (drop (length (head n)) text))
 
+-- two names that a text begins with, in either case of letters, are one
 pub same_name : (m n : Name) (text : List ℕ) → HasHead (head m) text → HasHead (head n) text → m ≡ n
 same_name m n text first second = sym (named_is m text first) ∙ named_is n text second

@@ -40,6 +40,7 @@ written-at (Some e) c line is writes = cc
 written : (c : Command) (line : List ℕ) → Writes c (Ok line) → (refused_for c ≡ None) × (line ≡ text_of c)
 written c line writes = written-at (refused_for c) c line refl writes
 
+-- what a command was written as is read as this command, unless memory is refused
 pub written_is_read : (c : Command) (line : List ℕ) (read : Result (Option Command) CmdError) → WrittenIsRead c line read
 written_is_read c line (Ok None) writes reads =
     let is = written c line writes in
@@ -64,9 +65,11 @@ read_back c text (Ok line) is writes =
     }
 read_back c text (Err e) is writes = writes
 
+-- a command that was read is written as the text, but for the case of the letters of AT and of its name
 pub read_is_written : (c : Command) (text : List ℕ) (line : Result (List ℕ) CmdError) → ReadIsWritten c text line
 read_is_written c text line reads writes = read_back c text line reads.is (writes_at (refused_for c) c line reads.is.written writes)
 
+-- a text is that of one command at most
 pub of_one : (text : List ℕ) (c d : Command) → IsOfOne text c d
 of_one text c d first second =
     let one = read_only (name_of d) text second.begins c first in

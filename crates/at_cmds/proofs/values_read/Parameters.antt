@@ -14,6 +14,7 @@ abbrev pub put_text : List ℕ → List (List ℕ) → List (List ℕ)
 put_text front [] = front ∷ []
 put_text front (first ∷ more) = (front ++ first) ∷ more
 
+-- an octet in front of the first text comes behind what is put there
 pub put_text-put_front : (front : List ℕ) (c : ℕ) (texts : List (List ℕ)) → put_text front (put_front c texts) ≡ put_text (front ++ c ∷ []) texts
 put_text-put_front front c [] = refl
 put_text-put_front front c (first ∷ more) = ap (λ x. x ∷ more) (sym (append_assoc front (c ∷ []) first))
@@ -30,6 +31,7 @@ put_text-chosen : (b : Bool) (c : ℕ) (behind texts : List (List ℕ)) → put_
 put_text-chosen true c behind texts = refl
 put_text-chosen false c behind texts = put_text-started texts c
 
+-- no octets in front of the first parameter leave the parameters as they are
 pub put_text-empty : (q : Bool) (text : List ℕ) → put_text [] (divided q text) ≡ divided q text
 put_text-empty q [] = refl
 put_text-empty q (c ∷ text) = put_text-chosen (is_comma c && not q) c (divided false text) (divided (if is_quote c then not q else q) text)

@@ -26,6 +26,7 @@ bind_some None f Holds each = tt
 pub holds_of : {A : Type 0} (o : Option A) (Holds : A → Type 0) → IfSome o Holds → (a : A) → o ≡ Some a → Holds a
 holds_of o Holds held a is = let P : Option _ → Type 0 = λ x. IfSome x Holds in subst P is held
 
+-- texts that compare equal are equal
 pub same_octets : (a b : List ℕ) → bytes_eq a b ≡ true → a ≡ b
 same_octets a b = (bytes_eq-Decides a b).0
 
@@ -43,6 +44,7 @@ numeral_back-at false n low small =
     let value : (48 + n / 10 - 48) * 10 + (48 + n % 10 - 48) ≡ n = omega arith in
     rw (leads, first, second, value) refl
 
+-- the numeral of a number below 100 is read as that number
 pub numeral_back : (n : ℕ) → n < 100 → numeral_in (numeral n) ≡ Some n
 numeral_back n small = numeral_back-at (nat_lt n 10) n refl small
 
@@ -68,6 +70,7 @@ two_digits high low leads first second =
     let ones : 48 + n % 10 ≡ low = omega arith in
     rw (long, tens, ones) refl
 
+-- what is not true is false
 pub not_true : (b : Bool) → not b ≡ true → b ≡ false
 not_true true is = cc
 not_true false is = refl
@@ -85,6 +88,7 @@ quoted_parts quoted start end =
     ∙ ap (λ x. x ++ behind) start
     ∙ ap (λ x. 34 ∷ x) (sym (take-append-drop (length behind - 1) behind) ∙ ap (λ x. take (length behind - 1) behind ++ x) end)
 
+-- what is read as a numeral is the numeral of a number below 100
 pub numeral_is : (text : List ℕ) → IfSome (numeral_in text) (IsNumeral text)
 unfolding numeral_in
 numeral_is [] = tt
@@ -116,6 +120,7 @@ pub record IsQuoted (quoted text : List ℕ) : Type 0 where
   pub spelt : quoted ≡ in_quotes text
   pub plain : list_any is_quote text ≡ false
 
+-- a text that is read out of quotes stood between two, and has none in it
 pub quoted_is : (quoted : List ℕ) → IfSome (unquoted quoted) (IsQuoted quoted)
 unfolding unquoted
 quoted_is quoted =

@@ -22,6 +22,7 @@ found_at : {X R : Type 0} (test : X → Bool) (f : X → R) (x : X) (xs : List X
 found_at test f x xs true e h = rw e refl
 found_at test f x xs false e h = rw e h
 
+-- something is found just where any passes
 pub some_found : {X R : Type 0} (test : X → Bool) (f : X → R) (xs : List X) → is_some (option_map f (find test xs)) ≡ list_any test xs
 some_found test f [] = refl
 some_found test f (x ∷ xs) = found_at test f x xs (test x) refl (some_found test f xs)
@@ -46,22 +47,27 @@ some_if : {T R : Type 0} (f : T → R) (b : Bool) (x : T) → is_some (option_ma
 some_if f true x = refl
 some_if f false x = refl
 
+-- and has a place just there
 pub some_placed : {X R : Type 0} (test : X → Bool) (f : ℕ → R) (xs : List X) → is_some (option_map f (position test xs)) ≡ list_any test xs
 some_placed test f xs = some_if f (nat_lt (position_or_len test xs) (length xs)) (position_or_len test xs) ∙ placed test xs
 
 -- ## Which lines end an answer, and which are unsolicited
 
+-- a line is a final code of the standard just where one of its rules takes it
 pub standard_final : (line : List ℕ) → is_some (final_of line) ≡ list_any (λ r. takes r.0 line) standard_finals
 standard_final line = ap is_some (final_rules line) ∙ some_found (λ r. takes r.0 line) (λ r. r.1 line) standard_finals
 
+-- and unsolicited by the standard just where one of those takes it
 pub standard_urc : (line : List ℕ) → is_some (unsolicited_of line) ≡ list_any (λ r. takes r.0 line) standard_urcs
 standard_urc line = ap is_some (kind_rules line) ∙ some_found (λ r. takes r.0 line) (λ r. r.1) standard_urcs
 
+-- a line ends an answer by the standard, or by a rule of one's own
 pub some_final : (rules : Rules) (line : List ℕ) → is_some (final_by rules line) ≡ (is_some (final_of line) || list_any (λ p. takes p line) rules.finals)
 some_final rules line =
     some_or (final_of line) (option_map Named (position (λ p. takes p line) rules.finals))
     ∙ ap (λ b. is_some (final_of line) || b) (some_placed (λ p. takes p line) Named rules.finals)
 
+-- and is unsolicited by the standard, or by a rule of one's own
 pub some_urc : (rules : Rules) (line : List ℕ) → is_some (kind_by rules line) ≡ (is_some (unsolicited_of line) || list_any (λ u. takes u.pattern line) rules.urcs)
 some_urc rules line =
     some_or (unsolicited_of line) (option_map (λ u. Own u.kind) (find (λ u. takes u.pattern line) rules.urcs))

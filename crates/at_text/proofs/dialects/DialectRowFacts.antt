@@ -9,6 +9,7 @@ use Rattle.at_text.proofs.dialects.Sound.{sound_standard}
 use Rattle.at_text.proofs.dialects.Known.{sound_common}
 use Rattle.at_text.proofs.dialects.Refusing.{refused, not_refused}
 
+-- these lines are final codes of the dialects that come ready, or aren't
 pub are_known_finals : AreKnownFinals
 are_known_finals = record {
   message = refl;
@@ -23,6 +24,7 @@ are_known_finals = record {
   connect = refl;
 }
 
+-- these are of their kinds, or of none
 pub are_known_kinds : AreKnownKinds
 are_known_kinds = record {
   eps = refl;
@@ -45,6 +47,7 @@ are_known_kinds = record {
   name = refl;
 }
 
+-- a vendor's rules take what the standard leaves, and those of one name share a kind
 pub is_vendor : IsVendor
 is_vendor = record {
   failed = refl;
@@ -55,6 +58,7 @@ is_vendor = record {
   behind = refl;
 }
 
+-- these rules are refused, for these reasons
 pub are_refused : AreRefused
 unfolding can_meet
 are_refused = record {
@@ -70,6 +74,7 @@ are_refused = record {
   own = refused _ _ _ sound_common refl;
 }
 
+-- and these for none
 pub are_taken : AreTaken
 unfolding can_meet
 are_taken = record {

@@ -43,11 +43,13 @@ head_same Quoted text line e h = head_long (pattern Quoted text) line h (leb-tru
 head_same Report text line e h = head_long (pattern Report text) line h (leb-true 4 (length text) e)
 head_same OpenReport text line e h = head_long (pattern OpenReport text) line h (leb-true 4 (length text) e)
 
+-- a line's head is one of 64
 pub head_below : (line : List ℕ) → head line < 64
 head_below line = omega arith
 
 -- ## Spans that get one more place
 
+-- each new span has at least the places of the old one
 abbrev pub Kept : List Span → List Span → Type 0
 Kept old new = (k i : ℕ) → IsIn i (span_at old k) → IsIn i (span_at new k)
 
@@ -98,6 +100,7 @@ last_or [] y x (suc i) P f q h = cc
 last_or (z ∷ xs) y x zero P f q h = f 0 x h
 last_or (z ∷ xs) y x (suc i) P f q h = last_or xs y x i (λ j w. P (suc j) w) (λ j w e. f (suc j) w e) q h
 
+-- spans that hold the places of some rules hold those of one more, if each of its lines finds it there
 pub spanned_more : (rules : List Pattern) (p : Pattern) (n : ℕ) (old new : List Span) → n ≡ length rules → AreSpanned rules old → Kept old new
     → ((line : List ℕ) → takes p line ≡ true → IsIn n (span_at new (head line))) → AreSpanned (rules ++ p ∷ []) new
 spanned_more rules p n old new last spanned kept more place rule line at =
@@ -111,42 +114,51 @@ spanned_next rules i p old new inside is spanned kept more =
     subst (λ ps. AreSpanned ps new) (sym (split_at rules i p inside is))
     (spanned_more (take i rules) p i old new (sym (length-take-le i rules (omega (arith, inside)))) spanned kept more)
 
+-- when all are taken, the spans hold the places of all
 pub spanned_all : (rules : List Pattern) (i : ℕ) (spans : List Span) → length rules ≤ i → AreSpanned (take i rules) spans → AreSpanned rules spans
 spanned_all rules i spans l spanned = subst (λ ps. AreSpanned ps spans) (take_all i rules l) spanned
 
+-- the patterns of unsolicited rules
 abbrev pub patterns : List Urc → List Pattern
 patterns urcs = map (λ u. u.pattern) urcs
 
 more_patterns : (urcs : List Urc) (u : Urc) → patterns (urcs ++ u ∷ []) ≡ patterns urcs ++ u.pattern ∷ []
 more_patterns urcs u = map-append (λ (v : Urc). v.pattern) urcs (u ∷ [])
 
+-- one more unsolicited rule is held by the spans, if each of its lines finds it there
 pub spanned_more_urc : (urcs : List Urc) (u : Urc) (n : ℕ) (old new : List Span) → n ≡ length urcs → AreSpanned (patterns urcs) old → Kept old new
     → ((line : List ℕ) → takes u.pattern line ≡ true → IsIn n (span_at new (head line))) → AreSpanned (patterns (urcs ++ u ∷ [])) new
 spanned_more_urc urcs u n old new last spanned kept more =
     subst (λ ps. AreSpanned ps new) (sym (more_patterns urcs u))
     (spanned_more (patterns urcs) u.pattern n old new (last ∙ sym (length-map urcs (λ (v : Urc). v.pattern))) spanned kept more)
 
+-- the same of unsolicited rules taken one after the other
 pub spanned_next_urc : (urcs : List Urc) (i : ℕ) (u : Urc) (old new : List Span) → i < length urcs → u ≡ get_or urcs i u → AreSpanned (patterns (take i urcs)) old → Kept old new
     → ((line : List ℕ) → takes u.pattern line ≡ true → IsIn i (span_at new (head line))) → AreSpanned (patterns (take (i + 1) urcs)) new
 spanned_next_urc urcs i u old new inside is spanned kept more =
     subst (λ us. AreSpanned (patterns us) new) (sym (split_at urcs i u inside is))
     (spanned_more_urc (take i urcs) u i old new (sym (length-take-le i urcs (omega (arith, inside)))) spanned kept more)
 
+-- and when all of them are taken
 pub spanned_all_urcs : (urcs : List Urc) (i : ℕ) (spans : List Span) → length urcs ≤ i → AreSpanned (patterns (take i urcs)) spans → AreSpanned (patterns urcs) spans
 spanned_all_urcs urcs i spans l spanned = subst (λ us. AreSpanned (patterns us) spans) (take_all i urcs l) spanned
 
+-- any spans hold the places of no rules
 pub spanned_none : (spans : List Span) → AreSpanned [] spans
 spanned_none spans place rule line at h = cc
 
+-- 64 empty spans do for a dialect without rules of its own
 pub kept_standard : IsKept no_rules (replicate 64 no_places) (replicate 64 no_places)
 kept_standard = record { sound = sound_standard; finals = spanned_none (replicate 64 no_places); urcs = spanned_none (replicate 64 no_places) }
 
 -- ## Rules by a line's span
 
+-- the final rules that take a line stand in the span of its head alone
 pub only_finals : (rules : List Pattern) (spans : List Span) (line : List ℕ) → AreSpanned rules spans
     → Only (λ p. takes p line) rules (span_at spans (head line)).start (span_at spans (head line)).end
 only_finals rules spans line h i p at t = let inside = h i p line at t in (inside.from, inside.below)
 
+-- so do the unsolicited ones
 pub only_urcs : (urcs : List Urc) (spans : List Span) (line : List ℕ) → AreSpanned (map (λ u. u.pattern) urcs) spans
     → Only (λ u. takes u.pattern line) urcs (span_at spans (head line)).start (span_at spans (head line)).end
 only_urcs urcs spans line h i u at t =

@@ -6,6 +6,7 @@ use Rattle.at_text.specs.Deciding.{can_meet}
 use Rattle.at_text.specs.KnownRules.{common, dialling}
 use Rattle.at_text.proofs.dialects.Sound.{sound_by}
 
+-- the rules of `common` are sound
 pub sound_common : IsSound common
 unfolding can_meet
 sound_common = sound_by common (record {
@@ -21,6 +22,7 @@ sound_common = sound_by common (record {
   command_urcs = refl;
 })
 
+-- and those of `dialling`
 pub sound_dialling : IsSound dialling
 unfolding can_meet
 sound_dialling = sound_by dialling (record {

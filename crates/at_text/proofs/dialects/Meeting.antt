@@ -21,6 +21,7 @@ use Rattle.at_text.specs.Deciding.{both_take, longer, can_meet}
 at_front : (text rest : List ℕ) → starts_with nat_eq (text ++ rest) text ≡ true
 at_front text rest = (starts_is Decides-eqb (text ++ rest) text (starts_with nat_eq (text ++ rest) text) refl).1 rest refl
 
+-- a rule takes its text with something behind it just where that goes on as its form says
 pub takes_front : (p : Pattern) (rest : List ℕ) → takes p (p.text ++ rest) ≡ goes_on p.form rest
 takes_front p rest = rw (at_front p.text rest, drop_at p.text rest (length p.text) refl) refl
 
@@ -30,6 +31,7 @@ pub record Taken (p : Pattern) (line : List ℕ) : Type 0 where
   pub whole : line ≡ p.text ++ rest
   pub going : goes_on p.form rest ≡ true
 
+-- a line that a rule takes is such a one
 pub taken : (p : Pattern) (line : List ℕ) → takes p line ≡ true → Taken p line
 taken p line h =
     let parts = and_parts (starts_with nat_eq line p.text) (goes_on p.form (drop (length p.text) line)) h in

@@ -18,6 +18,7 @@ or_length : (b : Bool) (k n : ℕ) → nat_lt k n ≡ b → k ≤ n → unwrap_o
 or_length true k n e h = refl
 or_length false k n e h = let l : n ≤ k = ltb-false k n e in omega arith
 
+-- the place of the first that passes, or else how many there are
 pub place_or_length : {X : Type 0} (test : X → Bool) (xs : List X) → unwrap_or (position test xs) (length xs) ≡ position_or_len test xs
 place_or_length test xs =
     or_length (nat_lt (position_or_len test xs) (length xs)) (position_or_len test xs) (length xs) refl (prefix_len-le-length (λ x. not (test x)) xs)
@@ -27,6 +28,7 @@ place_or_length test xs =
 abbrev name_in : List Urc → ℕ → Option (List ℕ)
 name_in us place = option_map (λ u. u.name) (slice_get us place)
 
+-- the name at a place stays when a rule comes behind
 pub kept_name : (us : List Urc) (v : Urc) (place : ℕ) (name : List ℕ) → name_in us place ≡ Some name → name_in (us ++ v ∷ []) place ≡ Some name
 kept_name [] v place name h = cc
 kept_name (u ∷ us) v zero name h = h
@@ -40,10 +42,12 @@ found_name : (us : List Urc) (u v : Urc) (name : List ℕ) (b : Bool) → bytes_
 found_name us u v name true e h = ap Some ((bytes_eq-Decides u.name name).0 e)
 found_name us u v name false e h = rw (one_more (position_or_len (λ w. bytes_eq w.name name) us)) h
 
+-- a new rule's kind, the place of the first rule of its name, has that name
 pub last_name : (us : List Urc) (v : Urc) → name_in (us ++ v ∷ []) (position_or_len (λ w. bytes_eq w.name v.name) us) ≡ Some v.name
 last_name [] v = refl
 last_name (u ∷ us) v = found_name us u v v.name (bytes_eq u.name v.name) refl (last_name us v)
 
+-- what holds of all, and of one more, holds of all with it
 pub all_more : {X : Type 0} (P Q : X → Type 0) → ((x : X) → P x → Q x) → (xs : List X) (y : X) → AllByRecursion P xs → Q y → AllByRecursion Q (xs ++ y ∷ [])
 all_more P Q f [] y h q = (q, tt)
 all_more P Q f (x ∷ xs) y h q = (f x h.0, all_more P Q f xs y h.1 q)
@@ -68,6 +72,7 @@ not_own_by false false false false true f k h = cc
 not_own_by false false false false false true k h = cc
 not_own_by false false false false false false k h = cc
 
+-- the standard's kinds are none of one's own
 pub not_own : (line : List ℕ) (k : ℕ) → unsolicited_of line ≡ Some (Own k) → ⊥
 not_own line k h =
     not_own_by (bytes_eq line (codes "RING")) (starts_with nat_eq line (codes "+CRING:")) (is_report (codes "+CREG:") line) (is_report (codes "+CGREG:") line)

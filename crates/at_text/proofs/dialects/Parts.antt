@@ -37,6 +37,7 @@ no_front : {X : Type 0} (s : ℕ) → drop {A = X} s [] ≡ []
 no_front zero = refl
 no_front (suc s) = refl
 
+-- what is found in the whole is found in that part
 pub found_in : {X : Type 0} (test : X → Bool) (xs : List X) (s e : ℕ) → Only test xs s e → find test xs ≡ find test (drop s (take e xs))
 found_in test [] s e h = rw (no_part s e) refl
 found_in test (x ∷ xs) s zero h =
@@ -68,6 +69,7 @@ placed_from test (x ∷ xs) zero (suc e) j h =
 placed_from test (x ∷ xs) (suc s) (suc e) j h =
     rw (not_first test x xs s (suc e) h, one_later s j) (placed_from test xs s e (j + 1) (only_rest test x xs s e h))
 
+-- at the same place, counted from the part's start
 pub placed_in : {X : Type 0} (test : X → Bool) (xs : List X) (s e : ℕ) → Only test xs s e → position test xs ≡ option_map (λ k. s + k) (position test (drop s (take e xs)))
 placed_in test xs s e h =
     position_from-zero test xs ∙ placed_from test xs s e 0 h
@@ -92,6 +94,7 @@ same_back ys s n short =
 short_front : {X : Type 0} (n : ℕ) (xs : List X) → length (take n xs) ≤ n
 short_front n xs = rw (length-take n xs) (min-le_left n (length xs))
 
+-- a part whose bounds are cut to the list is the same part
 pub part_is : {X : Type 0} (xs : List X) (s e start end : ℕ) → end ≡ min e (length xs) → start ≡ min s end → take (end - start) (drop start xs) ≡ drop s (take e xs)
 part_is xs s e start end is_end is_start =
     let up : start ≤ end = rw is_start (min-le_right s end) in

@@ -223,14 +223,18 @@ decided rules rule sound =
 
 -- ## For callers
 
+-- the refusal that is decided is the first reason that holds
 pub refused : (rules : Rules) (rule : Rule) (why : DialectError) → IsSound rules → refusal_of rules rule ≡ Some why → IsRefused rules rule why
 refused rules rule why sound e = let d : Chosen rules rule (Some why) = rw e at (decided rules rule sound) in d
 
+-- where none is decided, no reason holds but want of memory
 pub not_refused : (rules : Rules) (rule : Rule) → IsSound rules → refusal_of rules rule ≡ None → HasNoReasonBelow 8 rules rule
 not_refused rules rule sound e = let d : Chosen rules rule None = rw e at (decided rules rule sound) in d
 
+-- so a refusal for want of memory is right there
 pub no_memory : (rules : Rules) (rule : Rule) → IsSound rules → refusal_of rules rule ≡ None → IsRefused rules rule NoMemory
 no_memory rules rule sound e = record { holds = tt; first = not_refused rules rule sound e }
 
+-- and the rules with the new one are sound
 pub sound_more : (rules : Rules) (rule : Rule) → IsSound rules → refusal_of rules rule ≡ None → IsSound (with_rule rules rule)
 sound_more rules rule sound e = sound_with rules rule sound (not_refused rules rule sound e)

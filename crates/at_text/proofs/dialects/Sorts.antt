@@ -18,6 +18,7 @@ pub record MetAny {X : Type 0} (view : X → Pattern) (p : Pattern) (xs : List X
   pub one : takes p line ≡ true
   pub any : list_any (λ x. takes (view x) line) xs ≡ true
 
+-- a rule that can meet one of some has a line in common with one of them
 pub met_any : {X : Type 0} (view : X → Pattern) (p : Pattern) (xs : List X) → list_any (λ x. can_meet p (view x)) xs ≡ true → MetAny view p xs
 met_any view p [] h = cc
 met_any view p (x ∷ xs) h =
@@ -26,9 +27,11 @@ met_any view p (x ∷ xs) h =
       | inr b ↦ let m = met_any view p xs b in record { line = m.line; one = m.one; any = or_right (takes (view x) m.line) (list_any (λ y. takes (view y) m.line) xs) m.any }
     ]
 
+-- the texts of all are short
 abbrev pub are_short : {X : Type 0} → (X → Pattern) → List X → Bool
 are_short view xs = list_all (λ x. is_short (view x).text) xs
 
+-- a short rule with a line in common with one of some short ones can meet one of them
 pub any_met : {X : Type 0} (view : X → Pattern) (p : Pattern) → is_short p.text ≡ true → (xs : List X) → are_short view xs ≡ true → (line : List ℕ) → takes p line ≡ true
     → list_any (λ x. takes (view x) line) xs ≡ true → list_any (λ x. can_meet p (view x)) xs ≡ true
 any_met view p short [] shorts line one any = any
@@ -54,6 +57,7 @@ apart view look (x ∷ xs) ys short shorts none line one any =
 
 -- ## Command lines
 
+-- the two rules that take what begins as a command line does
 abbrev pub commands : List Pattern
 commands = pattern Prefix (codes "AT") ∷ pattern Prefix (codes "at") ∷ []
 
@@ -61,14 +65,17 @@ or_false : (b : Bool) → (b || false) ≡ b
 or_false true = refl
 or_false false = refl
 
+-- a text begins with AT or at just where one of them takes it
 pub has_at_taken : (line : List ℕ) → has_at line ≡ list_any (λ p. takes p line) commands
 has_at_taken line = rw (takes_prefix (codes "AT") line, takes_prefix (codes "at") line, or_false) refl
 
+-- a rule that can meet one of them takes a command
 pub command_met : (p : Pattern) → can_take_command p ≡ true → TakesCommand p
 command_met p h =
     let m = met_any (λ q. q) p commands (ap (λ b. can_meet p (pattern Prefix (codes "AT")) || b) (or_false (can_meet p (pattern Prefix (codes "at")))) ∙ h) in
     record { line = m.line; begins = has_at_taken m.line ∙ m.any; taken = m.one }
 
+-- a short rule that takes a command can meet one of them
 pub command_shown : (p : Pattern) → is_short p.text ≡ true → TakesCommand p → can_take_command p ≡ true
 command_shown p short t =
     ap (λ b. can_meet p (pattern Prefix (codes "AT")) || b) (sym (or_false (can_meet p (pattern Prefix (codes "at")))))

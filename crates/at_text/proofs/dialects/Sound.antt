@@ -19,10 +19,12 @@ use Rattle.at_text.proofs.dialects.Choosing.{standard_final, standard_urc, some_
 use Rattle.at_text.proofs.dialects.Naming.{all_more, kept_name, last_name}
 use Rattle.at_text.proofs.dialects.Sorts.{apart, are_short, commands, has_at_taken}
 
+-- what isn't some is none
 pub none_from : {T : Type 0} (o : Option T) → is_some o ≡ false → o ≡ None
 none_from None h = refl
 none_from (Some x) h = cc
 
+-- and none isn't some
 pub none_not : {T : Type 0} (o : Option T) → o ≡ None → is_some o ≡ false
 none_not o h = ap is_some h
 
@@ -85,6 +87,7 @@ no_urc_at rules k line at unasked =
       | inr a ↦ apart (λ p. p) (λ u. u.pattern) commands rules.urcs refl k.short_urcs k.command_urcs line begun a
     ]
 
+-- rules whose tests pass are sound
 pub sound_by : (rules : Rules) → Checks rules → IsSound rules
 sound_by rules k = record {
   few = k.few;
@@ -97,6 +100,7 @@ sound_by rules k = record {
   no_urc = λ line at. none_from (kind_by rules line) (false_from_ne_true (is_some (kind_by rules line)) (no_urc_at rules k line at));
 }
 
+-- a dialect without rules of its own is sound
 pub sound_standard : IsSound no_rules
 unfolding can_meet
 sound_standard = sound_by no_rules (record {
@@ -114,6 +118,7 @@ sound_standard = sound_by no_rules (record {
 
 -- ## One more rule
 
+-- one of the elements passes, with one more behind, if one did or that one does
 pub any_push : {X : Type 0} (test : X → Bool) (xs : List X) (x : X) → list_any test (xs ++ x ∷ []) ≡ (list_any test xs || (test x || false))
 any_push test xs x = list_any-append test xs (x ∷ [])
 
@@ -146,6 +151,7 @@ no_more_urc rules u line before e =
 is_short_from : (text : List ℕ) → ¬ (64 < length text) → is_short text ≡ true
 is_short_from text h = le-leb (length text) 64 (grind arith)
 
+-- sound rules and one that nothing speaks against are sound
 pub sound_with : (rules : Rules) (rule : Rule) → IsSound rules → HasNoReasonBelow 8 rules rule → IsSound (with_rule rules rule)
 sound_with rules (FinalRule form text) sound none = record {
   few = let l : ¬ (64 ≤ count rules) = none TooManyRules (omega arith) in rw length_push (grind arith);

@@ -21,6 +21,7 @@ use Rattle.at_text.specs.StandardRules.{AreStandard, standard_finals, standard_u
 use Rattle.at_text.proofs.NoRules.{no_rules_standard}
 use Rattle.at_text.proofs.dialects.Meeting.{taken, takes_front}
 
+-- a rule of a whole line takes just the line that is its text
 pub takes_line : (text line : List ℕ) → takes (pattern Line text) line ≡ bytes_eq line text
 takes_line text line =
     same_from_decides (takes (pattern Line text) line) (bytes_eq line text) (
@@ -34,6 +35,7 @@ and_true : (b : Bool) → (b && true) ≡ b
 and_true true = refl
 and_true false = refl
 
+-- a rule of a prefix takes just the lines that begin with its text
 pub takes_prefix : (text line : List ℕ) → takes (pattern Prefix text) line ≡ starts_with nat_eq line text
 takes_prefix text line = and_true (starts_with nat_eq line text)
 
@@ -50,6 +52,7 @@ report_at text line none true e =
     let same : after_comma (drop (length text) line) ≡ after_comma line = sym (ap after_comma whole ∙ none (drop (length text) line)) in
     rw same refl
 
+-- a rule of a report, whose text has no comma, takes just the reports of that name
 pub takes_report : (text line : List ℕ) → HasNoComma text → takes (pattern Report text) line ≡ is_report text line
 takes_report text line none = report_at text line none (starts_with nat_eq line text) refl
 
@@ -71,6 +74,7 @@ final_step : (line : List ℕ) (p : Pattern) (says : List ℕ → Final) (rest :
 final_step line p says rest b o e h =
     step (λ (r : FinalRow). takes r.0 line) (λ (r : FinalRow). r.1 line) (p, says) rest b o e (sym h)
 
+-- a line is the final code of the first rule of the standard's list that takes it
 pub final_rules : (line : List ℕ) → final_of line ≡ first_final line standard_finals
 final_rules line =
     final_step line (pattern Line (codes "OK")) (λ l. Good) (drop 1 standard_finals) (bytes_eq line (codes "OK")) _ (takes_line (codes "OK") line)
@@ -98,6 +102,7 @@ by_report : (line text : List ℕ) (kind : UrcKind) (rest : List KindRow) (o : O
 by_report line text kind rest o none h =
     kind_step line (pattern Report text) kind rest (is_report text line) o (takes_report text line none) h
 
+-- and of the kind of the first unsolicited one
 pub kind_rules : (line : List ℕ) → unsolicited_of line ≡ first_kind line standard_urcs
 kind_rules line =
     kind_step line (pattern Line (codes "RING")) Ring (drop 1 standard_urcs) (bytes_eq line (codes "RING")) _ (takes_line (codes "RING") line)
@@ -107,5 +112,6 @@ kind_rules line =
     (by_prefix line (codes "+CGEV:") Cgev (drop 5 standard_urcs) _
     (by_prefix line (codes "+CIEV:") Ciev [] None refl)))))
 
+-- the standard's lists are its rules, and without rules of one's own the dialect is the standard
 pub are_standard : AreStandard
 are_standard = record { finals = final_rules; kinds = kind_rules; none = no_rules_standard }

@@ -19,6 +19,7 @@ cut_room run octet room = sym (take_all 512 (run ++ octet ∷ []) (rw length-app
 pub cut_full : (run : List ℕ) (octet : ℕ) → length run ≡ 512 → run ≡ cut (run ++ octet ∷ [])
 cut_full run octet full = sym (take-append-le 512 run (octet ∷ []) (omega arith) ∙ take_all 512 run (omega arith))
 
+-- a run of at most 512 octets is kept whole
 pub cut_fits : (run : List ℕ) → length run ≤ 512 → cut run ≡ run
 cut_fits run fits = take_all 512 run fits
 
@@ -29,6 +30,7 @@ cut_more run octets room count all e =
     ∙ (sym (take-append-add run octets room)
     ∙ ap (λ (n : ℕ). take n (run ++ octets)) (let whole : length run + room ≡ 512 = omega (arith, all) in whole)))
 
+-- and holds 512 at most with them
 pub fits_more : (run octets : List ℕ) (room count : ℕ) → room + length run ≡ 512 → count ≡ min room (length octets) → length run + length (take count octets) ≤ 512
 fits_more run octets room count all e = rw (length-take, e) (omega (arith, all))
 
@@ -42,15 +44,18 @@ pub none_dropped : (ended : Bool) (run : List ℕ) → has_end run ≡ false →
 none_dropped true run none = refl
 none_dropped false run none = none
 
+-- nor with one more octet, which is put there unless it ends the line
 pub none_more : (b : Bool) (run : List ℕ) (octet : ℕ) → has_end run ≡ false → is_line_end octet ≡ b → has_end (if b then run else cut (run ++ octet ∷ [])) ≡ false
 none_more true run octet none e = none
 none_more false run octet none e = has_end-take 512 (run ++ octet ∷ []) (list_any-append is_line_end run (octet ∷ []) ∙ rw (none, e) refl)
 
+-- a line end leaves an empty run, another octet goes behind the run: that is what is kept
 pub run_by_end : (b : Bool) (run : List ℕ) (octet : ℕ) → has_end run ≡ false → is_line_end octet ≡ b
     → (if b then [] else (if b then run else cut (run ++ octet ∷ []))) ≡ kept_run (run ++ octet ∷ [])
 run_by_end true run octet none e = rw (unfinished-behind run (octet ∷ []) none, e) refl
 run_by_end false run octet none e = rw (unfinished-behind run (octet ∷ []) none, e) refl
 
+-- a line end gives the run as a line, if it has octets; another octet gives none
 pub line_by_end : (b : Bool) (run : List ℕ) (octet : ℕ) → has_end run ≡ false → is_line_end octet ≡ b
     → line_in (if b then run else cut (run ++ octet ∷ [])) b ≡ lines (run ++ octet ∷ [])
 line_by_end true run octet none e = rw (ended_runs-behind run (octet ∷ []) none, e, append-nil) refl
@@ -58,27 +63,34 @@ line_by_end false run octet none e = rw (ended_runs-behind run (octet ∷ []) no
 
 -- ## Octets none of which ends a line
 
+-- they bring no line end into the run
 pub none_kept : (run octets : List ℕ) → has_end run ≡ false → has_end octets ≡ false → has_end (run ++ octets) ≡ false
 none_kept run octets none free = list_any-append is_line_end run octets ∙ rw (none, free) refl
 
+-- the run with them, cut, is what is kept
 pub run_kept : (run octets : List ℕ) → has_end run ≡ false → has_end octets ≡ false → cut (run ++ octets) ≡ kept_run (run ++ octets)
 run_kept run octets none free = rw (unfinished_all (run ++ octets) (none_kept run octets none free)) refl
 
+-- they give no line
 pub no_lines : (run octets : List ℕ) → has_end run ≡ false → has_end octets ≡ false → lines (run ++ octets) ≡ []
 no_lines run octets none free = rw (no_run (run ++ octets) (none_kept run octets none free)) refl
 
+-- a run that fits and has no line end is what is kept of it
 pub run_itself : (run : List ℕ) → has_end run ≡ false → length run ≤ 512 → run ≡ kept_run run
 run_itself run none fits = rw (unfinished_all run none) (sym (cut_fits run fits))
 
+-- where octets give no line behind what a reader keeps, they add none to all it has read
 pub lines-keep : (reader past octets : List ℕ) → HasRead reader past → lines (reader ++ octets) ≡ [] → lines (past ++ octets) ≡ lines past
 lines-keep reader past octets read none =
     (reads_on past octets).reads_kept ∙ (ap (λ (xs : List (List ℕ)). lines past ++ xs) (rw (sym read) none) ∙ append-nil (lines past))
 
 -- ## For callers: what a push says of all octets read so far
 
+-- a reader that keeps what is left of its run with an octet has read that octet too
 pub has_read-push : (reader new octets : List ℕ) (octet : ℕ) → HasRead reader octets → HasRead new (reader ++ octet ∷ []) → HasRead new (octets ++ octet ∷ [])
 has_read-push reader new octets octet read after = after ∙ rw read (sym (reads_on octets (octet ∷ [])).keeps)
 
+-- and what it gives are the lines that the octet adds to all it has read
 pub lines-push : (reader octets : List ℕ) (octet : ℕ) (given : List (List ℕ)) → HasRead reader octets → given ≡ lines (reader ++ octet ∷ []) → lines (octets ++ octet ∷ []) ≡ lines octets ++ given
 lines-push reader octets octet given read said = (reads_on octets (octet ∷ [])).reads_kept ∙ rw (said, read) refl
 
@@ -95,6 +107,7 @@ none_first (c ∷ octets) (suc n) none l =
     or_both true h isn't e = absurd (isn't refl)
     or_both false h isn't e = e
 
+-- before the first CR or LF that is found there is no line end, nor anywhere if none is found
 pub free_before : (octets : List ℕ) (r : Option ℕ) (n : ℕ) → IsFirstByte (is_byte2 13 10) octets r → n ≡ unwrap_or r (length octets) → has_end (take n octets) ≡ false
 free_before octets None n none e = none_first octets n (λ k l. none k (omega arith) (let m : k < length octets = rw (sym e) l in m)) (omega (arith, e))
 free_before octets (Some k) n at e = rw e (none_first octets k (λ j l. at.0.before j (omega arith) l) (let h = at.0.high in omega (arith, h)))

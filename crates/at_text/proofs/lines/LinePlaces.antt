@@ -38,5 +38,6 @@ cut_later run [] x y parts = cut_here run x y parts
 cut_later run (Octets text ∷ before) x y parts = ap (λ (v : List Mark). map Line (lines (run ++ text)) ++ v) (cut_later (kept_run (run ++ text)) before x y parts)
 cut_later run (Command c ∷ before) x y parts = ap (λ (v : List Mark). Begun c ∷ v) (cut_later run before x y parts)
 
+-- the lines placed are those of all octets, wherever these are cut and whatever commands come between
 pub places_lines : (parts : List Part) → PlacesLines parts
 places_lines parts = record { all = sym (lines_placed [] parts); cut = λ before x y. cut_later [] before x y parts }

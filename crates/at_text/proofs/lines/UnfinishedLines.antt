@@ -7,6 +7,7 @@ use Rattle.std.proofs.lemmas.List.Elements.{filter-append}
 use Rattle.std.proofs.lemmas.List.Folds.{list_any-append}
 use Rattle.at_text.specs.Lines.{is_line_end, onto_first, ended_runs, unfinished, is_filled, cut, lines, kept_run, ReadsOn}
 
+-- a line end is in the text
 abbrev pub has_end : List ℕ → Bool
 has_end text = list_any is_line_end text
 
@@ -20,10 +21,12 @@ no_later : (b h : Bool) → (b || h) ≡ false → h ≡ false
 no_later true h e = cc
 no_later false h e = e
 
+-- such a text is all unfinished
 pub unfinished_all : (text : List ℕ) → has_end text ≡ false → unfinished text ≡ text
 unfinished_all [] none = refl
 unfinished_all (c ∷ text) none = rw none refl
 
+-- and no run of it has ended
 pub no_run : (text : List ℕ) → has_end text ≡ false → ended_runs text ≡ []
 no_run [] none = refl
 no_run (c ∷ text) none =
@@ -32,12 +35,14 @@ no_run (c ∷ text) none =
 has_end-append : (x y : List ℕ) → has_end x ≡ false → has_end (x ++ y) ≡ has_end y
 has_end-append x y none = list_any-append is_line_end x y ∙ rw none refl
 
+-- nor has its beginning a line end
 pub has_end-take : (n : ℕ) (text : List ℕ) → has_end text ≡ false → has_end (take n text) ≡ false
 has_end-take zero text none = refl
 has_end-take (suc n) [] none = refl
 has_end-take (suc n) (c ∷ text) none =
     rw (no_first (is_line_end c) (has_end text) none) (has_end-take n text (no_later (is_line_end c) (has_end text) none))
 
+-- what is unfinished has none
 pub has_end-unfinished : (text : List ℕ) → has_end (unfinished text) ≡ false
 has_end-unfinished [] = refl
 has_end-unfinished (c ∷ text) = at (has_end (c ∷ text)) c text refl (has_end-unfinished text)
@@ -67,6 +72,7 @@ ended_runs-behind (c ∷ run) y none =
     let rest : ended_runs (run ++ y) ≡ onto_run run (ended_runs y) = ended_runs-behind run y (no_later (is_line_end c) (has_end run) none) in
     rw here (rw rest (onto_first-onto_run c run (ended_runs y)))
 
+-- behind such a run what is unfinished goes on from it, unless a line ends there
 pub unfinished-behind : (run y : List ℕ) → has_end run ≡ false → unfinished (run ++ y) ≡ (if has_end y then unfinished y else run ++ y)
 unfinished-behind [] y none = at (has_end y) y refl
   where
@@ -104,6 +110,7 @@ onto_first-append : (c : ℕ) (xs ys : List (List ℕ)) → has_runs xs ≡ true
 onto_first-append c [] ys h = cc
 onto_first-append c (x ∷ xs) ys h = refl
 
+-- the runs that end later go on from what is unfinished
 pub ended_runs-append : (x y : List ℕ) → ended_runs (x ++ y) ≡ ended_runs x ++ ended_runs (unfinished x ++ y)
 ended_runs-append [] y = refl
 ended_runs-append (c ∷ x) y = at (is_line_end c) (has_end x) c x y refl refl (ended_runs-append x y)
@@ -114,6 +121,7 @@ ended_runs-append (c ∷ x) y = at (is_line_end c) (has_end x) c x y refl refl (
     at false true c x y e f more = rw (e, f) (rw more (onto_first-append c (ended_runs x) (ended_runs (unfinished x ++ y)) (has_runs-ended x ∙ f)))
     at false false c x y e f more = rw (e, f) (rw (e, no_run x f) refl)
 
+-- so does what is unfinished then
 pub unfinished-append : (x y : List ℕ) → unfinished (x ++ y) ≡ unfinished (unfinished x ++ y)
 unfinished-append [] y = refl
 unfinished-append (c ∷ x) y = at (has_end (c ∷ x)) c x y refl (unfinished-append x y)
@@ -126,6 +134,7 @@ unfinished-append (c ∷ x) y = at (has_end (c ∷ x)) c x y refl (unfinished-ap
 lines-split : (x y : List (List ℕ)) → map cut (filter is_filled (x ++ y)) ≡ map cut (filter is_filled x) ++ map cut (filter is_filled y)
 lines-split x y = rw (filter-append is_filled x y) (map-append cut (filter is_filled x) (filter is_filled y))
 
+-- and so do the lines
 pub lines-append : (x y : List ℕ) → lines (x ++ y) ≡ lines x ++ lines (unfinished x ++ y)
 lines-append x y = rw (ended_runs-append x y) (lines-split (ended_runs x) (ended_runs (unfinished x ++ y)))
 
@@ -140,6 +149,7 @@ is_filled-cut : (run y : List ℕ) → is_filled (cut run ++ y) ≡ is_filled (r
 is_filled-cut [] y = refl
 is_filled-cut (c ∷ run) y = refl
 
+-- a run cut to what is kept gives the same lines
 pub lines-cut : (run y : List ℕ) → has_end run ≡ false → lines (cut run ++ y) ≡ lines (run ++ y)
 lines-cut run y none =
     rw (ended_runs-behind (cut run) y (has_end-take 512 run none), ended_runs-behind run y none) (at run (ended_runs y))
@@ -152,6 +162,7 @@ lines-cut run y none =
     at run [] = refl
     at run (r ∷ rs) = rw (is_filled-cut run r) (same (is_filled (run ++ r)) (cut run ++ r) (run ++ r) rs (take-take_append 512 run r))
 
+-- and what is kept then is the same
 pub kept_run-cut : (run y : List ℕ) → has_end run ≡ false → kept_run (cut run ++ y) ≡ kept_run (run ++ y)
 kept_run-cut run y none =
     rw (unfinished-behind (cut run) y (has_end-take 512 run none), unfinished-behind run y none) (at (has_end y) (cut run ++ y) (run ++ y) (unfinished y) (take-take_append 512 run y))
@@ -160,6 +171,7 @@ kept_run-cut run y none =
     at true x y last e = refl
     at false x y last e = e
 
+-- lines can be read on from the unfinished run, or from what is kept of it
 pub reads_on : (x y : List ℕ) → ReadsOn x y
 reads_on x y =
     let none : has_end (unfinished x) ≡ false = has_end-unfinished x in

@@ -314,6 +314,7 @@ of_kinds-from dialect past (Line l ∷ later) =
     of_kinds-line dialect (dialect.kind_of l) l (lines_of later) (seen_from dialect (past ++ Line l ∷ []) later) (open_window dialect past) refl (of_kinds-from dialect (past ++ Line l ∷ []) later)
 of_kinds-from dialect past (Begun c ∷ later) = of_kinds-from dialect (past ++ Begun c ∷ []) later
 
+-- where each command begins with no window open, no line is lost or counted twice
 pub none_lost : (dialect : Dialect) (ms : List Mark) → IsInTurn dialect ms → NoneLost dialect ms
 none_lost dialect ms turn =
     let all : GoesOn dialect [] ms = goes_on dialect [] ms turn tt in

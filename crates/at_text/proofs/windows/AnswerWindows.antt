@@ -65,6 +65,7 @@ without_echo-more command s ls more = at (bytes_eq s command) s ls more
 pub answer-unsolicited : (dialect : Dialect) (command : List ℕ) (ls : List (List ℕ)) (l : List ℕ) → is_solicited dialect l ≡ false → answer dialect command (ls ++ l ∷ []) ≡ answer dialect command ls
 answer-unsolicited dialect command ls l e = rw (solicited-more dialect ls l false e, append-nil) refl
 
+-- and leaves a window fresh, or not, as it was
 pub is_fresh-unsolicited : (dialect : Dialect) (ls : List (List ℕ)) (l : List ℕ) → is_solicited dialect l ≡ false
     → is_empty (filter (is_solicited dialect) (ls ++ l ∷ [])) ≡ is_empty (filter (is_solicited dialect) ls)
 is_fresh-unsolicited dialect ls l e = rw (solicited-more dialect ls l false e, append-nil) refl
@@ -73,6 +74,7 @@ is_empty-push : (xs : List (List ℕ)) (x : List ℕ) → is_empty (xs ++ x ∷ 
 is_empty-push [] x = refl
 is_empty-push (y ∷ xs) x = refl
 
+-- behind a line that isn't unsolicited no window is fresh
 pub is_fresh-solicited : (dialect : Dialect) (ls : List (List ℕ)) (l : List ℕ) → is_solicited dialect l ≡ true → is_empty (filter (is_solicited dialect) (ls ++ l ∷ [])) ≡ false
 is_fresh-solicited dialect ls l e = rw (solicited-more dialect ls l true e) (is_empty-push (filter (is_solicited dialect) ls) l)
 
@@ -82,6 +84,7 @@ with_final dialect command [] more done = cc
 with_final dialect command (s ∷ xs) more done =
     rw (without_echo-more command s xs more) (up_to_final-done dialect (without_echo command (s ∷ xs)) more (sym (has_final-up_to dialect (without_echo command (s ∷ xs))) ∙ done))
 
+-- a line behind the final code changes no answer
 pub answer-done : (dialect : Dialect) (command : List ℕ) (ls : List (List ℕ)) (l : List ℕ) → has_final dialect (answer dialect command ls) ≡ true → answer dialect command (ls ++ l ∷ []) ≡ answer dialect command ls
 answer-done dialect command ls l done = rw (filter-append (is_solicited dialect) ls (l ∷ [])) (with_final dialect command (filter (is_solicited dialect) ls) (filter (is_solicited dialect) (l ∷ [])) done)
 
@@ -90,6 +93,7 @@ by_echo : (dialect : Dialect) (command l : List ℕ) (xs : List (List ℕ)) → 
 by_echo dialect command l [] e = rw e refl
 by_echo dialect command l (x ∷ xs) e = cc
 
+-- the echo changes none
 pub answer-echo : (dialect : Dialect) (command : List ℕ) (ls : List (List ℕ)) (l : List ℕ) → is_solicited dialect l ≡ true → (is_empty (filter (is_solicited dialect) ls) && bytes_eq l command) ≡ true → answer dialect command (ls ++ l ∷ []) ≡ answer dialect command ls
 answer-echo dialect command ls l s e = rw (solicited-more dialect ls l true s) (by_echo dialect command l (filter (is_solicited dialect) ls) e)
 
@@ -103,6 +107,7 @@ by_line dialect command l (x ∷ xs) none e =
     rw (without_echo-more command x xs (l ∷ []), up_to_final-on dialect (without_echo command (x ∷ xs)) (l ∷ []) unended, up_to_final-one dialect l)
     (ap (λ (v : List (List ℕ)). v ++ l ∷ []) (sym (rw append-nil at all)))
 
+-- any other solicited line goes to the end of an answer that isn't whole
 pub answer-more : (dialect : Dialect) (command : List ℕ) (ls : List (List ℕ)) (l : List ℕ) → is_solicited dialect l ≡ true → has_final dialect (answer dialect command ls) ≡ false
     → (is_empty (filter (is_solicited dialect) ls) && bytes_eq l command) ≡ false → answer dialect command (ls ++ l ∷ []) ≡ answer dialect command ls ++ l ∷ []
 answer-more dialect command ls l s none e = rw (solicited-more dialect ls l true s) (by_line dialect command l (filter (is_solicited dialect) ls) none e)
@@ -117,6 +122,7 @@ has_final-more dialect ls l none = list_any-append dialect.is_final ls (l ∷ []
 
 -- ## The last window with one more mark
 
+-- lines placed later stand behind those before
 pub lines_of-append : (xs ys : List Mark) → lines_of (xs ++ ys) ≡ lines_of xs ++ lines_of ys
 lines_of-append [] ys = refl
 lines_of-append (Line l ∷ xs) ys = ap (λ (v : List (List ℕ)). l ∷ v) (lines_of-append xs ys)
@@ -128,6 +134,7 @@ windows-line [] l = refl
 windows-line (Line k ∷ ms) l = windows-line ms l
 windows-line (Begun c ∷ ms) l = rw (windows-line ms l, lines_of-append ms (Line l ∷ [])) refl
 
+-- a command that begins adds its window, still empty
 pub windows-begun : (ms : List Mark) (c : List ℕ) → windows (ms ++ Begun c ∷ []) ≡ windows ms ++ record { command = c; after = [] } ∷ []
 windows-begun [] c = refl
 windows-begun (Line k ∷ ms) c = windows-begun ms c
@@ -137,18 +144,22 @@ last_or-map : (o : Option Window) (ws : List Window) (l : List ℕ) → last_or 
 last_or-map o [] l = refl
 last_or-map o (w ∷ ws) l = last_or-map (Some w) ws l
 
+-- the last of some windows, with one more behind, is that one
 pub last_or-push : (o : Option Window) (ws : List Window) (w : Window) → last_or o (ws ++ w ∷ []) ≡ Some w
 last_or-push o [] w = refl
 last_or-push o (v ∷ ws) w = last_or-push (Some v) ws w
 
+-- a line placed comes into the last window
 pub last_window-line : (ms : List Mark) (l : List ℕ) → last_window (ms ++ Line l ∷ []) ≡ window_more (last_window ms) l
 last_window-line ms l = rw (windows-line ms l) (last_or-map None (windows ms) l)
 
+-- a command that begins has the last one
 pub last_window-begun : (ms : List Mark) (c : List ℕ) → last_window (ms ++ Begun c ∷ []) ≡ Some (record { command = c; after = [] })
 last_window-begun ms c = rw (windows-begun ms c) (last_or-push None (windows ms) (record { command = c; after = [] }))
 
 -- ## What a window shows with one more mark
 
+-- the window of a command that has just begun shows no line, and may get the echo
 pub shows_begun : (dialect : Dialect) (past : List Mark) (c : List ℕ) → Some (opened c) ≡ option_map (shown dialect) (open_window dialect (past ++ Begun c ∷ []))
 shows_begun dialect past c = rw (last_window-begun past c) refl
 
@@ -196,6 +207,7 @@ shows_more dialect None l = at (is_solicited dialect l)
     at false = refl
 shows_more dialect (Some w) l = more_by dialect w l (is_answered dialect w) (is_solicited dialect l) refl refl
 
+-- what a window shows behind one more line follows from what it showed
 pub shows_line : (dialect : Dialect) (past : List Mark) (l : List ℕ) → after_line dialect (option_map (shown dialect) (open_window dialect past)) l ≡ option_map (shown dialect) (open_window dialect (past ++ Line l ∷ []))
 shows_line dialect past l = sym (rw (last_window-line past l) (shows_more dialect (last_window past) l))
 
@@ -226,6 +238,7 @@ seen_by_kind : (dialect : Dialect) (k : Option UrcKind) (o : Option Window) (l :
 seen_by_kind dialect None o l e = seen_solicited dialect o l (rw e refl)
 seen_by_kind dialect (Some k) o l e = refl
 
+-- what a line is follows from what the window shows
 pub seen_line : (dialect : Dialect) (past : List Mark) (l : List ℕ) → seen_by dialect (option_map (shown dialect) (open_window dialect past)) l ≡ seen_after dialect past l
 seen_line dialect past l = sym (seen_by_kind dialect (dialect.kind_of l) (last_window past) l refl)
 
@@ -273,15 +286,18 @@ none_shown dialect (Some w) e = cc
 
 -- ## As a window's calls say it
 
+-- a window that shows nothing fits where nothing was placed
 pub fits_nothing : (dialect : Dialect) (window : Option OpenWindow) → window ≡ None → FitsMarks dialect window []
 fits_nothing dialect window none = record { in_turn = in_turn-none dialect; shows = none }
 
+-- one that fits its marks, and goes on with a line, says what the line is and fits it too
 pub sees : (dialect : Dialect) (window new : Option OpenWindow) (past : List Mark) (l : List ℕ) (seen : Seen) → FitsMarks dialect window past → seen ≡ seen_by dialect window l → new ≡ after_line dialect window l → Sees dialect past l seen new
 sees dialect window new past l seen fits said after = record {
   said = rw (said, fits.shows) (seen_line dialect past l);
   fits = record { in_turn = in_turn-line dialect past l fits.in_turn; shows = rw (after, fits.shows) (shows_line dialect past l) };
 }
 
+-- one that shows no command under way, and then a command that begins, fits that too
 pub begins : (dialect : Dialect) (window new : Option OpenWindow) (past : List Mark) (c : List ℕ) → FitsMarks dialect window past → IsNone window → new ≡ Some (opened c) → FitsMarks dialect new (past ++ Begun c ∷ [])
 begins dialect window new past c fits none opens = record {
   in_turn = in_turn-begun dialect past c fits.in_turn (none_shown dialect (open_window dialect past) (sym fits.shows ∙ is_none-none window none));

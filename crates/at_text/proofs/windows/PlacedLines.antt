@@ -33,6 +33,7 @@ solicited_leaves dialect (Some o) line = by_tests (is_echo o line) (dialect.is_f
     by_tests false true = refl
     by_tests false false = refl
 
+-- what a line is after its marks follows from what it was placed as
 pub placed_says : (dialect : Dialect) (w : Option OpenWindow) (line : List ℕ) → seen_by dialect w line ≡ said_where (placed_by dialect w line) (after_placed dialect w line)
 placed_says dialect w line = by_kind_of (dialect.kind_of line)
   where
@@ -41,6 +42,7 @@ placed_says dialect w line = by_kind_of (dialect.kind_of line)
     by_kind_of None = solicited_says dialect w line
     by_kind_of (Some kind) = refl
 
+-- and so does the window behind it, without an answer that is whole
 pub placed_leaves : (dialect : Dialect) (w : Option OpenWindow) (line : List ℕ) → after_line dialect w line ≡ left_where (placed_by dialect w line) (after_placed dialect w line)
 placed_leaves dialect w line = by_kind_of (dialect.kind_of line)
   where
@@ -49,6 +51,7 @@ placed_leaves dialect w line = by_kind_of (dialect.kind_of line)
     by_kind_of None = solicited_leaves dialect w line
     by_kind_of (Some kind) = refl
 
+-- a window goes on from itself with no line
 pub grown_none : (w : Option OpenWindow) → Grows w w
 unfolding Grows
 grown_none None = refl
@@ -58,6 +61,7 @@ grown_none (Some o) = record {
   window_is = ap (λ (ls : List AnswerLine). Some (record { command = o.command; lines = ls; fresh = o.fresh })) (sym (append-nil o.lines));
 }
 
+-- and from itself with any line placed
 pub grown_placed : (dialect : Dialect) (w : Option OpenWindow) (line : List ℕ) → Grows w (after_placed dialect w line)
 unfolding Grows
 grown_placed dialect w line = by_kind_of (dialect.kind_of line)
@@ -78,6 +82,7 @@ grown_placed dialect w line = by_kind_of (dialect.kind_of line)
     by_kind_of None = solicited w
     by_kind_of (Some kind) = grown_none w
 
+-- one that has grown, taken back to how far it had come, is as it was
 pub back_was : (was now : Option OpenWindow) → Grows was now → back_at (mark_of was) now ≡ was
 unfolding Grows
 back_was None now e = rw e refl

@@ -18,6 +18,7 @@ use Rattle.ctl_run.proofs.inputs.StepLines.{lacks_decimal}
 
 -- ## Counts
 
+-- what a word that isn't empty is read as, a decimal or none, is its count
 pub counted : (word : List ℕ) (o : Option ℕ) → word ≢ [] → MatchOption o ((n : ℕ) → n < 2 ^ 64 → word ≢ decimal n) (λ n. word ≡ decimal n)
     → MatchOption o ((n : ℕ) → n < 2 ^ 64 → SaysCount word n → ⊥) (SaysCount word)
 counted word (Some n) some is = inr is
@@ -44,19 +45,23 @@ same_parts text word other rest behind lacks lacks_too cut cut_too = (
   sym (behind_front word rest lacks) ∙ ap behind_word (sym cut ∙ cut_too) ∙ behind_front other behind lacks_too,
 )
 
+-- a text without a blank is no line of an answer
 pub no_blank : (text : List ℕ) → LacksByte 32 text → IsNoLast text
 no_blank text lacks l is = lacks_blank is.word l.line.text (subst (LacksByte 32) is.text_is lacks)
 
+-- nor is one whose first word is no count
 pub no_count : (text word rest : List ℕ) → LacksByte 32 word → text ≡ word ++ 32 ∷ rest → ((n : ℕ) → n < 2 ^ 64 → SaysCount word n → ⊥) → IsNoLast text
 no_count text word rest lacks cut none l is =
     let same = same_parts text word is.word rest l.line.text lacks (count_lacks is.word l.after is.few is.count) cut is.text_is in
     none l.after is.few (subst (λ (w : List ℕ). SaysCount w l.after) (sym same.0) is.count)
 
+-- nor one behind whose first blank no line stands, of 1 to 512 octets
 pub no_text : (text word rest : List ℕ) → LacksByte 32 word → text ≡ word ++ 32 ∷ rest → is_line rest ≡ false → IsNoLast text
 no_text text word rest lacks cut none l is =
     let same = same_parts text word is.word rest l.line.text lacks (count_lacks is.word l.after is.few is.count) cut is.text_is in
     false≢true (sym none ∙ ap is_line same.1 ∙ is.small)
 
+-- a count, a blank and a line are one
 pub is_last : (text word : List ℕ) (l : OwnLine) → l.after < 2 ^ 64 → SaysCount word l.after → text ≡ word ++ 32 ∷ l.line.text → is_line l.line.text ≡ true → IsLast text l
 is_last text word l few count cut small = record { word = word; few = few; count = count; text_is = cut; small = small }
 
@@ -80,10 +85,12 @@ first_by text left (Some l) cut is = record { left = left; text_is = cut; is_lin
 first_by text left None cut none =
     λ l is. none l (subst (λ (t : List ℕ). IsLast t l) (same_front 32 is.left left (sym is.text_is ∙ cut)) is.is_line)
 
+-- what is found without the blank at a text's end is found of the text as a line with more to come
 pub first_found : {E : Type 0} (text left : List ℕ) (r : Result (Option OwnLine) E) → text ≡ left ++ codes " " → IfOk r (λ o. MatchOption o (IsNoLast left) (IsLast left)) → IfOk r (λ o. MatchOption o (IsNoFirst text) (IsFirst text))
 first_found text left (Ok o) cut h = first_by text left o cut h
 first_found text left (Err why) cut h = tt
 
+-- a text without a blank at its end is no such line
 pub no_end : (text : List ℕ) → ((c : List ℕ) → text ≢ c ++ codes " ") → IsNoFirst text
 no_end text none l is = none is.left is.text_is
 
@@ -91,12 +98,15 @@ no_end text none l is = none is.left is.text_is
 pub first_there : (text : List ℕ) (o : Option OwnLine) (l : OwnLine) → MatchOption o (IsNoFirst text) (IsFirst text) → o ≡ Some l → IsFirst text l
 first_there text o l found is = subst (λ (x : Option OwnLine). MatchOption x (IsNoFirst text) (IsFirst text)) is found
 
+-- that nothing was
 pub first_nowhere : (text : List ℕ) (o : Option OwnLine) → MatchOption o (IsNoFirst text) (IsFirst text) → o ≡ None → IsNoFirst text
 first_nowhere text o found is = subst (λ (x : Option OwnLine). MatchOption x (IsNoFirst text) (IsFirst text)) is found
 
+-- and of a last line
 pub last_there : (text : List ℕ) (o : Option OwnLine) (l : OwnLine) → MatchOption o (IsNoLast text) (IsLast text) → o ≡ Some l → IsLast text l
 last_there text o l found is = subst (λ (x : Option OwnLine). MatchOption x (IsNoLast text) (IsLast text)) is found
 
+-- that there is none
 pub last_nowhere : (text : List ℕ) (o : Option OwnLine) → MatchOption o (IsNoLast text) (IsLast text) → o ≡ None → IsNoLast text
 last_nowhere text o found is = subst (λ (x : Option OwnLine). MatchOption x (IsNoLast text) (IsLast text)) is found
 
@@ -107,35 +117,43 @@ pub record AreRead (behind : List ℕ) (lines : List OwnLine) (left : List ℕ) 
   pub said : (more : List OwnLine) → AreSome left more → AreSome behind (lines ++ more)
   pub none : HasNoNext left → HasNoNext behind
 
+-- none is read yet
 pub read_none : (behind : List ℕ) → AreRead behind [] behind
 read_none behind = record { said = λ more h. h; none = λ h. h }
 
+-- one more line, up to the next bar, is read
 pub read_line : (behind left text rest : List ℕ) (lines : List OwnLine) (l : OwnLine) → AreRead behind lines left → LacksByte 124 text → left ≡ text ++ 124 ∷ rest → IsFirst text l → AreRead behind (lines ++ l ∷ []) rest
 read_line behind left text rest lines l read lacks cut is = record {
   said = λ more h. subst (AreSome behind) (sym (append_assoc lines (l ∷ []) more)) (read.said (l ∷ more) (AreSome.first left text rest l more cut lacks is h));
   none = λ h. read.none (HasNoNext.later left text rest l cut lacks is h);
 }
 
+-- what stands behind that bar is shorter
 pub shorter : (left text rest : List ℕ) → left ≡ text ++ 124 ∷ rest → length rest < length left
 shorter left text rest cut =
     let so_long : length left ≡ length text + length (124 ∷ rest) = ap length cut ∙ length-append text (124 ∷ rest) in
     let one_more : length (124 ∷ rest) ≡ suc (length rest) = refl in
     omega (arith, so_long, one_more)
 
+-- what stands before the next bar is no line: behind the arrow are no lines
 pub no_next : (behind left text rest : List ℕ) (lines : List OwnLine) → behind ≢ [] → AreRead behind lines left → LacksByte 124 text → left ≡ text ++ 124 ∷ rest → IsNoFirst text → HasNoLine behind
 no_next behind left text rest lines some read lacks cut none = record { some = some; none = read.none (HasNoNext.no_first left text rest cut lacks none) }
 
+-- no bar is left, and what is left is no line: behind the arrow are no lines
 pub none_last : (behind left : List ℕ) (lines : List OwnLine) → behind ≢ [] → AreRead behind lines left → LacksByte 124 left → IsNoLast left → HasNoLine behind
 none_last behind left lines some read lacks none = record { some = some; none = read.none (HasNoNext.no_last left lacks none) }
 
+-- no bar is left, and what is left is a line: these are all
 pub all_lines : (behind left : List ℕ) (lines : List OwnLine) (l : OwnLine) → AreRead behind lines left → LacksByte 124 left → IsLast left l → AreLines behind (lines ++ l ∷ [])
 all_lines behind left lines l read lacks is = inr (read.said (l ∷ []) (AreSome.last left l lacks is))
 
 -- ## Commands and arrows
 
+-- a command line with a star behind it means lines that go on too
 pub is_starred : (front command : List ℕ) → front ≡ command ++ codes "*" → IsStarred front command true
 is_starred front command is = record { front_is = is; no_star = λ no c e. absurd (false≢true (sym no)) }
 
+-- without a star it means itself alone
 pub not_starred : (front : List ℕ) → ((c : List ℕ) → front ≢ c ++ codes "*") → IsStarred front front false
 not_starred front none = record { front_is = sym (append-nil front); no_star = λ _. none }
 
@@ -143,6 +161,7 @@ lacks_front : (c : ℕ) (xs ys : List ℕ) → LacksByte c (xs ++ ys) → LacksB
 lacks_front c [] ys h = lacks_nil c
 lacks_front c (x ∷ xs) ys h = lacks_cons c x xs (lacks_head c x (xs ++ ys) h) (lacks_front c xs ys (lacks_tail c x (xs ++ ys) h))
 
+-- a blank and = before the first `>` make it an arrow
 pub has_arrow : (line before front behind : List ℕ) → LacksByte 62 before → line ≡ before ++ 62 ∷ behind → before ≡ front ++ codes " =" → HasArrow line front behind
 has_arrow line before front behind lacks cut is = record {
   line_is = cut ∙ ap (λ (x : List ℕ). x ++ 62 ∷ behind) is;
@@ -158,6 +177,7 @@ pub record IsReadTo (text left : List ℕ) (answers : List OwnAnswer) (place : �
   pub say : AreAnswers lines answers
   pub bounded : place + length left ≤ length text
 
+-- no line is read yet
 pub read_from : (text : List ℕ) → IsReadTo text text [] 0
 read_from text = record { lines = []; split = refl; counted = refl; say = AreAnswers.no_line; bounded = omega arith }
 
@@ -177,6 +197,7 @@ next_split text left line rest lines split cut = split ∙ ap (λ (x : List (Lis
 next_count : (place : ℕ) (lines : List (List ℕ)) (line : List ℕ) → place ≡ length lines → place + 1 ≡ length (lines ++ line ∷ [])
 next_count place lines line is = ap (λ (n : ℕ). n + 1) is ∙ sym (length-append lines (line ∷ []))
 
+-- a line that is empty or a comment is passed over
 pub read_skipped : (text left line rest : List ℕ) (answers : List OwnAnswer) (place : ℕ) → IsReadTo text left answers place → input_lines left ≡ line ∷ input_lines rest → length rest < length left → is_skipped line ≡ true → IsReadTo text rest answers (place + 1)
 read_skipped text left line rest answers place read cut less is =
     let bounded = read.bounded in
@@ -188,6 +209,7 @@ read_skipped text left line rest answers place read cut less is =
       bounded = omega (arith, bounded, less);
     }
 
+-- a line with an answer is read
 pub read_said : (text left line rest : List ℕ) (answers : List OwnAnswer) (a : OwnAnswer) (place : ℕ) → IsReadTo text left answers place → input_lines left ≡ line ∷ input_lines rest → length rest < length left → is_skipped line ≡ false → SaysAnswer line a → IsReadTo text rest (answers ++ a ∷ []) (place + 1)
 read_said text left line rest answers a place read cut less is says =
     let bounded = read.bounded in
@@ -199,6 +221,7 @@ read_said text left line rest answers a place read cut less is says =
       bounded = omega (arith, bounded, less);
     }
 
+-- a line that says none is the first such, for this reason
 pub read_stopped : (text left line rest : List ℕ) (answers : List OwnAnswer) (place : ℕ) (why : AnswerRefusal) → IsReadTo text left answers place → input_lines left ≡ line ∷ input_lines rest → is_skipped line ≡ false → HasRefusal line why → IsNoText (input_lines text) (answers_stop (place + 1) why)
 read_stopped text left line rest answers place AnswerRefusal.NoMemory read cut is none = tt
 read_stopped text left line rest answers place (AnswerRefusal.Bad part) read cut is none = record {
@@ -213,6 +236,7 @@ read_stopped text left line rest answers place (AnswerRefusal.Bad part) read cut
   none = none;
 }
 
+-- nothing is left: these are the answers of all lines
 pub all_read : (text left : List ℕ) (answers : List OwnAnswer) (place : ℕ) → IsReadTo text left answers place → left ≡ [] → AreAnswers (input_lines text) answers
 all_read text left answers place read none =
     let lines_are : input_lines text ≡ read.lines = read.split ∙ ap (λ (x : List ℕ). read.lines ++ input_lines x) none ∙ append-nil read.lines in
@@ -225,6 +249,7 @@ stops_by input octets AnswersStop.NoMemory whole none = tt
 stops_by input octets AnswersStop.Input whole none = tt
 stops_by input octets (AnswersStop.BadLine place part) whole none = record { text = octets; whole = whole; first = none }
 
+-- what the text that was read says is what all that the reader had says
 pub answers_by : (input : Option (List ℕ)) (octets read : List ℕ) (r : Result (List OwnAnswer) AnswersStop) → IfSome input (λ all. octets ≡ all) → read ≡ octets → MatchResult r (AreAnswers (input_lines read)) (IsNoText (input_lines read))
     → MatchResult r (GivesAnswers input) (AnswersStopBy input)
 answers_by input octets read (Ok answers) whole same h = record { text = octets; whole = whole; say = subst (λ (l : List ℕ). AreAnswers (input_lines l) answers) same h }

@@ -17,10 +17,12 @@ use Rattle.ctl_text.proofs.CutTexts.{IsCutAt, lacks_head, lacks_tail}
 use Rattle.ctl_run.specs.LineFaults.{DumpFault}
 use Rattle.ctl_run.proofs.inputs.ReadLines.{IsRead, read_more}
 
+-- no octets in front change nothing
 pub joined_nil : (o : Option (List ℕ)) → joined (Some []) o ≡ o
 joined_nil None = refl
 joined_nil (Some x) = refl
 
+-- octets may be joined in either grouping
 pub joined_assoc : (a b c : Option (List ℕ)) → joined (joined a b) c ≡ joined a (joined b c)
 joined_assoc None b c = refl
 joined_assoc (Some x) None c = refl
@@ -98,12 +100,14 @@ decoded_at false word e = refl
 decoded : (word : List ℕ) → result_ok (decode_of word) ≡ result_ok (decode_pairs 0 word)
 decoded word = decoded_at (length word % 2 == 1) word refl
 
+-- a word before a blank stands for what it decodes to, and what follows is read on
 pub word_and_rest : (word rest : List ℕ) → LacksByte 32 word → line_octets (word ++ 32 ∷ rest) ≡ joined (result_ok (decode_of word)) (line_octets rest)
 word_and_rest word rest h =
     word_first 0 word (32 ∷ rest) h (odd_at_blank rest)
     ∙ ap (joined (result_ok (decode_pairs 0 word))) (blank_skipped rest)
     ∙ ap (λ (o : Option (List ℕ)). joined o (line_octets rest)) (sym (decoded word))
 
+-- so does the last word of a line
 pub last_word : (word : List ℕ) → LacksByte 32 word → line_octets word ≡ joined (result_ok (decode_of word)) (Some [])
 last_word word h =
     ap line_octets (sym (append-nil word))
@@ -133,6 +137,7 @@ no_pairs octets first left line word rest same cut none =
     none_joined first (line_octets line)
     (sym same ∙ ap (joined (Some octets)) (cut ∙ ap (λ (o : Option (List ℕ)). joined o (line_octets rest)) none))
 
+-- a line that stands for no octets has pairs that aren't as they must be
 pub pairs_fault : (line : List ℕ) → IsNoDump line → DumpFault line LineFault.Pairs
 pairs_fault line none = inl (λ h. some_isnt_none h.octets (sym h.are ∙ none), refl)
 
@@ -145,6 +150,7 @@ stands_for : (octets later : List ℕ) (o : Option (List ℕ)) → Some later �
 stands_for octets later None e n = some_isnt_none later e
 stands_for octets later (Some x) e n = some_isnt_none x n
 
+-- one more line is read, and its octets
 pub line_more : (dump left line rest octets later : List ℕ) (place : ℕ) → AreOctets dump left octets place → input_lines left ≡ line ∷ input_lines rest → length rest < length left → Some later ≡ joined (Some octets) (line_octets line) → AreOctets dump rest later (place + 1)
 line_more dump left line rest octets later place h e l n = record {
   read = read_more IsNoDump DumpFault dump left line rest place h.read e l (stands_for octets later (line_octets line) n);

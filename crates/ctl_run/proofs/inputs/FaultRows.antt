@@ -71,6 +71,7 @@ odd x r e f = let same : Err OddLength ≡ Ok x = sym e ∙ f in cc
 
 -- ## Rows
 
+-- the worked lines of a replay's script have these faults
 pub event_faults : AreEventFaults
 event_faults = record {
   other_word = refl;
@@ -98,6 +99,7 @@ no_count h =
 one_command : IsCount (codes "1")
 one_command = record { number = 1; small = omega arith; word_is = sym (decimal_digit 1 (omega arith)) }
 
+-- and those of a modem's script
 pub step_faults : AreStepFaults
 step_faults = record {
   blank_first = inl (no_count, refl);
@@ -114,6 +116,7 @@ first_caller = record { number = 0; below = omega arith; word_is = refl }
 first_carrier : IsCarrier (codes "1")
 first_carrier = record { number = 1; carries = omega arith; known = omega arith; word_is = refl }
 
+-- and those of a bench's input
 pub submission_faults : AreSubmissionFaults
 submission_faults = record {
   too_great = inl (λ h. no_such_caller h.number h.below h.word_is, refl);
@@ -124,6 +127,7 @@ submission_faults = record {
 none_isnt : (x : List ℕ) → None ≡ Some x → ⊥
 none_isnt x e = cc
 
+-- and those of octets
 pub dump_faults : AreDumpFaults
 dump_faults = record {
   half_an_octet = inl (λ h. none_isnt h.octets h.are, refl);

@@ -19,17 +19,21 @@ one_word : (o : Option Follows) (unknown : LineFault) (line : List ℕ) → HasO
 one_word None unknown line a b x y = x ∙ sym y
 one_word (Some f) unknown line a b x y = one_behind f unknown line a b x y
 
+-- an event's line has one fault
 pub one_event : (line : List ℕ) (a b : LineFault) → EventFault line a → EventFault line b → a ≡ b
 one_event line = one_word (follows events (first_word line)) LineFault.Event line
 
 one_deed : (words : List ℕ) → HasOne (WordFault LineFault.Deed (follows deeds (first_word words)) words)
 one_deed words = one_word (follows deeds (first_word words)) LineFault.Deed words
 
+-- so has a step's line
 pub one_step : (line : List ℕ) (a b : LineFault) → StepFault line a → StepFault line b → a ≡ b
 one_step line = one_wanted (IsCount (first_word line)) LineFault.Count _ (one_deed (behind_word line))
 
+-- and a submission's
 pub one_submission : (callers : ℕ) (line : List ℕ) (a b : LineFault) → SubmissionFault callers line a → SubmissionFault callers line b → a ≡ b
 one_submission callers line = one_wanted (IsCaller callers (first_word line)) LineFault.Caller _ (one_command (behind_word line))
 
+-- and a line of octets
 pub one_dump : (line : List ℕ) (a b : LineFault) → DumpFault line a → DumpFault line b → a ≡ b
 one_dump line = one_last (HasPairs line) LineFault.Pairs

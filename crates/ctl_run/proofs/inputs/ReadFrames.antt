@@ -42,6 +42,7 @@ taken_more bound octets left later count frames more d fed out a n p e h none = 
   n1 = h.n1 ∙ n ∙ a.n1;
 }
 
+-- octets none of which are left are none
 pub nothing_left : (xs : List ℕ) → length xs ≡ 0 → xs ≡ []
 nothing_left [] e = refl
 nothing_left (x ∷ xs) e = cc

@@ -38,6 +38,7 @@ bad_here IsBad Has line lines why h f = record {
   fault = f;
 }
 
+-- no line is read yet
 pub read_none : (IsBad : List ℕ → Type 0) (Has : List ℕ → LineFault → Type 0) (text : List ℕ) → IsRead IsBad Has text text 0
 read_none IsBad Has text = record { bad = λ k why h. let e : 0 + k ≡ k = omega arith in rw e h; counted = omega arith }
 

@@ -23,6 +23,7 @@ second_of text = head_of (drop 1 text)
 abbrev AreNoCommand : List ℕ → Type 0
 AreNoCommand words = (n : ℕ) (text : List ℕ) → n < 62 → refusal_of text ≡ None → words ≢ number_text n ++ 32 ∷ text
 
+-- behind `cmd` they say nothing
 pub cmd_nothing : (words : List ℕ) → AreNoCommand words → SaysNothing (codes "cmd " ++ words)
 cmd_nothing words h (order.Ask (ask.OpenChannel d)) s = absurd (let e = ap head_of s in omega (arith, e))
 cmd_nothing words h (order.Ask (ask.CloseChannel d)) s = absurd (let e = ap second_of s in omega (arith, e))
@@ -42,6 +43,7 @@ pub no_text : (words : List ℕ) → refusal_of (behind_word words) ≢ None →
 no_text words refused n text s r e =
     refused (ap (λ (l : List ℕ). refusal_of (behind_word l)) e ∙ ap refusal_of (behind_front (number_text n) text (lacks_number (nat_lt n 10) n)) ∙ r)
 
+-- behind a connection it is the command line that isn't as it must be
 pub text_fault : (words : List ℕ) (d : ℕ) → first_word words ≡ number_text d → d < 62 → refusal_of (behind_word words) ≢ None → TextFault words LineFault.Command
 text_fault words d e known refused = inr (is_connection words d e known, inl (refused, refl))
 

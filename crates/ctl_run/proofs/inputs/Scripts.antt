@@ -18,6 +18,7 @@ pub record AreEvents (script left : List ℕ) (events : List Event) (asked place
   pub said : (more : List Event) → IsScript (asked + 1) (input_lines left) more → IsScript 1 (input_lines script) (events ++ more)
   pub few : asked ≤ place
 
+-- nothing is left: these are the events of the whole script
 pub all_events : (script left : List ℕ) (events : List Event) (asked place : ℕ) → AreEvents script left events asked place → left ≡ [] → IsScript 1 (input_lines script) events
 all_events script left events asked place h e =
     let all : IsScript 1 (input_lines script) (events ++ []) = h.said [] (rw e tt) in
@@ -27,9 +28,11 @@ nil : (line : List ℕ) → length line ≡ 0 → line ≡ []
 nil [] e = refl
 nil (c ∷ line) e = cc
 
+-- a line of no octets is empty
 pub no_line : (line : List ℕ) → true ≡ (length line == 0) → line ≡ []
 no_line line e = nil line (eqb-true (length line) 0 (sym e))
 
+-- one of some isn't
 pub some_line : (line : List ℕ) → false ≡ (length line == 0) → line ≢ []
 some_line line e n = false≢true (e ∙ ap (λ (l : List ℕ). length l == 0) n)
 

@@ -29,6 +29,7 @@ use Rattle.ctl_text.proofs.CutTexts.{lacks_cons, lacks_head, lacks_nil, lacks_ta
 
 -- Numbers.
 
+-- a decimal, read as a number and shown again, is the same text
 pub decimal_same : {E : Type 0} (text shown : List ℕ) (number n : ℕ) (r : Result ℕ E) → r ≡ Ok number → n < 2 ^ 64 → text ≡ decimal n → ParsesUnsigned 64 10 text r → shown ≡ decimal number → shown ≡ text
 decimal_same text shown number n r is few same parses shows =
     let ok : r ≡ Ok n = parse-decimal 64 n text r few few same parses in
@@ -36,12 +37,14 @@ decimal_same text shown number n r is few same parses shows =
     let numbers : number ≡ n = cc in
     shows ∙ ap decimal numbers ∙ sym same
 
+-- a text that isn't read as a number is no decimal
 pub no_decimal : {E : Type 0} (text : List ℕ) (n : ℕ) (why : E) (r : Result ℕ E) → r ≡ Err why → n < 2 ^ 64 → ParsesUnsigned 64 10 text r → text ≢ decimal n
 no_decimal text n why r is few parses same =
     let ok : r ≡ Ok n = parse-decimal 64 n text r few few same parses in
     let both : Err why ≡ Ok n = sym is ∙ ok in
     cc
 
+-- nor is a word that isn't UTF-8
 pub no_text : (word : List ℕ) (n : ℕ) → (IsUtf8 word → ⊥) → n < 2 ^ 64 → word ≢ decimal n
 no_text word n none few same = none (subst IsUtf8 (sym same) (IsUtf8-from_ascii (decimal n) (IsAscii-decimal n few)))
 
@@ -49,6 +52,7 @@ pointwise_same : (xs : List ℕ) → pointwise eqb xs xs ≡ true
 pointwise_same [] = refl
 pointwise_same (c ∷ xs) = rw (eq-eqb c c refl) (pointwise_same xs)
 
+-- equal texts don't compare unequal
 pub not_apart : (xs ys : List ℕ) → xs ≡ ys → false ≡ pointwise eqb xs ys → ⊥
 not_apart xs ys same apart = false≢true (apart ∙ ap (λ (l : List ℕ). pointwise eqb l ys) same ∙ pointwise_same ys)
 
@@ -62,6 +66,7 @@ head_of (c ∷ text) = c
 abbrev AreNoText : List ℕ → Type 0
 AreNoText words = (n : ℕ) (text : List ℕ) → n < 62 → words ≢ number_text n ++ 32 ∷ text
 
+-- behind `announce` they say nothing
 pub announces_nothing : (words : List ℕ) → AreNoText words → SaysNoAct (codes "announce " ++ words)
 announces_nothing words h (Announce d text) s = h d.number text d.in_range (ap (drop 9) s)
 announces_nothing words h (Flow d false) s = absurd (let e = ap head_of s in omega (arith, e))
@@ -82,6 +87,7 @@ no_text_behind words l n t r e =
     let more : length (32 ∷ t) ≡ suc (length t) = refl in
     omega (arith, l, first, all, more)
 
+-- it is the text that is missing behind the connection
 pub text_fault : (words : List ℕ) (d : ℕ) → first_word words ≡ number_text d → d < 62 → length (first_word words) ≡ length words → AnnouncementFault words LineFault.Text
 text_fault words d e known l = inr (is_connection words d e known, inl (λ n. n (as_long words (omega (arith, l))), refl))
 
@@ -89,6 +95,7 @@ text_fault words d e known l = inr (is_connection words d e known, inl (λ n. n 
 abbrev AreNotTwo : List ℕ → Type 0
 AreNotTwo words = (n m : ℕ) → n < 62 → m < 62 → words ≢ number_text n ++ 32 ∷ number_text m
 
+-- behind `hold` they say nothing
 pub holds_nothing : (words : List ℕ) → AreNotTwo words → SaysNoAct (codes "hold " ++ words)
 holds_nothing words h (Announce d text) s = absurd (let e = ap head_of s in omega (arith, e))
 holds_nothing words h (Flow d false) s = absurd (let e = ap head_of s in omega (arith, e))
@@ -97,9 +104,11 @@ holds_nothing words h (Hold d x) s = h d.number x.number d.in_range x.in_range (
 holds_nothing words h (Disconnect d) s = absurd (let e = ap head_of s in omega (arith, e))
 holds_nothing words h CloseDown s = absurd (let e = ap head_of s in omega (arith, e))
 
+-- the first word is no connection
 pub no_first_of_two : (words : List ℕ) → ((n : ℕ) → n < 62 → first_word words ≢ number_text n) → AreNotTwo words
 no_first_of_two words unknown n m r s e = unknown n r (ap first_word e ∙ first_front (number_text n) (number_text m) (lacks_number (nat_lt n 10) n))
 
+-- what follows it is none
 pub no_second_of_two : (words : List ℕ) → ((n : ℕ) → n < 62 → behind_word words ≢ number_text n) → AreNotTwo words
 no_second_of_two words unknown n m r s e = unknown m s (ap behind_word e ∙ behind_front (number_text n) (number_text m) (lacks_number (nat_lt n 10) n))
 
@@ -107,6 +116,7 @@ number_at : (b : Bool) (one high low : ℕ) → (if b then one ∷ [] else high 
 number_at true one high low e = cc
 number_at false one high low e = cc
 
+-- a connection's number has digits
 pub number_some : (n : ℕ) → number_text n ≢ []
 number_some n e = number_at (nat_lt n 10) _ _ _ e
 
@@ -115,6 +125,7 @@ pub announces : (words word text : List ℕ) (n : ℕ) → word ≡ first_word w
 announces words word text n e b is apart =
     whole words (λ same. apart (ap length (e ∙ same))) ∙ ap (λ (w : List ℕ). w ++ 32 ∷ behind_word words) (sym e ∙ is) ∙ ap (λ (l : List ℕ). number_text n ++ 32 ∷ l) (sym b)
 
+-- where nothing stands behind the connection, the text is missing
 pub text_fault_at : (words word : List ℕ) (n : ℕ) → word ≡ first_word words → word ≡ number_text n → n < 62 → length word ≡ length words → AnnouncementFault words LineFault.Text
 text_fault_at words word n e is known l = text_fault words n (sym e ∙ is) known (ap length (sym e) ∙ l)
 
@@ -124,6 +135,7 @@ lacks_both : (c : ℕ) (front back : List ℕ) → LacksByte c front → LacksBy
 lacks_both c [] back h i = i
 lacks_both c (x ∷ front) back h i = lacks_cons c x (front ++ back) (lacks_head c x front h) (lacks_both c front back (lacks_tail c x front h) i)
 
+-- a decimal has no blank
 pub lacks_decimal : (n : ℕ) → n < 2 ^ 64 → LacksByte 32 (decimal n)
 lacks_decimal n h =
     decimal_by_steps (λ m ds. LacksByte 32 ds)
@@ -136,9 +148,11 @@ step_parts : (line : List ℕ) (s : Step) (c : SaysStep line s) → (first_word 
 step_parts line s c =
     rw c.line_is (first_front (decimal s.after) c.words (lacks_decimal s.after c.few), behind_front (decimal s.after) c.words (lacks_decimal s.after c.few))
 
+-- a line that doesn't begin with a count says no step
 pub no_number_step : (line : List ℕ) → ((n : ℕ) → n < 2 ^ 64 → first_word line ≢ decimal n) → SaysNoStep line
 no_number_step line unknown s c = unknown s.after c.few (step_parts line s c).0
 
+-- and it is the count that isn't as it must be
 pub number_fault : (line : List ℕ) → ((n : ℕ) → n < 2 ^ 64 → first_word line ≢ decimal n) → StepFault line LineFault.Count
 number_fault line unknown = inl (λ h. unknown h.number h.small h.word_is, refl)
 
@@ -147,6 +161,7 @@ pub behind_count : (line word words : List ℕ) (n : ℕ) (why : Refusal) → wo
 behind_count line word words n (Refusal.Bad fault) e b is few h = inr (record { number = n; small = few; word_is = sym e ∙ is }, subst (λ (l : List ℕ). DeedFault l fault) b h)
 behind_count line word words n Refusal.NoMemory e b is few h = tt
 
+-- a line says no step where the words behind its count say nothing that a modem does
 pub no_act_step : (line : List ℕ) → SaysNoAct (behind_word line) → SaysNoStep line
 no_act_step line none s c = none s.act (rw (step_parts line s c).1 c.says)
 
@@ -158,6 +173,7 @@ act_some words (Hold d x) h e = cc
 act_some words (Disconnect d) h e = cc
 act_some words CloseDown h e = cc
 
+-- a count, and words that say what a modem does then, are a step
 pub says_step_of : (line : List ℕ) (s : Step) → first_word line ≡ decimal s.after → s.after < 2 ^ 64 → SaysAct (behind_word line) s.act → SaysStep line s
 says_step_of line s e few says = record {
   words = behind_word line;
@@ -173,6 +189,7 @@ pub record AreStepsRead (script left : List ℕ) (steps : List Step) (place : �
   pub read : IsRead IsNoStep StepFault script left place
   pub said : (more : List Step) → AreSteps (input_lines left) more → AreSteps (input_lines script) (steps ++ more)
 
+-- nothing is left: these are the steps of the whole script
 pub all_steps : (script left : List ℕ) (steps : List Step) (place : ℕ) → AreStepsRead script left steps place → left ≡ [] → AreSteps (input_lines script) steps
 all_steps script left steps place h e =
     let whole : AreSteps (input_lines script) (steps ++ []) = h.said [] (rw e tt) in
@@ -212,11 +229,13 @@ stops_by input octets Stop.BadCallers whole reason = reason
 stops_by input octets Stop.BadCut whole reason = reason
 stops_by input octets (Stop.Dialect fault) whole reason = reason
 
+-- what the text that was read says is what all that the reader had says
 pub steps_by : (input : Option (List ℕ)) (octets read : List ℕ) (r : Result (List Step) Stop) → IfSome input (λ all. octets ≡ all) → read ≡ octets → MatchResult r (AreSteps (input_lines read)) (IsReason IsNoStep StepFault (input_lines read))
     → MatchResult r (GivesSteps input) (StepsStop input)
 steps_by input octets read (Ok steps) whole same h = record { text = octets; whole = whole; say = subst (λ (l : List ℕ). AreSteps (input_lines l) steps) same h }
 steps_by input octets read (Err stop) whole same h = stops_by input octets stop whole (subst (λ (l : List ℕ). IsReason IsNoStep StepFault (input_lines l) stop) same h)
 
+-- a script may be left unread for want of memory, or since its reader failed
 pub not_read : (input : Option (List ℕ)) (stop : Stop) → (stop ≡ Stop.NoMemory) ⊎ (stop ≡ Stop.Input) → StepsStop input stop
 not_read input stop (inl is) = subst (StepsStop input) (sym is) tt
 not_read input stop (inr is) = subst (StepsStop input) (sym is) tt

@@ -19,6 +19,7 @@ pub record AreRead (callers : ℕ) (input left : List ℕ) (all : List Submissio
   pub read : IsRead (IsNoSubmission callers) (SubmissionFault callers) input left place
   pub said : (more : List Submission) → AreSubmitted callers (input_lines left) more → AreSubmitted callers (input_lines input) (all ++ more)
 
+-- nothing is left: these are what the whole input submits
 pub all_read : (callers : ℕ) (input left : List ℕ) (all : List Submission) (place : ℕ) → AreRead callers input left all place → left ≡ [] → AreSubmitted callers (input_lines input) all
 all_read callers input left all place h e =
     let whole : AreSubmitted callers (input_lines input) (all ++ []) = h.said [] (rw e tt) in
@@ -55,6 +56,7 @@ parts callers line s c =
 pub no_caller : (callers : ℕ) (line : List ℕ) → ((n : ℕ) → n < callers → first_word line ≢ number_text n) → SubmitsNothing callers line
 no_caller callers line unknown s c = unknown s.caller c.caller (parts callers line s c).0
 
+-- and it is the caller that isn't as it must be
 pub caller_fault : (callers : ℕ) (line : List ℕ) → ((n : ℕ) → n < callers → first_word line ≢ number_text n) → SubmissionFault callers line LineFault.Caller
 caller_fault callers line unknown = inl (λ h. unknown h.number h.below h.word_is, refl)
 
@@ -74,6 +76,7 @@ command_some words d line c e = cut_some (number_text d) line (sym e ∙ c.words
     cut_some [] back same = cc
     cut_some (x ∷ front) back same = cc
 
+-- a caller, and a command on a connection behind it, submit that command
 pub submits_so : (callers : ℕ) (line : List ℕ) (s : Submission) → first_word line ≡ number_text s.caller → s.caller < callers → IsCommand (behind_word line) s.dlci.number s.line → Submits callers line s
 submits_so callers line s e below c = record {
   caller = below;

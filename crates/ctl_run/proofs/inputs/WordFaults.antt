@@ -55,6 +55,7 @@ empty_decodes : decode_of [] ≡ Ok []
 unfolding decode_pairs
 empty_decodes = refl
 
+-- no digits are no octets
 pub no_octets : HasOctets [] → ⊥
 no_octets h = h.are.1 (empty_is h.octets (decode_of []) empty_decodes h.are.0)
 
@@ -72,6 +73,7 @@ more_behind line word e n same = n (sym same ∙ e)
 abbrev Says : LineFault → (line : List ℕ) → Option Follows → Type 0
 Says unknown line o = WordFault unknown o line (lone_fault unknown o)
 
+-- a line that begins as no event does has the fault of its first word
 pub event_row : (line : List ℕ) → BeginsNone line → IsNoWord line → Says LineFault.Event line (follows events (first_word line))
 event_row line none alone =
     at_row (first_word line) (codes "open", Follows.Connection) (drop 1 events) (Says LineFault.Event line) (λ e. inl (no_connection line (codes "open") e none.no_open, refl))
@@ -83,6 +85,7 @@ event_row line none alone =
     (at_row (first_word line) (codes "tick", Follows.Nothing) (drop 7 events) (Says LineFault.Event line) (λ e. inl (more_behind line (codes "tick") e alone.1, refl))
     (at_row (first_word line) (codes "lost", Follows.Nothing) (drop 8 events) (Says LineFault.Event line) (λ e. inl (more_behind line (codes "lost") e alone.2, refl)) refl)))))))
 
+-- and words that begin as nothing does that a modem does
 pub deed_row : (words : List ℕ) → ActsNone words → words ≢ codes "closedown" → Says LineFault.Deed words (follows deeds (first_word words))
 deed_row words none alone =
     at_row (first_word words) (codes "announce", Follows.Announcement) (drop 1 deeds) (Says LineFault.Deed words) (λ e. inl (no_connection words (codes "announce") e none.no_announce, refl))
@@ -96,5 +99,6 @@ deed_row words none alone =
 pub event_at : (line word : List ℕ) (fault : LineFault) → word ≡ first_word line → fault ≡ lone_fault LineFault.Event (follows events word) → BeginsNone line → IsNoWord line → EventFault line fault
 event_at line word fault e f none alone = subst (EventFault line) (sym (f ∙ ap (λ (w : List ℕ). lone_fault LineFault.Event (follows events w)) e)) (event_row line none alone)
 
+-- and of the words of a modem's script
 pub deed_at : (words word : List ℕ) (fault : LineFault) → word ≡ first_word words → fault ≡ lone_fault LineFault.Deed (follows deeds word) → ActsNone words → words ≢ codes "closedown" → DeedFault words fault
 deed_at words word fault e f none alone = subst (DeedFault words) (sym (f ∙ ap (λ (w : List ℕ). lone_fault LineFault.Deed (follows deeds w)) e)) (deed_row words none alone)

@@ -31,6 +31,7 @@ run_cause (Err Stop.BadCut) n1 IsBad Has known line others no_line = others.2 re
 run_cause (Err (Stop.Dialect fault)) n1 IsBad Has known line others no_line = others.3 fault refl
 run_cause (Err (Stop.BadLine place why)) n1 IsBad Has known line others no_line = line place why refl
 
+-- and those for which a bench gave nothing
 pub bench_cause : {T : Type 0} (built : Result T Stop) (callers cut : ℕ) (known : Option (List ℕ))
     → ((place : ℕ) (why : LineFault) → IsErrOf built (Stop.BadLine place why) → IfSome known (λ text. IsFirstBad (IsNoSubmission callers) (SubmissionFault callers) (input_lines text) place why))
     → (built ≢ Err Stop.BadN1) × (built ≢ Err Stop.BadCallers) × (built ≢ Err Stop.BadCut) × ((fault : DialectFault) → built ≢ Err (Stop.Dialect fault))
@@ -90,6 +91,7 @@ stopped_at_once explained stop Makes IsCause known contents old before after sta
   begun = λ e. absurd (other e);
 }
 
+-- a run that stopped gave up for one of the causes that there are
 pub given_up : {O : Type 0} (explained : Bool) (Makes : List ℕ → List ℕ → Type 0) (IsCause : Stop → Type 0) (known : Option (List ℕ))
     (contents : O → Option (List ℕ)) (old new : O) (before after : Option (List ℕ)) (status : ℕ)
     → HasStopped explained Makes IsCause known contents old new before after status

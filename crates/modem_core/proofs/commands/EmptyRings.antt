@@ -113,6 +113,7 @@ pub in_step_of : (s : Setting) (v : Core) (past : List Act) (d : ℕ) → Live s
 unfolding StaysInStep
 in_step_of s v past d l r z o = (stays_in_step s past r.lawful l.role_is r.whole r.numbers l.lost_is r.complete d z).while_open o
 
+-- where no command of an open connection is in hand, its send ring is empty
 pub ring_empty : (s : Setting) (v : Core) (past : List Act) (d : ℕ) → (l : Live s v past) → IsRun s past → d < 62 → (d == 0) ≡ false → is_open s.role d (wire past) ≡ true → commands_for d (in_hand past) ≡ []
     → (channel_at v.station d).waiting ≡ []
 unfolding BeginsInTurn

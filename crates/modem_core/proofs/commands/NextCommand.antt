@@ -27,6 +27,7 @@ least_by : (b : Bool) (n t l r : ℕ) → nat_le t n ≡ b → suc l ≤ (if b t
 least_by true n t l r e h = (leb-true t n e, omega (arith, h))
 least_by false n t l r e h = absurd (let g : suc l ≤ 0 = h in omega (arith, g))
 
+-- where the first texts are whole in n octets, n is at least their length
 pub whole_least : (n : ℕ) (xs ys : List (List ℕ)) → length xs ≤ whole_in n (xs ++ ys) → length (concat xs) ≤ n
 whole_least n [] ys h = omega arith
 whole_least n (x ∷ xs) ys h =
@@ -69,12 +70,15 @@ began dialect ms out qs k =
     let few : whole_in (length out) (texts qs) ≤ length qs = let f = whole_few (length out) (texts qs) in let l = length_texts qs in omega (arith, f, l) in
     sym (begun_counted ms) ∙ (ap length k.first ∙ (length-map (whole_after (length out) qs) line_of ∙ length-take-le (whole_in (length out) (texts qs)) qs few))
 
+-- those before and one more are those and the next
 pub take_one : (before rest : List Request) (c : Request) → take (length before + 1) (before ++ c ∷ rest) ≡ before ++ c ∷ []
 take_one before rest c = take-append-add before (c ∷ rest) 1
 
+-- and where none follows, those before are all
 pub take_all : (before : List Request) → take (length before + 1) (before ++ []) ≡ before
 take_all before = take-append-add before [] 1 ∙ append-nil before
 
+-- octets that wait are the rest of the first command whose answer isn't whole, and no window is open
 pub next_is : (dialect : Dialect) (before cmds : List Request) (ms : List Mark) (out w : List ℕ) → Kept dialect ms out (before ++ cmds) → answered dialect ms ≡ length before
     → out ++ w ≡ concat (texts (take (answered dialect ms + 1) (before ++ cmds))) → 0 < length w → NextIs dialect before cmds ms out w
 next_is dialect before [] ms out w k a e l =
@@ -125,6 +129,7 @@ pub record Leaves (before rest : List Request) (c : Request) (ms : List Mark) (o
   pub once : starts_with nat_eq (concat (texts (before ++ c ∷ rest))) (out ++ take n1 w) ≡ true
   pub in_turn : reached_in (length (out ++ take n1 w)) (texts (before ++ c ∷ rest)) ≡ length before + 1
 
+-- of the octets that wait N1 at most leave: the command begins where none is left, and no later one is reached
 pub leaves : (before rest : List Request) (c : Request) (ms : List Mark) (out w : List ℕ) (n1 front : ℕ) → length out ≡ out_of before + front → front + length w ≡ length (text_of c)
     → out ++ w ≡ concat (texts before) ++ text_of c → 0 < length w → 1 ≤ n1 → Leaves before rest c ms out w n1
 leaves before rest c ms out w n1 front o a j l h =

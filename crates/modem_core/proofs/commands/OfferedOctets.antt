@@ -132,6 +132,7 @@ line_on old new d line past r f h k z o w =
       others = λ g n. two.others g n ∙ one.others g n;
     }
 
+-- a station that stays as it is was offered nothing
 pub nothing_on : (old new : Station) (d : ℕ) (past : List Act) → StationFits old past → new ≡ old → Handed old new past d []
 nothing_on old new d past h e = record {
   seen = past;
@@ -149,6 +150,7 @@ handed_n1 : (old new : Station) (d : ℕ) (o : Option (List ℕ)) → HandsOn ol
 handed_n1 old new d None h = ap (λ (v : Station). v.n1) h
 handed_n1 old new d (Some line) h = ap (λ (s : station_sending.StationSetting). s.n1) (h.end.setting ∙ h.text.setting)
 
+-- a command that ends or goes on leaves N1 as it is
 pub ended_n1 : (b : Bool) (kept new : Core) (d : ℕ) → EndedBy b kept new d → new.station.n1 ≡ kept.station.n1
 ended_n1 false kept new d h = ap (λ (v : Core). v.station.n1) h
 ended_n1 true kept new d h =

@@ -13,10 +13,12 @@ use Rattle.modem_core.specs.SentTexts.{text_of}
 abbrev pub begun_in : List Request → ℕ → ℕ → List Mark
 begun_in qs n m = map (λ (q : Request). Begun (line_of q)) (drop (whole_in n (texts qs)) (whole_after m qs))
 
+-- the texts of joined requests are the joined texts
 pub texts_both : (qs rs : List Request) → texts (qs ++ rs) ≡ texts qs ++ texts rs
 texts_both [] rs = refl
 texts_both (q ∷ qs) rs = ap (λ (v : List (List ℕ)). text_of q ∷ v) (texts_both qs rs)
 
+-- each request has one text
 pub length_texts : (qs : List Request) → length (texts qs) ≡ length qs
 length_texts [] = refl
 length_texts (q ∷ qs) = ap suc (length_texts qs)
@@ -34,6 +36,7 @@ whole_part before later c k h =
     let many : length (texts before) ≡ length before = length_texts before in
     omega arith)
 
+-- all octets of a command make it whole, and none behind it
 pub whole_all : (before later : List Request) (c : Request) → whole_in (out_of before + length (text_of c)) (texts (before ++ c ∷ later)) ≡ suc (length before)
 whole_all before later c =
     ap (λ (v : List (List ℕ)). whole_in (out_of before + length (text_of c)) v) (texts_both before (c ∷ later))
@@ -42,6 +45,7 @@ whole_all before later c =
     let many : length (texts before) ≡ length before = length_texts before in
     omega arith)
 
+-- some octets of a command, or all, reach into it and no further
 pub reached_part : (before later : List Request) (c : Request) (k : ℕ) → 0 < k → k ≤ length (text_of c) → reached_in (out_of before + k) (texts (before ++ c ∷ later)) ≡ length before + 1
 reached_part before later c k h l =
     ap (λ (v : List (List ℕ)). reached_in (out_of before + k) v) (texts_both before (c ∷ later))
@@ -67,6 +71,7 @@ begun_none before later c n m h l =
     ∙ (ap (λ (w : ℕ). map (λ (q : Request). Begun (line_of q)) (drop (length before) (take w qs))) (whole_part before later c m l)
     ∙ ap (λ (v : List Request). map (λ (q : Request). Begun (line_of q)) v) (none_between (length before) qs))
 
+-- octets of a command up to its last begin it
 pub begun_one : (before later : List Request) (c : Request) (n : ℕ) → n < length (text_of c) → begun_in (before ++ c ∷ later) (out_of before + n) (out_of before + length (text_of c)) ≡ Begun (line_of c) ∷ []
 begun_one before later c n h =
     let qs = before ++ c ∷ later in

@@ -56,6 +56,7 @@ does_telling old new was now a answered says h past holds adds ends =
       answered_is = ends ∙ (sym (answered_since (stop_in old) a fs (map act_of (told_to says old.hand)) h) ∙ ap (is_answered (stop_in old)) same);
     }
 
+-- behind all frames of a queue there is none
 pub none_since : (xs : List Frame) → drop (length xs) xs ≡ []
 none_since [] = refl
 none_since (x ∷ xs) = none_since xs
@@ -130,6 +131,7 @@ none_queued most room old new a same s past m =
     let none : new_frames old new ≡ [] = ap (λ (x : Station). drop (length old.station.queue) x.queue) same ∙ none_since old.station.queue in
     ap (map (cut_to room)) (take_empty most (new_frames old new) none) ∙ sym none
 
+-- the first 0 elements of a list are none
 pub take_none : {A : Type 0} (xs : List A) → take 0 xs ≡ []
 take_none [] = refl
 take_none (x ∷ xs) = refl
@@ -149,12 +151,14 @@ written_so old new a now answered most room acts few does queues are s past m =
     let told : now ≡ does.told = does.adds (omega (arith, few, less)) in
     sym (are ∙ (ap (λ (fs : List Frame). a ∷ (map Sent fs ++ map Told now)) (queues s past m) ∙ ap (λ (os : List Outcome). a ∷ (map Sent (new_frames old new) ++ map Told os)) told))
 
+-- so the core handles the act by the acts that were written down
 pub written : (old new : Core) (a : Act) (now : List Outcome) (answered : Bool) (most room : ℕ) (acts : List Act) → length old.hand ≤ 128 → Does old new [] now a answered → QueuesAtMost most room old new a
     → acts ≡ a ∷ (map Sent (first_frames most room old new) ++ map Told now) → Handles old new a acts
 unfolding Handles
 written old new a now answered most room acts few does queues are s past m =
     subst (λ (x : List Act). GoesOn s new past a x) (written_so old new a now answered most room acts few does queues are s past m) (does.past s past m)
 
+-- and its lanes still know after them which connections are held
 pub written_held : (old new : Core) (a : Act) (now : List Outcome) (answered : Bool) (most room : ℕ) (acts : List Act) → length old.hand ≤ 128 → Does old new [] now a answered → QueuesAtMost most room old new a
     → acts ≡ a ∷ (map Sent (first_frames most room old new) ++ map Told now) → KeepsHeld old new a acts
 unfolding KeepsHeld

@@ -84,6 +84,7 @@ none_called s past f r l h e =
 empty_hand : (v : Core) (past : List Act) → v.lost ≡ true → Fits v past → v.hand ≡ []
 empty_hand v past n h = subst (λ (b : Bool). RunsUnless b v past) n h.runs
 
+-- after a loss of the line the core handles a frame by the frame alone, and stays as it is
 pub lost_got : (v : Core) (f : Frame) (acts : List Act) → v.lost ≡ true → acts ≡ Got f ∷ [] → Handles v v (Got f) acts
 unfolding Handles
 lost_got v f acts n a s past m =
@@ -98,6 +99,7 @@ lost_got v f acts n a s past m =
       run = subst (λ (w : List Act). IsRun s (after past w)) (sym acts_are) (run_goes_on s past (Got f) refl tt m.run m.numbers);
     }
 
+-- and what such a frame calls for always has room
 pub lost_room : (v : Core) (f : Frame) → v.lost ≡ true → HasRoom v (Got f) true
 unfolding HasRoom
 lost_room v f n s past m =

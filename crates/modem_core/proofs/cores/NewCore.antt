@@ -20,5 +20,6 @@ new_fits_so rules n1 kinds f = record {
   };
 }
 
+-- a core as it is made fits the empty past, where its station does
 pub new_fits : (v : Core) (rules : Rules) (n1 : ℕ) (kinds : List UrcKind) → v ≡ core_by rules n1 kinds → station_fits.StationFits v.station [] → Fits v []
 new_fits v rules n1 kinds e f = subst (λ (x : Core). Fits x []) (sym e) (new_fits_so rules n1 kinds (subst (λ (x : Core). station_fits.StationFits x.station []) e f))

@@ -25,6 +25,7 @@ use Rattle.modem_core.specs.Cores.{probe_or, probe_in}
 
 -- ## The station's past
 
+-- a connection is open by a past as it is without the calls
 pub open_plain : (r : Role) (d : ℕ) (x : List station.Act) → is_open r d x ≡ is_open r d (without_calls x)
 open_plain r d x = sym (ap (λ (s : Standings). s.own.is_open) (same_standings r d x))
 
@@ -33,20 +34,25 @@ was_open false true e h k = refl
 was_open false false e h k = cc
 was_open true b e h k = cc
 
+-- a connection that is open once a frame is sent was open before
 pub sent_was : (r : Role) (d : ℕ) (f : Frame) (x : List station.Act) → is_open r d (station.Sent f ∷ x) ≡ true → is_open r d x ≡ true
 sent_was r d f x h = was_open _ (is_open r d x) (not (ends (standings r d x).zero.is_open d (station.Sent f))) h (opens_sent r d x f)
 
+-- so was one that is open once some frames are sent
 pub all_was : (r : Role) (d : ℕ) (fs : List Frame) (x : List station.Act) → is_open r d (sent_after fs x) ≡ true → is_open r d x ≡ true
 all_was r d [] x h = h
 all_was r d (f ∷ fs) x h = sent_was r d f x (all_was r d fs (station.Sent f ∷ x) h)
 
+-- and one that is open after a call
 pub called_was : (r : Role) (d : ℕ) (c : station.Call) (x : List station.Act) → is_open r d (station.Called c ∷ x) ≡ true → is_open r d x ≡ true
 called_was r d c x h = was_open _ (is_open r d x) (not (ends (standings r d x).zero.is_open d (station.Called c))) h (opens_called r d x c)
 
+-- a tick opens no connection
 pub opens_tick : (r : Role) (d : ℕ) (x : List station.Act) → opens_now r d x station.Tick ≡ false
 opens_tick Initiator d x = refl
 opens_tick Responder d x = refl
 
+-- one that is open after a tick was open before
 pub tick_was : (r : Role) (d : ℕ) (x : List station.Act) → is_open r d (station.Tick ∷ x) ≡ true → is_open r d x ≡ true
 tick_was r d x h = was_open _ (is_open r d x) (not (ends (standings r d x).zero.is_open d station.Tick)) h (opens_tick r d x)
 
@@ -54,6 +60,7 @@ tick_was r d x h = was_open _ (is_open r d x) (not (ends (standings r d x).zero.
 pub info_tick : (r : Role) (d : ℕ) (x : List station.Act) → is_open r d (station.Tick ∷ x) ≡ true → info_got d (since r d (station.Tick ∷ x)) ≡ info_got d (since r d x)
 info_tick r d x h = ap (info_got d) (since_goes_on r d x station.Tick (opens_tick r d x) h)
 
+-- and after a tick the same is offered on it
 pub offered_tick : (r : Role) (d : ℕ) (x : List station.Act) → is_open r d (station.Tick ∷ x) ≡ true → offered r d (station.Tick ∷ x) ≡ offered r d x
 offered_tick r d x h = ap (joined_octets (octets_offered d)) (since_goes_on r d x station.Tick (opens_tick r d x) h) ∙ append-nil (offered r d x)
 
@@ -105,6 +112,7 @@ ticks_behind r (Given ∷ acts) past h = absurd (let e : false ≡ true = h in c
 pub record SameTicks (past later : List Act) (r : Request) : Type 0 where
   pub ticks_same : ticks_since r later ≡ ticks_since r past
 
+-- each of these requests has as many ticks behind it by both pasts
 unfoldable pub EachSame : List Act → List Act → List Request → Type 0
 EachSame past later [] = Unit {0}
 EachSame past later (r ∷ rs) = SameTicks past later r × EachSame past later rs
@@ -116,11 +124,13 @@ probe_on past later r (CloseChannel d) o p h e = e
 probe_on past later r (Command d line) o p h e = e
 probe_on past later r Stop o p h e = e
 
+-- so the probe among them is the same by both
 pub probe_same : (past later : List Act) (rs : List Request) → EachSame past later rs → probe_in later rs ≡ probe_in past rs
 unfolding EachSame
 probe_same past later [] h = refl
 probe_same past later (r ∷ rs) h = probe_on past later r r.ask (probe_in later rs) (probe_in past rs) h.0.ticks_same (probe_same past later rs h.1)
 
+-- it asks for a probe
 abbrev pub is_probe : Ask → Bool
 is_probe (Probe octets) = true
 is_probe _ = false

@@ -41,9 +41,11 @@ behind s (Held d ∷ acts) past h = absurd (let e : false ≡ true = h in cc)
 behind s (Freed d ∷ acts) past h = absurd (let e : false ≡ true = h in cc)
 behind s (Given ∷ acts) past h = absurd (let e : false ≡ true = h in cc)
 
+-- so it is with all that an act calls for
 pub call_behind : (s : Setting) (past : List Act) (a : Act) → Behind s (calls s past a) (a ∷ past)
 call_behind s past a = behind s (calls s past a) (a ∷ past) (calls_said s (seen s past) a)
 
+-- a history of whole calls goes on with an act that a call begins with, and all that it calls for
 pub run_on : (s : Setting) (past : List Act) (a : Act) → is_first a ≡ true → OnHeld s.role past a → IsRun s past → UsesOnce (taken_requests (a ∷ past)) → IsRun s (ended s past a)
 unfolding Complete CallGoesOn
 run_on s past a f h r u =
@@ -56,6 +58,7 @@ run_on s past a f h r u =
       numbers = subst UsesOnce (sym b.taken_same) u;
     }
 
+-- at the end of a call the line is lost just where it is after the first act
 pub lost_on : (s : Setting) (past : List Act) (a : Act) → is_lost (ended s past a) ≡ is_lost (a ∷ past)
 lost_on s past a = (call_behind s past a).lost_same
 

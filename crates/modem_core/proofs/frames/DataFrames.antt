@@ -337,6 +337,7 @@ data_own old new l past f n lane st acts i w m =
       run = subst (λ (x : List Act). IsRun s (after past x)) (sym called) run;
     }
 
+-- the core handles data of an open connection by the acts that its octets bring
 pub data_handles : (old new : Core) (f : Frame) (n : Noted) (lane : Lane) (st : Station) (acts : List Act) → IsSound old → DataCame old new f n lane st acts → Handles old new (Got f) acts
 unfolding Handles
 data_handles old new f n lane st acts i w s past m =

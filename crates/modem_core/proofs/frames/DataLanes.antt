@@ -82,6 +82,7 @@ pub record DataKept (v : Core) (l : UrcKind → Bool) (past : List Act) (r : Run
   pub offered_same : offered Initiator f.dlci (seen_then v r.seen f) ≡ offered Initiator f.dlci r.seen
   pub answered_are : answered (dialect_in v) (marks Initiator f.dlci (ended (own v l) past (Got f))) ≡ answered (dialect_in v) (marks Initiator f.dlci past) + (if closes (dialect_in v) (marks Initiator f.dlci past) (lines (lane.kept ++ f.info)) then 1 else 0)
 
+-- on a connection open before the data and after it, its lines are placed, and nothing more is accepted or offered
 pub data_kept : (v : Core) (l : UrcKind → Bool) (past : List Act) (r : Runs v past) (f : Frame) (lane : Lane) → is_data_frame f ≡ true → (f.dlci == 0) ≡ false → IsRun (own v l) past
     → is_open Initiator f.dlci (wire past) ≡ true → is_open Initiator f.dlci (wire (ended (own v l) past (Got f))) ≡ true → LaneFits (dialect_in v) f.dlci r.seen past lane → DataKept v l past r f lane
 data_kept v l past r f lane h z run was o k =
@@ -184,6 +185,7 @@ step_of : (s : Setting) (past : List Act) (d : ℕ) → s.role ≡ Initiator →
 unfolding StaysInStep
 step_of s past d r run live z o = (stays_in_step s past run.lawful r run.whole run.numbers live run.complete d z).while_open o
 
+-- what was offered on it, and the next command where one has its answer, is what may leave then
 pub offered_then : (v : Core) (l : UrcKind → Bool) (past : List Act) (r : Runs v past) (f : Frame) (lane : Lane) (done : Bool) → is_lost (ended (own v l) past (Got f)) ≡ false → (f.dlci == 0) ≡ false
     → IsRun (own v l) (ended (own v l) past (Got f)) → is_open Initiator f.dlci (wire (ended (own v l) past (Got f))) ≡ true → LaneFits (dialect_in v) f.dlci r.seen past lane → DataKept v l past r f lane
     → closes (dialect_in v) (marks Initiator f.dlci past) (lines (lane.kept ++ f.info)) ≡ done

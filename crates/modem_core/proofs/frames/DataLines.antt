@@ -74,6 +74,7 @@ said_is s d owner (l ∷ ls) w ms f =
     ∙ (ap (λ (v : List Act). v ++ said_lines s.dialect s.listens d (option_map asker_of owner) (after_line s.dialect w l) ls) (same_said s d owner l (seen_after s.dialect ms l))
     ∙ ap (λ (v : List Act). by_seen s d owner l (seen_after s.dialect ms l) ++ v) (said_is s d owner ls (after_line s.dialect w l) (ms ++ Line l ∷ []) fits))
 
+-- a window that shows what is open shows it after lines too
 pub shows_after : (dialect : Dialect) (ls : List (List ℕ)) (w : Option OpenWindow) (ms : List Mark) → w ≡ option_map (shown dialect) (open_window dialect ms) → after_all dialect w ls ≡ option_map (shown dialect) (open_window dialect (ms ++ map Line ls))
 shows_after dialect [] w ms f = f ∙ ap (λ (v : List Mark). option_map (shown dialect) (open_window dialect v)) (sym (append-nil ms))
 shows_after dialect (l ∷ ls) w ms f =
@@ -106,6 +107,7 @@ same_got IsOpened = refl
 same_got (IsClosing n) = refl
 same_got (IsStopping n) = refl
 
+-- no connection's state is changed by data
 pub data_state : (f : Frame) (past : List station.Act) (e : ℕ) → is_data_frame f ≡ true → state_of Initiator e (station.Got f ∷ past) ≡ state_of Initiator e past
 data_state f past e h = by_same (f.dlci == e) refl
   where
@@ -117,6 +119,7 @@ data_state f past e h = by_same (f.dlci == e) refl
         ∙ (ap (λ (g : Frame). at_got (state_of Initiator f.dlci past) g.kind) (is_data f h) ∙ same_got (state_of Initiator f.dlci past)) in
         subst (λ (m : ℕ). state_of Initiator m (station.Got f ∷ past) ≡ state_of Initiator m past) (eqb-true f.dlci e n) own
 
+-- and no frame is called for
 pub data_frames : (x : ℕ → State) (f : Frame) → is_data_frame f ≡ true → by_frame Initiator x f ≡ []
 data_frames x f h =
     ap (λ (b : Bool). if b then by_message Initiator (x 0) f else by_table Initiator f.dlci (x 0) (x f.dlci) f.kind) (off_zero f h)
@@ -151,6 +154,7 @@ command_waits is.Shut why h = cc
 command_waits is.Opening why h = cc
 command_waits is.Stopping why h = cc
 
+-- a probe waits on while 0 is Opened and the frame tells it nothing
 pub probe_waits : (c : ChannelState) (n : Noted) (why : Answer) → probe_noted n ≡ None → cores.shows_opened c ≡ true → probe_told c (happened.Got n) why ≡ None
 probe_waits is.Opened n why e h = e
 probe_waits is.Closing n why e h = cc
@@ -176,6 +180,7 @@ pub record Quiet (says : Ask → Option Answer) (rs : List Request) : Type 0 whe
   pub untold : told_to says rs ≡ []
   pub left : left_by says rs ≡ rs
 
+-- so those who may wait are told nothing by a frame that tells no probe, and all stay in hand
 pub all_quiet : (n : Noted) (ended : Bool) (now : ℕ → ChannelState) (rs : List Request) → probe_noted n ≡ None → list_all (λ (r : Request). may_wait now r.ask) rs ≡ true → Quiet (told_by (happened.Got n) ended now) rs
 all_quiet n ended now [] e h = record { untold = refl; left = refl }
 all_quiet n ended now (r ∷ rs) e h =

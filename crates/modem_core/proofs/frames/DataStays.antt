@@ -105,12 +105,15 @@ data_stays v f i e =
 
 -- ## What is noted of it, and its room
 
+-- what is noted of a frame, by what the station keeps
 abbrev pub noted_in : Station → Frame → Noted
 noted_in v f = noted_of v.role (seen_in v) f
 
+-- that is what is noted by every past that the station fits
 pub noted_truly : (v : Station) (f : Frame) → f.dlci < 62 → (past : List Act) → StationFits v past → noted_in v f ≡ noted_of v.role (station_view (setting_of v) past) f
 noted_truly v f l past h = noted_in_past (Ok (noted_in v f)) v f l refl past h
 
+-- data calls for nothing, and so has room
 pub data_room : (v : Core) (f : Frame) → IsSound v → v.lost ≡ false → f.dlci < 62 → is_data_frame f ≡ true → HasRoom v (history.Got f) true
 data_room v f i live l e =
     let state : ℕ → State = λ d. (channel_at v.station d).state in

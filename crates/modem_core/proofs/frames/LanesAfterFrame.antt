@@ -120,6 +120,7 @@ opens_noted v past f n r h l e =
         table_opens f.dlci (x.state f.dlci) f.kind
         ∙ (ap (λ (s : State). is_kind f.kind Ua && is_opening s) (h.channels_are f.dlci l).state_is ∙ sym (opens_own Initiator past f (channel_at v f.dlci) lane))
 
+-- an act opens a connection by the station's past just where it does by the driver's
 pub opens_seen : (d : ℕ) (seen : List station.Act) (past : List Act) (a : station.Act) → IsSeen seen past → opens_now Initiator d seen a ≡ opens_now Initiator d (wire past) a
 opens_seen d seen past a h =
     ap (λ (s : Standings). opens Initiator s.zero.is_open s.own.is_asked d a) (sym (same_standings Initiator d seen)) ∙ ap (λ (w : List station.Act). opens_now Initiator d w a) h
@@ -130,6 +131,7 @@ info_of_sent : (d : ℕ) (fs : List Frame) (w : List station.Act) → info_got d
 info_of_sent d [] w = refl
 info_of_sent d (f ∷ fs) w = info_of_sent d fs (station.Sent f ∷ w) ∙ got_after (belongs Initiator d w (station.Sent f)) (station.Sent f) d (since Initiator d w) refl
 
+-- what was offered is the same after frames that are sent
 pub offered_sent : (d : ℕ) (fs : List Frame) (w : List station.Act) → offered Initiator d (sent_after fs w) ≡ offered Initiator d w
 offered_sent d [] w = refl
 offered_sent d (f ∷ fs) w = offered_sent d fs (station.Sent f ∷ w) ∙ offered_after (belongs Initiator d w (station.Sent f)) (station.Sent f) d (since Initiator d w) refl
@@ -143,6 +145,7 @@ run_end v l past f d =
 
 -- ## The lanes
 
+-- what follows the last opening of d once this act came, which opens d or doesn't
 abbrev pub since_by : Bool → ℕ → station.Act → List station.Act → List station.Act
 since_by o d a w = since_after o (belongs Initiator d w a) a (since Initiator d w)
 
@@ -207,6 +210,7 @@ pub afresh_here : (opens : Bool) (d : ℕ) (lanes : List Lane) → opens ≡ tru
 afresh_here true d lanes e l = get_or-set_same lanes d new_lane new_lane l
 afresh_here false d lanes e l = cc
 
+-- any other lane stays, as does that one where nothing opens
 pub afresh_same : (opens : Bool) (d e : ℕ) (lanes : List Lane) → ((d == e) ≡ true → opens ≡ false) → slice_index_or (afresh_if opens d lanes) e new_lane ≡ slice_index_or lanes e new_lane
 afresh_same false d e lanes h = refl
 afresh_same true d e lanes h = by_same (d == e) refl
@@ -215,6 +219,7 @@ afresh_same true d e lanes h = by_same (d == e) refl
     by_same true g = absurd (let x : true ≡ false = h g in cc)
     by_same false g = get_or-set_other lanes d e new_lane new_lane (λ (k : e ≡ d). eqb-false d e g (sym k))
 
+-- each connection that is open after the frame has the lane that it should have: a new one if it just opened
 pub other_lanes : (v : Core) (l : UrcKind → Bool) (past : List Act) (r : Runs v past) (f : Frame) (opens : Bool) → IsSound v → f.dlci < 62 → is_read (own v l) past f ≡ false
     → opens ≡ opens_now Initiator f.dlci r.seen (station.Got f) → (d : ℕ) → d < 62 → (d == 0) ≡ false → is_open Initiator d (wire (ended (own v l) past (Got f))) ≡ true
     → LaneFits (dialect_in v) d (seen_then v r.seen f) (ended (own v l) past (Got f)) (slice_index_or (afresh_if opens f.dlci v.lanes) d new_lane)

@@ -66,6 +66,7 @@ ticks_said q (Held d ∷ acts) past h = absurd (let e : false ≡ true = h in cc
 ticks_said q (Freed d ∷ acts) past h = absurd (let e : false ≡ true = h in cc)
 ticks_said q (Given ∷ acts) past h = absurd (let e : false ≡ true = h in cc)
 
+-- with the same ticks behind each request the probe in hand is the same
 pub probe_along : (past then_past : List Act) → ((r : Request) → ticks_since r then_past ≡ ticks_since r past) → (rs : List Request) → probe_in then_past rs ≡ probe_in past rs
 probe_along past then_past h [] = refl
 probe_along past then_past h (r ∷ rs) = by_ask r.ask (probe_along past then_past h rs)
@@ -89,6 +90,7 @@ pub record OtherCame (old new : Core) (f : Frame) (n : Noted) (st : Station) (en
   pub new_is : new ≡ record old { station = st; lanes = afresh_if (says_open n) f.dlci old.lanes; hand = left_by (told_by (happened.Got n) ended (λ d. state_shown st false d)) old.hand }
   pub acts_are : acts ≡ Got f ∷ (sent_in (answer_room f) (slice_get st.queue (length old.station.queue)) ++ map act_of (told_to (told_by (happened.Got n) ended (λ d. state_shown st false d)) old.hand))
 
+-- Opened is shown just where a connection is Opened
 pub shown_opened : (x : State) → cores.shows_opened (as_shown x) ≡ is_opened x
 shown_opened IsShut = refl
 shown_opened (IsOpening n) = refl
@@ -96,6 +98,7 @@ shown_opened IsOpened = refl
 shown_opened (IsClosing n) = refl
 shown_opened (IsStopping n) = refl
 
+-- that 0 was Opened and isn't any more is seen in the history just where the station shows it
 pub same_ended : (v : Core) (l : UrcKind → Bool) (past : List Act) (r : Runs v past) (f : Frame) (st : Station) → IsSound v → is_lost past ≡ false → st.role ≡ Initiator → station_fits.StationFits st (seen_then v r.seen f)
     → has_ended (seen (own v l) past) (now_in (own v l) past (Got f)) ≡ (cores.shows_opened (as_shown (channel_at v.station 0).state) && not (cores.shows_opened (as_shown (channel_at st 0).state)))
 same_ended v l past r f st i live role h =
@@ -122,6 +125,7 @@ noted_says v past r f n i noted w p =
     probe_says x w f (r.fits.probe_is ∙ p) (needs_open (setting_of v.station) r.seen w (r.fits.probe_is ∙ p))
     ∙ ap probe_noted (sym (noted r.seen r.fits ∙ ap (λ (y : Role). noted_of y x f) i.role_is))
 
+-- each request in hand is told what the frame calls for
 pub all_told : (v : Core) (l : UrcKind → Bool) (past : List Act) (r : Runs v past) (f : Frame) (n : Noted) (st : Station) → IsSound v → is_lost past ≡ false → in_hand past ≡ v.hand → IsRun (own v l) past
     → st.role ≡ Initiator → station_fits.StationFits st (seen_then v r.seen f)
     → ((seen : List station.Act) → station_fits.StationFits v.station seen → n ≡ noted_of v.station.role (station_seen (setting_of v.station) seen) f)
@@ -135,6 +139,7 @@ all_told v l past r f n st i live hand run role h noted =
 
 -- ## The whole call
 
+-- a frame is data of an open connection by the history just where it is by the station
 pub same_read : (v : Core) (l : UrcKind → Bool) (past : List Act) (r : Runs v past) (f : Frame) → IsSound v → f.dlci < 62 → is_read (own v l) past f ≡ reads_data v f
 same_read v l past r f i k =
     ap (λ (x : State). is_opened x && is_data_frame f) (sym (state_in v.station r.seen f.dlci i.role_is r.fits k ∙ state_seen Initiator f.dlci r.seen past r.same))
@@ -225,9 +230,11 @@ other_queues old new f n st ended_now acts i w s past m =
 pub unread_live : (v : Core) (f : Frame) → v.lost ≡ false → brings_data v f ≡ false → reads_data v f ≡ false
 unread_live v f live h = sym (ap (λ (b : Bool). not b && reads_data v f) live) ∙ h
 
+-- what brings data is read
 pub read_in : (v : Core) (f : Frame) → brings_data v f ≡ true → reads_data v f ≡ true
 read_in v f h = (and_parts (not v.lost) (reads_data v f) h).1
 
+-- and only while the line isn't lost
 pub live_in : (v : Core) (f : Frame) → brings_data v f ≡ true → v.lost ≡ false
 live_in v f h = not_so v.lost (and_parts (not v.lost) (reads_data v f) h).0
   where
@@ -237,6 +244,7 @@ live_in v f h = not_so v.lost (and_parts (not v.lost) (reads_data v f) h).0
 
 -- ## Room
 
+-- whether the control queue has room for what the frame calls for is the same by every past
 pub room_is : (v : Core) (f : Frame) (b : Bool) → IsSound v → v.lost ≡ false → f.dlci < 62 → have_room v.station.n1 (octets_of v.station.queue) (by_frame v.station.role (λ d. (channel_at v.station d).state) f) ≡ b → HasRoom v (Got f) b
 unfolding HasRoom
 room_is v f b i n k e s past m =
@@ -256,5 +264,6 @@ has_room_by : (b : Bool) → None ≡ (if b then None else Some NoRoom) → b �
 has_room_by true h = refl
 has_room_by false h = cc
 
+-- a frame that the station doesn't refuse has room for what it calls for
 pub taken_room : (v : Core) (f : Frame) → IsSound v → v.lost ≡ false → f.dlci < 62 → None ≡ got_refused (setting_of v.station) (seen_in v.station) f → HasRoom v (Got f) true
 taken_room v f i n k h = room_is v f true i n k (has_room_by (have_room v.station.n1 (octets_of v.station.queue) (by_frame v.station.role (λ d. (channel_at v.station d).state) f)) h)

@@ -20,6 +20,7 @@ use Rattle.modem_core.specs.Running.{CoreIsIdle}
 use Rattle.modem_core.proofs.outgoing.CoreAfterFrame.{IsSound}
 use Rattle.modem_core.proofs.frames.StationAfterFrame.{AreShort, answer_short}
 
+-- no kind of frame has more than N1 octets of information
 pub at_most : (n1 : ℕ) (k : Kind) → most_info n1 k ≤ n1
 at_most n1 Sabm = omega arith
 at_most n1 Ua = omega arith
@@ -27,10 +28,12 @@ at_most n1 Dm = omega arith
 at_most n1 Disc = omega arith
 at_most n1 Uih = omega arith
 
+-- beside its information a frame is written in 7 octets at most
 pub with_flags : (n : ℕ) (b : Bool) → n + (if b then 6 else 7) ≤ n + 7
 with_flags n true = omega arith
 with_flags n false = omega arith
 
+-- one frame at most, with N1 + 4 octets of information or fewer, fits into an empty control queue
 pub short_fits : (n1 room : ℕ) (fs : List Frame) → AreShort room fs → room ≤ n1 + 4 → have_room n1 0 fs ≡ true
 short_fits n1 room [] h l = refl
 short_fits n1 room (f ∷ []) h l =
@@ -48,6 +51,7 @@ refusal_none : (b : Bool) (e : StationError) → b ≡ true → Some e ≡ (if b
 refusal_none true e h k = cc
 refusal_none false e h k = cc
 
+-- while the line isn't lost, a frame no longer than its kind may be is refused only where control frames wait
 pub never_full : (v : Core) (f : Frame) (e : StationError) → IsSound v → v.lost ≡ false → length f.info ≤ most_info v.station.n1 f.kind → Some e ≡ got_refused (setting_of v.station) (seen_in v.station) f → ¬ CoreIsIdle v
 never_full v f e i live short refused idle =
     let fs = by_frame v.station.role (λ d. (channel_at v.station d).state) f in

@@ -45,6 +45,7 @@ frames_same v l past r f i live =
 abbrev pub seen_then : Core → List station.Act → Frame → List station.Act
 seen_then v seen f = after_act (setting_of v.station) seen (station.Got f)
 
+-- the station has then seen what the driver's history says
 pub same_then : (v : Core) (l : UrcKind → Bool) (past : List Act) (r : Runs v past) (f : Frame) → IsSound v → is_lost past ≡ false → IsSeen (seen_then v r.seen f) (ended (own v l) past (Got f))
 same_then v l past r f i live =
     let fs = frames_in (own v l) past (Got f) in
@@ -61,6 +62,7 @@ now_then v l past r f i live d =
     now_is s past (Got f ∷ map Sent (frames_in s past (Got f))) d
     ∙ (ap (state_of Initiator d) (sym (end_of s past (Got f) d).wire_is) ∙ sym (state_seen Initiator d (seen_then v r.seen f) (ended s past (Got f)) (same_then v l past r f i live)))
 
+-- and it shows the states at the end, where it fits what it has seen
 pub shown_then : (v : Core) (l : UrcKind → Bool) (past : List Act) (r : Runs v past) (f : Frame) (st : Station) → IsSound v → is_lost past ≡ false → st.role ≡ Initiator → station_fits.StationFits st (seen_then v r.seen f)
     → (d : ℕ) → d < 62 → as_shown (now_in (own v l) past (Got f) d) ≡ state_shown st false d
 shown_then v l past r f st i live role h d k = ap as_shown (now_then v l past r f i live d ∙ sym (state_in st (seen_then v r.seen f) d role h k))
@@ -99,6 +101,7 @@ queue_there v l past r f st i live h =
     let control : Controls gs = subst Controls (sym same) (frames_control (own v l) (seen (own v l) past) (Got f)) in
     sym h.queue_is ∙ (queue_sent gs (station.Got f ∷ r.seen) control ∙ (ap (λ (q : List Frame). q ++ gs) r.fits.queue_is ∙ ap (λ (w : List Frame). v.station.queue ++ w) same))
 
+-- the first frame behind those that waited is the first that the frame calls for
 pub sent_there : (v : Core) (l : UrcKind → Bool) (past : List Act) (r : Runs v past) (f : Frame) (st : Station) → IsSound v → is_lost past ≡ false → station_fits.StationFits st (seen_then v r.seen f)
     → slice_get st.queue (length v.station.queue) ≡ slice_get (frames_in (own v l) past (Got f)) 0
 sent_there v l past r f st i live h =
@@ -112,6 +115,7 @@ queued_since v l past r f st i live h =
 
 -- ## At most one, and no longer than its room
 
+-- one frame at most, with at most so much information
 abbrev pub AreShort : ℕ → List Frame → Type 0
 AreShort room [] = Unit {0}
 AreShort room (f ∷ []) = length f.info ≤ room
@@ -128,6 +132,7 @@ cut_same room f h =
     take_most zero (x ∷ xs) h = absurd (let e : suc (length xs) ≤ 0 = h in omega (arith, e))
     take_most (suc n) (x ∷ xs) h = ap (λ (w : List ℕ). x ∷ w) (take_most n xs (let e : suc (length xs) ≤ suc n = h in omega (arith, e)))
 
+-- such frames are sent whole by the first of them, cut to the room
 pub sent_whole : (room : ℕ) (fs : List Frame) → AreShort room fs → map Sent fs ≡ sent_in room (slice_get fs 0)
 sent_whole room [] h = refl
 sent_whole room (f ∷ []) h = ap (λ (g : Frame). Sent g ∷ []) (sym (cut_same room f h))
@@ -212,6 +217,7 @@ answer_short x f = by_on (is_on Uih 0 f) refl
     by_on true e = message_answer f (x 0) e
     by_on false e = row_answer f (x 0) (x f.dlci) f.kind
 
+-- so it is with what a frame calls for in an initiator's history
 pub frames_short : (s : Setting) (past : List Act) (f : Frame) → s.role ≡ Initiator → AreShort (answer_room f) (frames_in s past (Got f))
 frames_short s past f r =
     short_if (answer_room f) (is_lost past) [] (by_frame s.role (λ d. state_of s.role d (wire past)) f) tt

@@ -60,6 +60,7 @@ use Rattle.modem_core.proofs.requests.ProbeRequests.{all_same}
 
 -- ## The act
 
+-- the V.24 signals of the MSC that frees, or of the one that holds
 abbrev pub signals : Bool → ℕ
 signals go = if go then ready else held_up
 
@@ -115,6 +116,7 @@ flow_frames s past d false l o =
 
 -- ## What is held
 
+-- what a test leaves where it fails
 pub if_not : (b x : Bool) → b ≡ false → (if b then false else x) ≡ x
 if_not false x e = refl
 if_not true x e = cc
@@ -134,6 +136,7 @@ held_behind r d (Held e ∷ acts) past h = absurd (let e : false ≡ true = h in
 held_behind r d (Freed e ∷ acts) past h = absurd (let e : false ≡ true = h in cc)
 held_behind r d (Given ∷ acts) past h = absurd (let e : false ≡ true = h in cc)
 
+-- what is held at the end of a call is what is held after its first act
 pub call_held : (s : Setting) (past : List Act) (a : Act) (r : Role) (d : ℕ) → last_held r d (ended s past a) ≡ last_held r d (a ∷ past)
 call_held s past a r d = held_behind r d (calls s past a) (a ∷ past) (calls_said s (seen s past) a)
 
@@ -165,6 +168,7 @@ pub record Flowing (v : Core) (w : Station) (d : ℕ) (go : Bool) : Type 0 where
 may_come : (s : Setting) (v : Core) (past : List Act) (d : ℕ) (go : Bool) → MayAsk s v past → MayCome s v past (flow_act d go)
 may_come s v past d go m = record { setting = m.setting; fits = m.fits; run = m.run; numbers = subst UsesOnce (sym (flow_taken d go past)) m.run.numbers }
 
+-- the MSC that frees d, or holds it
 abbrev pub flow_frame : ℕ → Bool → Role → Frame
 flow_frame d go r = msc_frame r d (signals go)
 
@@ -366,6 +370,7 @@ pub flow_written : (d : Dlci) (go : Bool) (f : FrameBuf) (acts : List code.Act) 
 flow_written d go f acts k h =
     ap (map act_of) h ∙ (ap (λ (a : Act). a ∷ Sent (kept_frame f) ∷ []) (flow_acts d go) ∙ ap (λ (g : Frame). flow_act d.number go ∷ Sent g ∷ []) k)
 
+-- a connection whose MSC the station took is held or freed, by that act and the MSC
 pub turns_since : (v new : Core) (w : Station) (d : ℕ) (go : Bool) → v.station.role ≡ Initiator → v.lost ≡ false → length v.lanes ≡ 62 → Flowing v w d go
     → new ≡ record v { station = w; lanes = turned v.lanes d (not go) } → TurnsFlow v new d go (flow_act d go ∷ Sent (flow_frame d go Initiator) ∷ [])
 unfolding TurnsFlow
@@ -391,16 +396,19 @@ turn_room s v past d go b role lost small z o h m =
     ∙ (ap (λ (q : ℕ). has_room st.n1 q (flow_frame d go s.role) && true) l.queued_is
     ∙ (ap (λ (r : Role). has_room st.n1 (octets_of st.queue) (flow_frame d go r) && true) l.same_role ∙ asked)))
 
+-- an MSC that doesn't fit into the station's queue has a place by no past
 pub lacks_room : (v : Core) (d : ℕ) (go : Bool) → v.station.role ≡ Initiator → v.lost ≡ false → d < 62 → (d == 0) ≡ false → is_opened (channel_at v.station d).state ≡ true
     → have_room v.station.n1 (octets_of v.station.queue) (sending.frames_asked v.station.role (station.Flow d go)) ≡ false → CannotTurn v d go
 unfolding CannotTurn
 lacks_room v d go role lost b z o h s past m = turn_room s v past d go false role lost b z o h m
 
+-- one that fits has a place by every past
 pub finds_room : (v : Core) (d : ℕ) (go : Bool) → v.station.role ≡ Initiator → v.lost ≡ false → d < 62 → (d == 0) ≡ false → is_opened (channel_at v.station d).state ≡ true
     → have_room v.station.n1 (octets_of v.station.queue) (sending.frames_asked v.station.role (station.Flow d go)) ≡ true → CanTurn v d go
 unfolding CanTurn
 finds_room v d go role lost b z o h s past m = turn_room s v past d go true role lost b z o h m
 
+-- where the station refuses to hold or free an open connection, the MSC has no place
 pub cannot_turn : (v : Core) (d : ℕ) (go : Bool) (x : StationError) → v.station.role ≡ Initiator → v.lost ≡ false → d < 62 → (d == 0) ≡ false → is_opened (channel_at v.station d).state ≡ true
     → refused (setting_of v.station) (seen_in v.station) (station.Flow d go) ≡ Some x → CannotTurn v d go
 unfolding CannotTurn
@@ -459,14 +467,17 @@ none_after : (lost zero opened held : Bool) (lines : ℕ) → not lost ≡ false
 none_after true zero opened held lines e = refl
 none_after false zero opened held lines e = cc
 
+-- on a connection that isn't Opened no backlog calls for anything
 pub never_open : (v : Core) (d : ℕ) → v.station.role ≡ Initiator → d < 62 → is_opened (channel_at v.station d).state ≡ false → NeverDue v d
 unfolding NeverDue
 never_open v d role b shut s past lines m = due_same s v past d lines role b m ∙ none_unless v.lost (d == 0) (is_opened (channel_at v.station d).state) (lane_at v d).held lines shut
 
+-- nor on any after a loss of the line
 pub never_lost : (v : Core) (d : ℕ) → v.station.role ≡ Initiator → d < 62 → not v.lost ≡ false → NeverDue v d
 unfolding NeverDue
 never_lost v d role b gone s past lines m = due_same s v past d lines role b m ∙ none_after v.lost (d == 0) (is_opened (channel_at v.station d).state) (lane_at v d).held lines gone
 
+-- a backlog for which nothing is due by what the core keeps leads to no act
 pub none_flows : (v : Core) (d lines : ℕ) (acts : List code.Act) → v.station.role ≡ Initiator → d < 62 → due_in v d lines ≡ None → acts ≡ [] → Flows v v d lines (map act_of acts)
 unfolding Flows
 none_flows v d lines acts role b h e s past m =
@@ -485,14 +496,17 @@ free_flows v role free d lines b few =
     none_flows v d lines [] role b (ap (λ (h : Bool). if v.lost || (d == 0) then None else flow_due (is_opened (channel_at v.station d).state) h lines) (free d)
     ∙ free_due v.lost (d == 0) (is_opened (channel_at v.station d).state) lines few) refl
 
+-- one for which holding or freeing d is due leads to the acts that do so
 pub some_flows : (v new : Core) (d lines : ℕ) (go : Bool) (acts : List Act) → v.station.role ≡ Initiator → d < 62 → due_in v d lines ≡ Some go → TurnsFlow v new d go acts → Flows v new d lines acts
 unfolding Flows TurnsFlow
 some_flows v new d lines go acts role b h t s past m = subst (λ (o : Option Bool). FlowsOn s v new past d o acts) (sym (due_same s v past d lines role b m ∙ h)) (t s past m)
 
+-- it finds room where the MSC has a place
 pub some_finds : (v : Core) (d lines : ℕ) (go : Bool) → v.station.role ≡ Initiator → d < 62 → due_in v d lines ≡ Some go → CanTurn v d go → FindsRoom v d lines
 unfolding FindsRoom CanTurn
 some_finds v d lines go role b h t s past m = subst (λ (o : Option Bool). HasPlace s past d o) (sym (due_same s v past d lines role b m ∙ h)) (t s past m)
 
+-- and finds none where the MSC has none
 pub some_lacks : (v : Core) (d lines : ℕ) (go : Bool) → v.station.role ≡ Initiator → d < 62 → due_in v d lines ≡ Some go → CannotTurn v d go → HasNoRoom v d lines
 unfolding HasNoRoom CannotTurn
 some_lacks v d lines go role b h t s past m = subst (λ (o : Option Bool). LacksRoom s past d o) (sym (due_same s v past d lines role b m ∙ h)) (t s past m)
@@ -512,6 +526,7 @@ held_so true many true true h = refl
 held_so true many true false h = cc
 held_so true many false go h = cc
 
+-- whatever is due is so
 pub due_facts : (lost zero opened held : Bool) (lines : ℕ) (go : Bool) → (if lost || zero then None else flow_due opened held lines) ≡ Some go → IsDue lost zero opened held go
 due_facts true zero opened held lines go h = cc
 due_facts false true opened held lines go h = cc

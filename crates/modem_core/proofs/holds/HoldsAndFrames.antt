@@ -151,6 +151,7 @@ gone_held v d = by_lost v.lost
     by_lost true = refl
     by_lost false = begun_held v (next_sender v.station v.station.queue) d
 
+-- what goes out next holds nothing and frees nothing, and each lane stays held or free
 pub out_holds : (v : Core) → KeepsHeldOut v
 unfolding KeepsHeldOut
 out_holds v s past m g = record {

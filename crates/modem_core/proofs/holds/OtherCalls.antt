@@ -45,9 +45,11 @@ tick_keeps = record {
   was_open = λ s d past r o. tick_was Initiator d (wire past) (first_open s d past Tick r o);
 }
 
+-- a request that leaves the lanes as they are keeps what is held
 pub keeps_sent : (old new : Core) (q : Request) (acts : List Act) → new.lanes ≡ old.lanes → Handles old new (Took q) acts → KeepsHeld old new (Took q) acts
 keeps_sent old new q acts n h = keeps_by old new (Took q) acts (took_keeps q) n h
 
+-- so does a tick
 pub keeps_tick : (old new : Core) (acts : List Act) → new.lanes ≡ old.lanes → Handles old new Tick acts → KeepsHeld old new Tick acts
 keeps_tick old new acts n h = keeps_by old new Tick acts tick_keeps n h
 
@@ -68,5 +70,6 @@ keeps_lost old new acts h s past m f =
     } in
     subst (λ (x : List Act). HoldsFit new (after past x)) (sym g.called) there
 
+-- before any act no connection is open, so nothing is held
 pub nothing_held : (v : Core) → HoldsFit v []
 nothing_held v = record { held_are = λ d b z o. absurd (let x : false ≡ true = o in cc) }

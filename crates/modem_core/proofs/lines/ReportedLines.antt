@@ -17,14 +17,17 @@ use Rattle.modem_core.specs.Handing.{ReadsFrame}
 use Rattle.modem_core.specs.Stops.{asker_of}
 use Rattle.modem_core.specs.Reports.{Listens, heard_by, said_as, said_lines, Read, after_all, read_on, read_each, ReadsOctet, ReadsAll, ReportSays}
 
+-- where nothing is said the acts stay as they are
 pub nothing_said : (kinds : List UrcKind) (r : Reading) (xs : List Act) → ReportSays kinds r (λ listens. []) xs xs
 unfolding ReportSays
 nothing_said kinds r xs listens h = sym (append-nil xs)
 
+-- what is said whatever is listened to goes behind the acts
 pub said_so : (kinds : List UrcKind) (r : Reading) (said old new : List Act) → new ≡ old ++ said → ReportSays kinds r (λ listens. said) old new
 unfolding ReportSays
 said_so kinds r said old new e listens h = e
 
+-- a line of a kind that nobody listens to says nothing
 pub unheard : (kinds : List UrcKind) (r : Reading) (kind : UrcKind) (line : List ℕ) (xs : List Act) (b : Bool) → b ≡ false → (b ≡ true) ↔ Contains kinds kind → ReportSays kinds r (λ listens. heard_by listens r.dlci.number kind line) xs xs
 unfolding ReportSays Listens
 unheard kinds r kind line xs b n e listens h = by_kind (listens kind) refl
@@ -33,6 +36,7 @@ unheard kinds r kind line xs b n e listens h = by_kind (listens kind) refl
     by_kind false g = sym (append-nil xs)
     by_kind true g = absurd (let t : b ≡ true = e.1 ((h kind).0 g) in let x : false ≡ true = sym n ∙ t in cc)
 
+-- a line of a kind that is listened to is heard
 pub heard : (kinds : List UrcKind) (r : Reading) (kind : UrcKind) (line : List ℕ) (old new : List Act) (b : Bool) → b ≡ true → (b ≡ true) ↔ Contains kinds kind
     → new ≡ old ++ Heard kind r.dlci.number line ∷ [] → ReportSays kinds r (λ listens. heard_by listens r.dlci.number kind line) old new
 unfolding ReportSays Listens
@@ -50,6 +54,7 @@ one_line dialect listens d owner old c l new e k w a =
     ∙ ap (λ (x : List Act). let v : Read = record { kept = kept_run (old.kept ++ c ∷ []); window = after_all dialect old.window (lines (old.kept ++ c ∷ [])); acts = x } in v)
     (a ∙ (ap (λ (x : List Act). old.acts ++ x) (sym (append-nil (said_as listens d owner l (seen_by dialect old.window l)))) ∙ ap (λ (ls : List (List ℕ)). old.acts ++ said_lines dialect listens d owner old.window ls) (sym e))))
 
+-- an octet that ends a line: the line is placed, and what it says is said
 pub octet_ends : (dialect : Dialect) (kinds : List UrcKind) (r : Reading) (old new : Read) (c : ℕ) (l : List ℕ) → lines (old.kept ++ c ∷ []) ≡ l ∷ [] → new.kept ≡ kept_run (old.kept ++ c ∷ []) → new.window ≡ after_line dialect old.window l
     → ReportSays kinds r (λ listens. said_as listens r.dlci.number r.owner l (seen_by dialect old.window l)) old.acts new.acts → ReadsOctet dialect kinds r c old new
 unfolding ReportSays ReadsOctet
@@ -64,6 +69,7 @@ none_said dialect listens d owner old new octets e k w a =
     ∙ ap (λ (x : List Act). let v : Read = record { kept = kept_run (old.kept ++ octets); window = after_all dialect old.window (lines (old.kept ++ octets)); acts = x } in v)
     (a ∙ (sym (append-nil old.acts) ∙ ap (λ (ls : List (List ℕ)). old.acts ++ said_lines dialect listens d owner old.window ls) e)))
 
+-- an octet that ends no line is kept
 pub octet_none : (dialect : Dialect) (kinds : List UrcKind) (r : Reading) (old new : Read) (c : ℕ) → [] ≡ lines (old.kept ++ c ∷ []) → new.kept ≡ kept_run (old.kept ++ c ∷ []) → new.window ≡ old.window → new.acts ≡ old.acts → ReadsOctet dialect kinds r c old new
 unfolding ReadsOctet
 octet_none dialect kinds r old new c e k w a listens h = none_said dialect listens r.dlci.number r.owner old new (c ∷ []) e k w a
@@ -72,6 +78,7 @@ octet_none dialect kinds r old new c e k w a listens h = none_said dialect liste
 unfoldable pub ReadSoFar : (dialect : Dialect) → List UrcKind → Reading → Read → List ℕ → Read → List ℕ → Type 0
 ReadSoFar dialect kinds r now rest first all = (listens : UrcKind → Bool) → Listens listens kinds → read_each dialect listens r.dlci.number r.owner now rest ≡ read_each dialect listens r.dlci.number r.owner first all
 
+-- at first all of them are left
 pub reads_first : (dialect : Dialect) (kinds : List UrcKind) (r : Reading) (v : Read) (all : List ℕ) → ReadSoFar dialect kinds r v all v all
 unfolding ReadSoFar
 reads_first dialect kinds r v all listens h = refl
@@ -80,6 +87,7 @@ each_append : (dialect : Dialect) (listens : UrcKind → Bool) (d : ℕ) (owner 
 each_append dialect listens d owner v [] ys = refl
 each_append dialect listens d owner v (c ∷ xs) ys = each_append dialect listens d owner (read_on dialect listens d owner v (c ∷ [])) xs ys
 
+-- a run of them more is read
 pub reads_next : (dialect : Dialect) (kinds : List UrcKind) (r : Reading) (now next first : Read) (run rest left all : List ℕ) → rest ≡ run ++ left → ReadsAll dialect kinds r run now next → ReadSoFar dialect kinds r now rest first all → ReadSoFar dialect kinds r next left first all
 unfolding ReadSoFar ReadsAll
 reads_next dialect kinds r now next first run rest left all e o s listens h =
@@ -87,6 +95,7 @@ reads_next dialect kinds r now next first run rest left all e o s listens h =
     ∙ (sym (each_append dialect listens r.dlci.number r.owner now run left)
     ∙ (ap (λ (w : List ℕ). read_each dialect listens r.dlci.number r.owner now w) (sym e) ∙ s listens h))
 
+-- once none is left all of them are read
 pub reads_last : (dialect : Dialect) (kinds : List UrcKind) (r : Reading) (now first : Read) (rest all : List ℕ) → rest ≡ [] → ReadSoFar dialect kinds r now rest first all → ReadsAll dialect kinds r all first now
 unfolding ReadSoFar ReadsAll
 reads_last dialect kinds r now first rest all e s listens h = ap (λ (w : List ℕ). read_each dialect listens r.dlci.number r.owner now w) (sym e) ∙ s listens h
@@ -172,14 +181,17 @@ left_over n place all inside few =
 
 -- ## What the calls say
 
+-- where a call succeeds, what follows from its promise is so too
 pub on_ok : {A E : Type 0} (P Q : Type 0) (r : Result A E) → (P → Q) → OnOk r P → OnOk r Q
 on_ok P Q (Ok a) f p = f p
 on_ok P Q (Err e) f p = tt
 
+-- and what follows from two promises
 pub on_both : {A E : Type 0} (P Q R : Type 0) (r : Result A E) → (P → Q → R) → OnOk r P → OnOk r Q → OnOk r R
 on_both P Q R (Ok a) f p q = f p q
 on_both P Q R (Err e) f p q = tt
 
+-- past the end of the octets none is left
 pub all_dropped : (n : ℕ) (xs : List ℕ) → length xs ≤ n → drop n xs ≡ []
 all_dropped zero [] h = refl
 all_dropped (suc n) [] h = refl

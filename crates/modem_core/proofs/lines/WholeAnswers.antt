@@ -24,6 +24,7 @@ use Rattle.modem_core.proofs.lines.ReportedLines.{nothing_said, said_so}
 
 -- ## Acts of which the first that tells an answer gets its lines
 
+-- acts that tell no answer stay as they are
 pub filled_none : (ls : List AnswerLine) (xs : List Act) → list_any tells_lines xs ≡ false → filled_first ls xs ≡ xs
 filled_none ls [] h = refl
 filled_none ls (x ∷ xs) h = by_test (tells_lines x) h (filled_none ls xs)
@@ -32,6 +33,7 @@ filled_none ls (x ∷ xs) h = by_test (tells_lines x) h (filled_none ls xs)
     by_test true e f = cc
     by_test false e f = ap (λ (ys : List Act). x ∷ ys) (f e)
 
+-- behind acts that tell none the first answer gets its lines
 pub filled_behind : (ls : List AnswerLine) (xs ys : List Act) → list_any tells_lines xs ≡ false → filled_first ls (xs ++ ys) ≡ xs ++ filled_first ls ys
 filled_behind ls [] ys h = refl
 filled_behind ls (x ∷ xs) ys h = by_test (tells_lines x) h (filled_behind ls xs ys)
@@ -41,6 +43,7 @@ filled_behind ls (x ∷ xs) ys h = by_test (tells_lines x) h (filled_behind ls x
     by_test true e f = cc
     by_test false e f = ap (λ (zs : List Act). x ∷ zs) (f e)
 
+-- acts behind that tell none stay as they are
 pub filled_more : (ls : List AnswerLine) (xs ys : List Act) → list_any tells_lines ys ≡ false → filled_first ls (xs ++ ys) ≡ filled_first ls xs ++ ys
 filled_more ls [] ys h = filled_none ls ys h
 filled_more ls (x ∷ xs) ys h = by_test (tells_lines x) (filled_more ls xs ys h)
@@ -85,6 +88,7 @@ settled_room whole w read settled room e enough =
 
 -- ## What a placed line says
 
+-- an echo, or a line that an answer keeps, says nothing
 pub quiet_placed : (kinds : List UrcKind) (r : Reading) (line : List ℕ) (placed : Placed) (w : Option OpenWindow) (acts : List Act) (whole : Bool) → whole ≡ false → (placed ≡ is.Echo) ⊎ (placed ≡ is.Kept) → SaysPlaced kinds r line placed w acts whole acts
 quiet_placed kinds r line placed w acts whole n (inl e) =
     subst (λ (p : Placed). SaysPlaced kinds r line p w acts whole acts) (sym e)
@@ -93,18 +97,21 @@ quiet_placed kinds r line placed w acts whole n (inr e) =
     subst (λ (p : Placed). SaysPlaced kinds r line p w acts whole acts) (sym e)
     (subst (λ (b : Bool). SaysPlaced kinds r line is.Kept w acts b acts) (sym n) (record { window_is = refl; says = λ u. nothing_said kinds r acts; untold = λ u t. u }))
 
+-- an unsolicited line is heard, where its kind is listened to
 pub unsolicited_placed : (kinds : List UrcKind) (r : Reading) (line : List ℕ) (placed : Placed) (kind : UrcKind) (w : Option OpenWindow) (old new : List Act) (whole : Bool) → whole ≡ false → placed ≡ is.Unsolicited kind
     → ReportSays kinds r (λ listens. heard_by listens r.dlci.number kind line) old new → (list_any tells_lines old ≡ false → list_any tells_lines new ≡ false) → SaysPlaced kinds r line placed w old whole new
 unsolicited_placed kinds r line placed kind w old new whole n e says untold =
     subst (λ (p : Placed). SaysPlaced kinds r line p w old whole new) (sym e)
     (subst (λ (b : Bool). SaysPlaced kinds r line (is.Unsolicited kind) w old b new) (sym n) (record { window_is = refl; says = λ u. says; untold = λ u t. untold u }))
 
+-- any other line is heard, where Other is listened to
 pub other_placed : (kinds : List UrcKind) (r : Reading) (line : List ℕ) (placed : Placed) (w : Option OpenWindow) (old new : List Act) (whole : Bool) → whole ≡ false → placed ≡ is.Other
     → ReportSays kinds r (λ listens. heard_by listens r.dlci.number Other line) old new → (list_any tells_lines old ≡ false → list_any tells_lines new ≡ false) → SaysPlaced kinds r line placed w old whole new
 other_placed kinds r line placed w old new whole n e says untold =
     subst (λ (p : Placed). SaysPlaced kinds r line p w old whole new) (sym e)
     (subst (λ (b : Bool). SaysPlaced kinds r line is.Other w old b new) (sym n) (record { window_is = refl; says = λ u. says; untold = λ u t. untold u }))
 
+-- the line that makes an answer whole tells it, as yet without lines
 pub whole_placed : (kinds : List UrcKind) (r : Reading) (line : List ℕ) (placed : Placed) (w : Option OpenWindow) (old new : List Act) → placed ≡ is.Whole → new ≡ old ++ done_by r.owner [] → SaysPlaced kinds r line placed w old true new
 whole_placed kinds r line placed w old new e told =
     subst (λ (p : Placed). SaysPlaced kinds r line p w old true new) (sym e) (record {
@@ -126,11 +133,13 @@ either : (b : Bool) (w : Option OpenWindow) → w ≡ (if b then w else w)
 either true w = refl
 either false w = refl
 
+-- a line opens no window
 pub none_after : (dialect : Dialect) (line : List ℕ) → None ≡ after_line dialect None line
 none_after dialect line = either (is_solicited dialect line) None
 
 -- ## A window that grows
 
+-- a window that grows, and then grows on, has grown
 pub grown_on : (a b c : Option OpenWindow) → Grows a b → Grows b c → Grows a c
 unfolding Grows
 grown_on None b c g h = grown_none b c g h
@@ -192,6 +201,7 @@ filled_at_from ls (x ∷ xs) k i h = by_test (tells_lines (act_of x)) refl h (fi
               ∙ ap (λ (t : Bool). if t then filled ls (act_of x) ∷ map act_of xs else act_of x ∷ filled_first ls (map act_of xs)) (sym e);
         }
 
+-- the lines go into the first act that tells an answer
 pub filled_at : (ls : List AnswerLine) (acts : List code.Act) (i : ℕ) (a b : code.Act) → Some i ≡ position (λ act. tells_lines (act_of act)) acts → b ≡ slice_index_or acts i b → act_of a ≡ filled ls (act_of b)
     → map act_of (slice_set acts i a) ≡ filled_first ls (map act_of acts)
 filled_at ls acts i a b h at g =
@@ -209,5 +219,6 @@ unfilled_from ls (x ∷ xs) k h = by_test (tells_lines (act_of x)) h (unfilled_f
     by_test true h f = cc
     by_test false h f = ap (λ (ys : List Act). act_of x ∷ ys) (f h)
 
+-- and where no act tells one all stay
 pub unfilled : (ls : List AnswerLine) (acts : List code.Act) → None ≡ position (λ act. tells_lines (act_of act)) acts → map act_of acts ≡ filled_first ls (map act_of acts)
 unfilled ls acts h = unfilled_from ls acts 0 (sym (position_from-zero (λ (act : code.Act). tells_lines (act_of act)) acts) ∙ sym h)

@@ -20,6 +20,7 @@ start_of starts d = slice_index_or starts d 0
 
 -- ## A place is noted
 
+-- a place before which no command of d stands may be noted
 pub noted : (starts : List ℕ) (qs : List Request) (d n : ℕ) → AreStarts starts qs → d < length starts → n ≤ length qs → list_any (commands_on d) (take n qs) ≡ false → AreStarts (slice_set starts d n) qs
 noted starts qs d n are inside within none = record {
   all = length-set starts d n ∙ are.all;
@@ -39,6 +40,7 @@ noted starts qs d n are inside within none = record {
 
 -- ## A request comes
 
+-- a request that comes last changes no place
 pub came_last : (starts : List ℕ) (qs : List Request) (q : Request) → AreStarts starts qs → AreStarts starts (qs ++ q ∷ [])
 came_last starts qs q are = record {
   all = are.all;
@@ -46,6 +48,7 @@ came_last starts qs q are = record {
   none = λ d. ap (list_any (commands_on d)) (take-append-le (start_of starts d) qs (q ∷ []) (are.within d)) ∙ are.none d;
 }
 
+-- where no Stop is noted once a request came last, none is there
 pub no_stop_last : (qs : List Request) (q : Request) (was now : Bool) → (was ≡ false → find is_stop qs ≡ None) → now ≡ (was || is_stop q) → now ≡ false → find is_stop (qs ++ q ∷ []) ≡ None
 no_stop_last qs q true now none is off = absurd (let x : true ≡ false = sym is ∙ off in cc)
 no_stop_last qs q false now none is off = find-append is_stop qs (q ∷ []) ∙ (ap (λ (o : Option Request). option_or o (find is_stop (q ∷ []))) (none refl) ∙ ap (λ (b : Bool). if b then Some q else None) (sym is ∙ off))
@@ -104,6 +107,7 @@ zero_moved p = by_test (nat_lt p 0)
 start_moved : (starts : List ℕ) (p d : ℕ) → start_of (map (moved_up p) starts) d ≡ moved_up p (start_of starts d)
 start_moved starts p d = ap (λ (z : ℕ). slice_index_or (map (moved_up p) starts) d z) (sym (zero_moved p)) ∙ get_or-map (moved_up p) starts d 0
 
+-- once a request goes, the places behind it move up
 pub went_out : (starts : List ℕ) (qs : List Request) (p : ℕ) → AreStarts starts qs → p < length qs → AreStarts (map (moved_up p) starts) (remove qs p)
 went_out starts qs p are inside = record {
   all = length-map starts (moved_up p) ∙ are.all;
@@ -131,11 +135,13 @@ no_first (q ∷ qs) (suc p) h = by_test (is_stop q) h (no_first qs p)
     by_test true h f = cc
     by_test false h f = f h
 
+-- and where no Stop is noted, none is there
 pub no_stop_left : (qs : List Request) (p : ℕ) (may : Bool) → (may ≡ false → find is_stop qs ≡ None) → may ≡ false → find is_stop (remove qs p) ≡ None
 no_stop_left qs p may none off = no_first qs p (none off)
 
 -- ## No requests
 
+-- where there are no requests, all places are 0
 pub none_noted : (qs : List Request) → qs ≡ [] → AreStarts (replicate 64 0) qs
 none_noted qs is = subst (AreStarts (replicate 64 0)) (sym is) (record { all = length-replicate {A = ℕ} 64 0; within = λ d. let z = zeros d in omega (arith, z); none = λ d. ap (λ (n : ℕ). list_any (commands_on d) (take n [])) (zeros d) })
   where
@@ -148,6 +154,7 @@ none_noted qs is = subst (AreStarts (replicate 64 0)) (sym is) (record { all = l
 
 -- ## The hand
 
+-- with a request more the hand is kept as it should be
 pub kept_last : (old new : Vec Request) (starts : List ℕ) (was now : Bool) (q : Request) → HandIsKept old starts was → vec_len new ≤ 128 → 128 ≤ vec_capacity new → new.items ≡ old.items ++ q ∷ [] → now ≡ (was || is_stop q) → HandIsKept new starts now
 kept_last old new starts was now q are few room items is = record {
   few = few;
@@ -156,6 +163,7 @@ kept_last old new starts was now q are few room items is = record {
   no_stop = λ off. ap (find is_stop) items ∙ no_stop_last old.items q was now are.no_stop is off;
 }
 
+-- with a request fewer, the places moved up
 pub kept_out : (old new : Vec Request) (starts later : List ℕ) (may : Bool) (p : ℕ) → HandIsKept old starts may → vec_len new ≤ 128 → 128 ≤ vec_capacity new → p < length old.items → new.items ≡ remove old.items p → later ≡ map (moved_up p) starts → HandIsKept new later may
 kept_out old new starts later may p are few room inside items moved = record {
   few = few;
@@ -164,6 +172,7 @@ kept_out old new starts later may p are few room inside items moved = record {
   no_stop = λ off. ap (find is_stop) items ∙ no_stop_left old.items p may are.no_stop off;
 }
 
+-- without any request
 pub kept_none : (new : Vec Request) → vec_len new ≤ 128 → 128 ≤ vec_capacity new → new.items ≡ [] → HandIsKept new (replicate 64 0) false
 kept_none new few room items = record {
   few = few;
@@ -172,6 +181,7 @@ kept_none new few room items = record {
   no_stop = λ off. ap (find is_stop) items;
 }
 
+-- and with another place noted for d
 pub kept_noted : (qs : Vec Request) (starts : List ℕ) (may : Bool) (d n : ℕ) → HandIsKept qs starts may → d < 62 → n ≤ length qs.items → list_any (commands_on d) (take n qs.items) ≡ false → HandIsKept qs (slice_set starts d n) may
 kept_noted qs starts may d n are small within none = record {
   few = are.few;
@@ -182,6 +192,7 @@ kept_noted qs starts may d n are small within none = record {
 
 -- ## All places, one after the other
 
+-- once the place at i is changed too, changing the rest comes to the same
 pub moved_next : (f : ℕ → ℕ) (xs : List ℕ) (i n : ℕ) → i < length xs → n ≡ suc i → take n (slice_set xs i (f (slice_index_or xs i 0))) ++ map f (drop n (slice_set xs i (f (slice_index_or xs i 0)))) ≡ take i xs ++ map f (drop i xs)
 moved_next f xs i n inside is = subst (λ (m : ℕ). take m (slice_set xs i (f (slice_index_or xs i 0))) ++ map f (drop m (slice_set xs i (f (slice_index_or xs i 0)))) ≡ take i xs ++ map f (drop i xs)) (sym is) (next xs i inside)
   where
@@ -190,6 +201,7 @@ moved_next f xs i n inside is = subst (λ (m : ℕ). take m (slice_set xs i (f (
     next (y ∷ ys) zero inside = refl
     next (y ∷ ys) (suc j) inside = ap (λ (zs : List ℕ). y ∷ zs) (next ys j (omega (arith, inside)))
 
+-- once all are changed there is no rest
 pub moved_all : (f : ℕ → ℕ) (i : ℕ) (xs : List ℕ) → length xs ≤ i → take i xs ++ map f (drop i xs) ≡ xs
 moved_all f zero [] all = refl
 moved_all f zero (x ∷ xs) all = let e : ⊥ = omega (arith, all) in absurd e

@@ -44,6 +44,7 @@ at_first test (q ∷ qs) k i h = by_test (test q) refl h (at_first test qs (k + 
           found = λ d. ap (λ (b : Bool). if b then Some q else find test qs) e ∙ a.found d;
         }
 
+-- without the request at that place the first that passes is left out
 pub left_at : (test : Request → Bool) (qs : List Request) (i : ℕ) → position test qs ≡ Some i → remove qs i ≡ without_first test qs
 left_at test qs i h =
     let a = at_first test qs 0 i (sym (position_from-zero test qs) ∙ h) in
@@ -58,5 +59,6 @@ none_from test (q ∷ qs) k h = by_test (test q) h (none_from test qs (k + 1))
     by_test true h f = cc
     by_test false h f = f h
 
+-- and where no place is found, none is left out
 pub none_left : (test : Request → Bool) (qs : List Request) → position test qs ≡ None → qs ≡ without_first test qs
 none_left test qs h = sym (without_none test qs (none_from test qs 0 (sym (position_from-zero test qs) ∙ h)))

@@ -10,6 +10,7 @@ use Rattle.modem_history.specs.Requests.{commands_on}
 
 -- ## Looking behind the place
 
+-- one passes behind the place just where one passes at all
 pub any_dropped : (test : Request → Bool) (n : ℕ) (qs : List Request) → list_any test (take n qs) ≡ false → list_any test (drop n qs) ≡ list_any test qs
 any_dropped test zero qs h = refl
 any_dropped test (suc n) [] h = refl
@@ -19,6 +20,7 @@ any_dropped test (suc n) (q ∷ qs) h = by_test (test q) h (any_dropped test n q
     by_test true h f = cc
     by_test false h f = f h
 
+-- the first command of d is the first behind the place
 pub first_dropped : (d n : ℕ) (qs : List Request) → list_any (commands_on d) (take n qs) ≡ false → first_on d (drop n qs) ≡ first_on d qs
 first_dropped d zero qs h = refl
 first_dropped d (suc n) [] h = refl
@@ -30,6 +32,7 @@ first_dropped d (suc n) (q ∷ qs) h = by_test (commands_on d q) h (first_droppe
 
 -- ## Its place
 
+-- where the request at the place doesn't pass, none passes before the next place
 pub none_further : (test : Request → Bool) (qs : List Request) (i : ℕ) (q : Request) → list_any test (take i qs) ≡ false → i < length qs → q ≡ slice_index_or qs i q → test q ≡ false → list_any test (take (i + 1) qs) ≡ false
 none_further test qs i q none inside is fails =
     list_any_more test qs i q inside ∙ (ap (λ (b : Bool). b || test (slice_index_or qs i q)) none ∙ (ap test (sym is) ∙ fails))
@@ -76,6 +79,7 @@ before_from test (q ∷ qs) k i (suc n) h e = by_test (test q) h (λ g. before_f
     by_test true g f = let same : k ≡ i = cc in let x : ⊥ = omega (arith, e, same) in absurd x
     by_test false g f = f g
 
+-- before the place of the first that passes none does
 pub none_before : (test : Request → Bool) (qs : List Request) (i : ℕ) → Some i ≡ position test qs → list_any test (take i qs) ≡ false
 none_before test qs i h = before_from test qs 0 i i (sym (position_from-zero test qs) ∙ sym h) (omega arith)
 
@@ -89,6 +93,7 @@ none_at_all test (q ∷ qs) k (suc n) h = by_test (test q) h (none_at_all test q
     by_test true g f = cc
     by_test false g f = f g
 
+-- and where no place is found none passes at all
 pub none_there : (test : Request → Bool) (qs : List Request) (n : ℕ) → None ≡ position test qs → list_any test (take n qs) ≡ false
 none_there test qs n h = none_at_all test qs 0 n (sym (position_from-zero test qs) ∙ sym h)
 

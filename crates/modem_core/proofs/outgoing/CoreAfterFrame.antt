@@ -55,6 +55,7 @@ use Rattle.modem_history.specs.Lawful.{some_wait}
 abbrev pub own : Core → (UrcKind → Bool) → Setting
 own v listens = record { role = Initiator; n1 = v.station.n1; dialect = dialect_in v; listens = listens }
 
+-- each setting of its histories is that, with some kinds listened to
 pub own_is : (s : Setting) (v : Core) → IsSettingOf s v → s ≡ own v s.listens
 own_is s v h =
     ap (λ (r : Role). let t : Setting = record { role = r; n1 = s.n1; dialect = s.dialect; listens = s.listens } in t) h.role_is
@@ -67,6 +68,7 @@ pub record IsSound (v : Core) : Type 0 where
   pub least : 31 ≤ v.station.n1
   pub all : length v.lanes ≡ 62
 
+-- while the line isn't lost, the station and the lanes of a core that fits a past fit it too
 pub running : (v : Core) (past : List Act) → v.lost ≡ false → Fits v past → Runs v past
 running v past n h = subst (λ (b : Bool). RunsUnless b v past) n h.runs
 
@@ -259,6 +261,7 @@ begun_at v d c first none l = by_whole (nat_le (length (channel_at v.station d).
 data_state : (d e : ℕ) (info : List ℕ) (past : List station.Act) → (d == 0) ≡ false → state_of Initiator e (station.Sent (written Initiator Uih d info) ∷ past) ≡ state_of Initiator e past
 data_state d e info past z = state_sent_uih Initiator e past (written Initiator Uih d info) refl (ap (λ (b : Bool). b && octet_is (λ n. n) cld (message_of info)) z) refl
 
+-- the station keeps each connection's state as its past says
 pub state_in : (v : Station) (past : List station.Act) (e : ℕ) → v.role ≡ Initiator → station_fits.StationFits v past → e < 62 → (channel_at v e).state ≡ state_of Initiator e past
 state_in v past e r h l = sym (subst (λ (x : Role). state_of x e past ≡ (channel_at v e).state) r (h.channels_are e l).state_is)
 
@@ -372,6 +375,7 @@ on_own v l past i g t m = by_lost v.lost refl
         (subst (λ (b : Bool). StandsIn (own v l) (record (begun_next v) { station = station_after v.station v.station.queue }) (with_out (if b then None else out_by (own v l) past (queue (wire past))) past)) (sym live)
         (subst (λ (fs : List Frame). StandsIn (own v l) (record (begun_next v) { station = station_after v.station v.station.queue }) (with_out (out_by (own v l) past fs) past)) (sym (queue_is v past r)) there))
 
+-- after the next frame the core goes on with every history that it fits
 pub goes_on : (v : Core) → IsSound v → StationGivesOn v.station → SendsTruly v.station → CoreGoesOn v
 unfolding CoreGoesOn
 goes_on v i g t s past m =
@@ -402,6 +406,7 @@ out_queue v l past r i t [] q =
     out_data v l past r i t q (giving.next_turn v.station) refl
     ∙ ap (λ (o : Option ℕ). option_map (λ (d : ℕ). with_freshness true (data_of (own v l) past d)) o) (turn_same (dialect_in v) v.station r.seen past (λ d. lane_at v d) (fits_lanes v past r i))
 
+-- while the line isn't lost, the station's next frame is what every history says
 pub goes_out : (v : Core) (o : Option Outgoing) → IsSound v → SendsTruly v.station → v.lost ≡ false → o ≡ option_map (with_freshness (length v.station.queue == 0)) (giving.next_given v.station v.station.queue) → GoesOut v o
 unfolding GoesOut
 goes_out v o i t n e s past m =
@@ -412,21 +417,25 @@ goes_out v o i t n e s past m =
     ∙ (ap (λ (b : Bool). if b then None else out_by (own v s.listens) past (queue (wire past))) (sym live)
     ∙ ap (λ (x : Setting). next_out x past) (sym (own_is s v m.setting)))))
 
+-- after a loss nothing goes out
 pub goes_none : (v : Core) → v.lost ≡ true → GoesOut v None
 unfolding GoesOut
 goes_none v e s past m = sym (ap (λ (b : Bool). if b then None else out_by s past (queue (wire past))) (m.fits.lost_is ∙ e))
 
+-- and the core goes on with its history as it was
 pub goes_on_lost : (v : Core) → v.lost ≡ true → CoreGoesOn v
 unfolding CoreGoesOn
 goes_on_lost v e s past m =
     subst (λ (b : Bool). StandsIn s (if b then v else record (begun_next v) { station = station_after v.station v.station.queue }) (after_out s past)) (sym e)
     (subst (λ (b : Bool). StandsIn s v (with_out (if b then None else out_by s past (queue (wire past))) past)) (sym (m.fits.lost_is ∙ e)) m)
 
+-- and stays as it is
 pub gone_lost : (v : Core) → v.lost ≡ true → v ≡ gone_on v
 gone_lost v e = sym (ap (λ (b : Bool). if b then v else record (begun_next v) { station = station_after v.station v.station.queue }) e)
 
 -- ## What the calls say
 
+-- the connection that the station names as next may send, by each past that the station fits
 pub sends_truly : (v : Station) (o : Option Dlci) → option_map dlci_of o ≡ giving.next_sender v v.queue → ((past : List station.Act) → station_fits.StationFits v past → IfSome o (λ d. SendsNext v.role d.number past)) → SendsTruly v
 unfolding SendsTruly
 sends_truly v None e h d seen some f = absurd (let g : None ≡ Some d = e ∙ some in cc)
@@ -448,9 +457,11 @@ begun_station v (Some d) = by_whole (nat_le (length (channel_at v.station d).wai
         by_idle true = refl
         by_idle false = refl
 
+-- a window that begins leaves the station as it is
 pub station_stays : (v w : Core) → w ≡ begun_next v → w.station ≡ v.station
 station_stays v w e = ap (λ (x : Core). x.station) e ∙ begun_station v (giving.next_sender v.station v.station.queue)
 
+-- with the next command's window begun and the frame given on, the core has gone on
 pub gone : (v w : Core) (st : Station) → v.lost ≡ false → w ≡ begun_next v → st ≡ station_after w.station w.station.queue → record w { station = st } ≡ gone_on v
 gone v w st n e g =
     let same = station_stays v w e in
@@ -466,6 +477,7 @@ given_setting v [] = by_next (giving.next_turn v)
     by_next None = (refl, refl)
     by_next (Some d) = (refl, refl)
 
+-- the invariant of the fields holds after the next frame
 pub kept_on : (v st : Station) (n1 : ℕ) (lanes : List Lane) → IsKept v n1 lanes → st ≡ station_after v v.queue → IsKept st n1 lanes
 kept_on v st n1 lanes k e =
     let same = given_setting v v.queue in
@@ -476,5 +488,6 @@ kept_on v st n1 lanes k e =
       all = k.all;
     }
 
+-- and has all that is asked here
 pub sound : (v : Core) (n1 : ℕ) → IsKept v.station n1 v.lanes → IsSound v
 sound v n1 k = record { role_is = k.role_is; least = subst (λ (n : ℕ). 31 ≤ n) (sym k.n1_is) k.n1_least; all = k.all }

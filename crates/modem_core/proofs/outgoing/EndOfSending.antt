@@ -90,6 +90,7 @@ if_given : (o : Option Frame) (b : Bool) (v : Core) → ((f : Frame) → o ≡ S
 if_given None b v h = tt
 if_given (Some f) b v h = h f refl
 
+-- while the line isn't lost, each frame that goes out leaves less to go
 pub leaves_less : (v : Core) (o : Option Outgoing) → 0 < v.station.n1 → v.lost ≡ false → o ≡ option_map (with_freshness (length v.station.queue == 0)) (next_given v.station v.station.queue) → LeavesLess v o
 leaves_less v o n live e =
     subst (LeavesLess v) (sym e)
@@ -107,14 +108,17 @@ empty_queue v [] q h = ap (λ (fs : List Frame). v.lost || (length fs == 0)) q �
     or_true true = refl
     or_true false = refl
 
+-- a core whose line is lost is idle
 pub idle_lost : (v : Core) → v.lost ≡ true → CoreIsIdle v
 unfolding CoreIsIdle
 idle_lost v h = ap (λ (b : Bool). b || (length v.station.queue == 0)) h
 
+-- so is one where no frame goes out next
 pub idle_none : (v : Core) (o : Option Outgoing) → o ≡ option_map (with_freshness (length v.station.queue == 0)) (next_given v.station v.station.queue) → IfNone o (CoreIsIdle v)
 idle_none v None e = empty_queue v v.station.queue refl (sym e)
 idle_none v (Some x) e = tt
 
+-- what is promised where nothing comes of a value is promised where there is no value
 pub none_of : {X Y : Type 0} (f : X → Y) (P : Type 0) (o : Option X) → IfNone (option_map f o) P → IfNone o P
 none_of f P None h = h
 none_of f P (Some x) h = tt
@@ -142,6 +146,7 @@ sends_none v h d seen e f = absurd (by_queue v v.queue h d e)
     by_queue v (f ∷ fs) h d e = cc
     by_queue v [] h d e = by_turn v (giving.next_turn v) d h e
 
+-- what isn't given is None
 pub none_given : {X : Type 0} (o : Option X) (b : Bool) → b ≡ is_some o → b ≡ false → o ≡ None
 none_given None b h n = refl
 none_given (Some x) b h n = absurd (let f : true ≡ false = sym h ∙ n in cc)

@@ -25,6 +25,7 @@ then_sends s _ _ f _ (stays past) h = sends past (Sent f ∷ past) f [] h (stays
 then_sends s _ _ f _ (marks past last g fs n k) h = marks past (Sent f ∷ last) g (fs ++ f ∷ []) n (then_sends s (Given ∷ past) last f fs k h)
 then_sends s _ _ f _ (sends past last g fs n k) h = sends past (Sent f ∷ last) g (fs ++ f ∷ []) n (then_sends s (Sent g ∷ past) last f fs k h)
 
+-- at first nothing has gone out
 pub sends_none : (v : Core) (acts : List Act) → SendsSome v v acts acts
 sends_none v acts = record { frames = []; acts_are = sym (append-nil acts); out = λ s past h. record { now = past; goes = stays past; stands = h } }
 
@@ -85,6 +86,7 @@ given_n1 v [] = by_turn (next_turn v)
     by_turn None = refl
     by_turn (Some d) = refl
 
+-- a frame that goes out leaves N1 as it is
 pub n1_stays : (v : Core) → (gone_on v).station.n1 ≡ v.station.n1
 n1_stays v = by_loss v.lost
   where
@@ -101,6 +103,7 @@ given_empty v [] e h = by_turn (next_turn v)
     by_turn None = ap (λ (fs : List Frame). length fs == 0) e
     by_turn (Some d) = ap (λ (fs : List Frame). length fs == 0) e
 
+-- an idle core is idle after what goes out next
 pub idle_stays : (v : Core) → CoreIsIdle v → CoreIsIdle (gone_on v)
 unfolding CoreIsIdle
 idle_stays v h = by_loss v.lost refl

@@ -57,14 +57,17 @@ waits_same x y h (r ∷ rs) = ap (λ (b : Bool). b && list_all (λ (q : Request)
 
 -- ## An act that neither opens nor comes
 
+-- where it brings no information on d, the same came there
 pub got_after : (b : Bool) (a : station.Act) (d : ℕ) (rest : List station.Act) → info_got d (a ∷ rest) ≡ info_got d rest → info_got d (since_after false b a rest) ≡ info_got d rest
 got_after true a d rest h = h
 got_after false a d rest h = refl
 
+-- where it offers none, the same was offered
 pub offered_after : (b : Bool) (a : station.Act) (d : ℕ) (rest : List station.Act) → octets_offered d a ≡ [] → joined_octets (octets_offered d) (since_after false b a rest) ≡ joined_octets (octets_offered d) rest
 offered_after true a d rest h = ap (λ (v : List ℕ). joined_octets (octets_offered d) rest ++ v) h ∙ append-nil (joined_octets (octets_offered d) rest)
 offered_after false a d rest h = refl
 
+-- so a control frame that is given on leaves the lane of d fitting
 pub lane_given : (dialect : Dialect) (d : ℕ) (seen : List station.Act) (past : List Act) (lane : Lane) → LaneFits dialect d seen past lane → LaneFits dialect d (station.Given ∷ seen) (Given ∷ past) lane
 lane_given dialect d seen past lane f = record {
   kept_is = ap kept_run (got_after (belongs Initiator d (wire past) station.Given) station.Given d (since Initiator d (wire past)) refl) ∙ f.kept_is;

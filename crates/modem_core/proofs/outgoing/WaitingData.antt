@@ -55,11 +55,13 @@ given_info d (station.Tick ∷ acts) z = append-nil (joined_octets (octets_sent 
 given_info d (station.Lost ∷ acts) z = append-nil (joined_octets (octets_sent d) acts) ∙ given_info d acts z
 given_info d (station.Given ∷ acts) z = append-nil (joined_octets (octets_sent d) acts) ∙ given_info d acts z
 
+-- so it is by the station's past and the driver's
 pub given_seen : (r : Role) (d : ℕ) (seen : List station.Act) (past : List Act) → IsSeen seen past → (d == 0) ≡ false → data_out r d seen ≡ information_out r d past
 given_seen r d seen past h z = sym (same_given r d seen) ∙ (ap (data_out r d) h ∙ given_info d (since r d (wire past)) z)
 
 -- ## What waits
 
+-- a connection is open by the driver's past just where the station has it Opened
 pub open_here : (v : Station) (d : ℕ) (seen : List station.Act) (past : List Act) → v.role ≡ Initiator → station_fits.StationFits v seen → IsSeen seen past → d < 62 → is_open Initiator d (wire past) ≡ is_opened (channel_at v d).state
 open_here v d seen past r h k l = sym (open_seen Initiator d seen past k) ∙ subst (λ (x : Role). is_open x d seen ≡ is_opened (channel_at v d).state) r (open_fits v seen d h l)
 
@@ -71,6 +73,7 @@ ring_rest dialect v d seen past lane r h k l z o f =
     let ring : offered Initiator d seen ≡ data_out Initiator d seen ++ (channel_at v d).waiting = subst (λ (x : Role). offered x d seen ≡ data_out x d seen ++ (channel_at v d).waiting) r ((h.channels_are d l).ring_is opened) in
     sym f.offered_is ∙ (ring ∙ ap (λ (w : List ℕ). w ++ (channel_at v d).waiting) (given_seen Initiator d seen past k z))
 
+-- so what waits on d by the past is what the ring holds
 pub waits_in : (dialect : Dialect) (v : Station) (d : ℕ) (seen : List station.Act) (past : List Act) (lane : Lane) → v.role ≡ Initiator → station_fits.StationFits v seen → IsSeen seen past → d < 62 → (d == 0) ≡ false
     → is_open Initiator d (wire past) ≡ true → LaneFits dialect d seen past lane → waits_on dialect Initiator d past ≡ (channel_at v d).waiting
 waits_in dialect v d seen past lane r h k l z o f =
@@ -130,6 +133,7 @@ else_same : (x y : Option ℕ) → giving.else_first x y ≡ else_by x y
 else_same (Some d) y = refl
 else_same None y = refl
 
+-- it is the turn of the same connection by the station and by the past
 pub turn_same : (dialect : Dialect) (v : Station) (seen : List station.Act) (past : List Act) (lane : ℕ → Lane) → Lanes_fit dialect v seen past lane → giving.next_turn v ≡ next_to_send dialect Initiator past
 turn_same dialect v seen past lane h =
     let last : v.last ≡ last_sender (wire past) = sym h.fits.last_is ∙ (sym (last_same seen) ∙ ap last_sender h.same) in

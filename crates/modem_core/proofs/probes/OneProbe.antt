@@ -162,6 +162,7 @@ all_few s (Lost ∷ past) l c =
     let k = lines_few s past (ended s past Lost) (later_of s past Lost) [] (end_of s past Lost 0).hand_is (here s past none (all_few s past l.1 c.1)) in
     subst (λ (owing : List Act). probes (in_hand (after (Lost ∷ past) (unsent owing ++ calls_behind s past owing Lost))) ≤ 1) (sym none) k
 
+-- after each history of whole calls one probe at most is in hand
 pub one_probe : (s : Setting) (past : List Act) → IsRun s past → probes (in_hand past) ≤ 1
 unfolding Complete
 one_probe s past r = here s past r.complete (all_few s past r.lawful r.whole)

@@ -105,6 +105,7 @@ still_none : (says : Ask → Option Answer) (o : Option Waiting) → ((octets : 
 still_none says None h = refl
 still_none says (Some w) h = ap (λ (b : Bool). if b then Some w else None) (h w.data_octets)
 
+-- a probe waits only while 0 is Opened
 pub needs_open : (s : StationSetting) (past : List Act) (w : Waiting) → probe_of s past ≡ Some w → is_opened (state_of s.role 0 past) ≡ true
 needs_open s past w e = by_opened (is_opened (state_of s.role 0 past)) refl
   where
@@ -116,6 +117,7 @@ needs_open s past w e = by_opened (is_opened (state_of s.role 0 past)) refl
 zero_is : (v : Station) (past : List Act) → v.role ≡ Initiator → StationFits v past → (channel_at v 0).state ≡ state_of Initiator 0 past
 zero_is v past r h = state_in v past 0 r h (omega arith)
 
+-- the station's probe stays just where its request is told nothing
 pub probe_then : (v st : Station) (seen : List Act) (f : Frame) (fs : List Frame) (n : Noted) (ended : Bool) → v.role ≡ Initiator → setting_of st ≡ setting_of v → StationFits v seen → StationFits st (sent_after fs (Got f ∷ seen))
     → ((w : Waiting) → v.probe ≡ Some w → probe_answer w.data_octets (message_in f) ≡ probe_noted n)
     → st.probe ≡ still (told_by (happened.Got n) ended (λ d. state_shown st false d)) v.probe

@@ -118,6 +118,7 @@ each_none P (r ∷ rs) h = (
   each_none P rs (omega (arith, h)),
 )
 
+-- so it does where one probe at most is in hand
 pub each_probe : (P : List ℕ → Type 0) (past : List Act) (rs : List Request) → probes rs ≤ 1 → ((w : Waiting) → probe_in past rs ≡ Some w → P w.data_octets) → EachProbe P rs
 each_probe P past [] h p = tt
 each_probe P past (r ∷ rs) h p = by_ask r.ask refl h p (each_probe P past rs)
@@ -151,6 +152,7 @@ left_none says (r ∷ rs) h = by_told (is_none (says r.ask)) (left_none says rs 
     by_told true k = omega (arith, h, k)
     by_told false k = k
 
+-- so the probe among those who are left is that one, where there is one at most
 pub probe_left : (says : Ask → Option Answer) (past : List Act) (rs : List Request) → probes rs ≤ 1 → probe_in past (left_by says rs) ≡ still says (probe_in past rs)
 probe_left says past [] h = refl
 probe_left says past (r ∷ rs) h = by_ask r.ask refl h (probe_left says past rs)

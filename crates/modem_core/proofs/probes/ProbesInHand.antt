@@ -165,6 +165,7 @@ one_all s (Lost ∷ past) l c u =
     let k : probes_in (in_hand (ended s past Lost)) ≤ 1 = omega (arith, a, b) in
     subst (λ (owing : List Act). OneIn (Lost ∷ past) (unsent owing ++ calls_behind s past owing Lost)) (sym none) k
 
+-- after each history of whole calls there is one at most
 pub one_probe : (s : Setting) (past : List Act) → IsRun s past → probes_in (in_hand past) ≤ 1
 unfolding Complete
 one_probe s past r = here s past r.complete (one_all s past r.lawful r.whole (few_once (taken_requests past) r.numbers))
@@ -174,10 +175,12 @@ pub first_alone : (octets : List ℕ) (r : Request) (rs : List Request) → r.as
 unfolding probes_in
 first_alone octets r rs e h = let one = ap {B = ℕ} (λ (x : Ask). if asks_probe x then 1 else 0) e in omega (arith, h, one)
 
+-- without the first request there are no more
 pub rest_few : (r : Request) (rs : List Request) (n : ℕ) → probes_in (r ∷ rs) ≤ n → probes_in rs ≤ n
 unfolding probes_in
 rest_few r rs n h = omega (arith, h)
 
+-- where there is none, the first is none
 pub no_probe : (octets : List ℕ) (r : Request) (rs : List Request) → r.ask ≡ Probe octets → probes_in (r ∷ rs) ≡ 0 → ⊥
 unfolding probes_in
 no_probe octets r rs e h = let one = ap {B = ℕ} (λ (x : Ask). if asks_probe x then 1 else 0) e in omega (arith, h, one)

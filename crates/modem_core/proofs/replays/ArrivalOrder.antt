@@ -7,6 +7,7 @@ use Rattle.mux_frame.specs.Deframing.{Deframing, Deframes, TakesIn, HandsOver}
 use Rattle.modem_history.specs.Acts.{Got}
 use Rattle.modem_core.specs.Running.{Running, Steps, StepAll, none_more, one_more, Hears}
 
+-- one frame more comes
 pub arrive_more : (fs : List Frame) (f : Frame) (a b c : Running) → StepAll fs a b → Steps (Got f) b c → StepAll (fs ++ f ∷ []) a c
 arrive_more _ f _ _ c (none_more v) h = one_more f [] v c c h (none_more c)
 arrive_more _ f _ _ c (one_more g fs old mid new first later) h = one_more g (fs ++ f ∷ []) old mid c first (arrive_more fs f mid new c later h)
@@ -17,6 +18,7 @@ arrive_both _ gs _ _ c (one_more f fs old mid new first later) h = one_more f (f
 
 -- ## Octets
 
+-- no octets come
 pub hears_none : (d : Deframing) (v : Running) → Hears [] d d v v
 hears_none d v = record {
   frames = [];
@@ -65,9 +67,11 @@ pub record HeardSo (octets left : List ℕ) (d now : Deframing) (a b : Running) 
   pub hears : Hears before d now a b
   pub idle : now.next ≡ None
 
+-- at first all are left
 pub heard_none : (octets : List ℕ) (d : Deframing) (v : Running) → d.next ≡ None → HeardSo octets octets d d v v
 heard_none octets d v idle = record { before = []; split = refl; hears = hears_none d v; idle = idle }
 
+-- some of them more are fed, and the frames that they bring come
 pub heard_more : (octets left later : List ℕ) (count : ℕ) (d now fed out : Deframing) (a b c : Running)
     → HeardSo octets left d now a b → fed.n1 ≡ now.n1 → TakesIn now (take count left) fed → later ≡ drop count left → Hears [] fed out b c → out.next ≡ None → HeardSo octets later d out a c
 heard_more octets left later count d now fed out a b c h bound fits e k idle =
@@ -82,6 +86,7 @@ heard_more octets left later count d now fed out a b c h bound fits e k idle =
       idle = idle;
     }
 
+-- once none is left all have come
 pub heard_all : (octets left : List ℕ) (d now : Deframing) (a b : Running) → HeardSo octets left d now a b → length left ≡ 0 → Hears octets d now a b
 heard_all octets [] d now a b h e = subst (λ (t : List ℕ). Hears t d now a b) (sym (h.split ∙ append-nil h.before)) h.hears
 heard_all octets (x ∷ left) d now a b h e = cc

@@ -36,6 +36,7 @@ begin_from s (p ∷ ps) past e k =
     let drained : queue (wire (with_piece past p)) ≡ [] = queue_drained s (with_piece past p) k.0.keeps.lawful (none_left s (after_call past p) p.data_frames k.0.goes_out) in
     (e, begin_from s ps (with_piece past p) drained k.1)
 
+-- in every replay no control frame waits where a piece begins
 pub begin_empty : (n1 : ℕ) (events : List Event) (acts : List Act) → EachBeginsEmpty n1 events acts
 unfolding EachBeginsEmpty
 begin_empty n1 events acts r = begin_from (replaying n1) r.pieces [] refl r.are_pieces
@@ -93,5 +94,6 @@ all_again n1 state zero queued d l = refl
 all_again n1 state (suc count) queued d l =
     one_again n1 (λ q. ticked Initiator n1 state q (d + 1) count) (flat_map (λ e. option_to_list (again Initiator e (state e))) (range_with_len (d + 1) count)) queued count d l (λ q h. all_again n1 state count q (d + 1) h) (state d)
 
+-- where none waits there is room for all that a request, a frame or a tick calls for
 pub fits_empty : (n1 : ℕ) → FitsEmpty n1
 fits_empty n1 = record { asks = asked n1; frames = framed n1; ticks = λ state. all_again n1 state 62 0 0 (omega arith) }

@@ -60,6 +60,7 @@ got_first : (fs : List Frame) → list_all is_first (map Got fs) ≡ true
 got_first [] = refl
 got_first (f ∷ fs) = got_first fs
 
+-- all that events bring are acts that a call begins with
 pub brought_first : (n1 : ℕ) (heard : List ℕ) (events : List Event) (firsts : List Act) → BegunBy n1 heard events firsts → list_all is_first firsts ≡ true
 brought_first n1 _ _ _ (ends heard) = refl
 brought_first n1 _ _ _ (asks heard q events firsts b) = brought_first n1 heard events firsts b
@@ -68,6 +69,7 @@ brought_first n1 _ _ _ (loses heard events firsts b) = brought_first n1 heard ev
 brought_first n1 _ _ _ (hears heard x fs gs rest last events firsts h k b) =
     list_all-append is_first (map Got gs) firsts ∙ and_from (list_all is_first (map Got gs)) (list_all is_first firsts) (got_first gs) (brought_first n1 (heard ++ x) events firsts b)
 
+-- those among the acts of a replay are what its events bring
 pub brought : (n1 : ℕ) (events : List Event) (acts : List Act) → Replays n1 events acts → Brought n1 events acts
 unfolding Brought
 brought n1 events acts r =
@@ -98,6 +100,7 @@ ended n1 _ _ _ (hears heard x fs gs rest last more firsts h k b) e = cc
 ended n1 _ _ _ (ticks heard more firsts b) e = cc
 ended n1 _ _ _ (loses heard more firsts b) e = cc
 
+-- in no replay the line is lost without an event
 pub no_loss : NoReplay two_requests lost_by_itself
 unfolding Brought
 no_loss r =
@@ -107,6 +110,7 @@ no_loss r =
     let second = two.first_is in
     cc
 
+-- in none a frame is got that no octets bring
 pub no_invention : NoReplay one_request frame_invented
 unfolding Brought
 no_invention r =
@@ -115,6 +119,7 @@ no_invention r =
     let first = one.first_is in
     cc
 
+-- in none a request among the events is left out
 pub no_request_dropped : NoReplay two_requests request_dropped
 unfolding Brought
 no_request_dropped r =

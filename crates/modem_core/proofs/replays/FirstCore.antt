@@ -46,12 +46,15 @@ starts_by rules n1 kinds d v e same = subst (λ (x : Core). Drained (record { ro
   none_left = refl;
 })
 
+-- at a standard modem, as in a replay
 pub starts : (n1 : ℕ) (v : Core) → v ≡ new_core n1 standard_kinds → Drained (replaying n1) v []
 starts n1 v e = starts_by no_rules n1 standard_kinds standard v e (sym no_rules_standard)
 
+-- no control frame waits in a new core
 pub idle_by : (rules : Rules) (n1 : ℕ) (kinds : List UrcKind) (v : Core) → v ≡ core_by rules n1 kinds → CoreIsIdle v
 unfolding CoreIsIdle
 idle_by rules n1 kinds v e = subst (λ (x : Core). (x.lost || (length x.station.queue == 0)) ≡ true) (sym e) refl
 
+-- nor in one for a standard modem
 pub idle_at_first : (n1 : ℕ) (v : Core) → v ≡ new_core n1 standard_kinds → CoreIsIdle v
 idle_at_first n1 v e = idle_by no_rules n1 standard_kinds v e

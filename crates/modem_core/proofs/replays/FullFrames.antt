@@ -170,6 +170,7 @@ pieces_are_full s (p ∷ ps) past h k =
     (and_from (is_full s.n1 p.first) (list_all (is_full s.n1) (p.more ++ map Sent p.data_frames)) (first_full s.n1 p.first parts.0) more)
     (pieces_are_full s ps (with_piece past p) parts.1 k.1)
 
+-- so it is in every replay
 pub full : (n1 : ℕ) (events : List Event) (acts : List Act) → Replays n1 events acts → AreFull n1 acts
 full n1 events acts r =
     let all = brought_first n1 [] events (map first_of r.pieces) r.begins in
@@ -198,5 +199,6 @@ turns_are_full s (Given ∷ past) h = turns_are_full s past h.1
 
 -- ## Rows
 
+-- no replay sends a command in frames of fewer octets than N1 before its last
 pub no_halves : NoReplayOfAny half_frames
 no_halves events r = let e : false ≡ true = full 31 events half_frames r in cc

@@ -110,6 +110,7 @@ live_none : (s : Setting) (past : List Act) (fs : List Frame) → out_by s past 
 live_none s past [] h = refl
 live_none s past (f ∷ fs) h = cc
 
+-- where nothing may go out, no control frame waits
 pub queue_drained : (s : Setting) (past : List Act) → Lawful s past → next_out s past ≡ None → queue (wire past) ≡ []
 queue_drained s past l h = by_loss (is_lost past) refl
   where
@@ -127,6 +128,7 @@ found_from test a (suc n) d h = by_test (test a) (λ k. found_from test (a + 1) 
     by_test true k h = let same : a ≡ d = cc in omega (arith, same)
     by_test false k h = let x = k h in omega (arith, x)
 
+-- the connection whose turn it is was found above the last sender, or else from 1 on
 pub turn_found : (a b : Option ℕ) (d : ℕ) → else_by a b ≡ Some d → (a ≡ Some d) ⊎ (b ≡ Some d)
 turn_found (Some e) b d h = inl h
 turn_found None b d h = inr h
@@ -143,6 +145,7 @@ record NextIs (s : Setting) (past : List Act) (f : Frame) : Type 0 where
   live : is_lost past ≡ false
   out : out_by s past (queue (wire past)) ≡ Some (with_freshness true f)
 
+-- what goes out next does so while the line isn't lost: the first control frame that waits, or data
 pub next_live : (s : Setting) (past : List Act) (o : Outgoing) → next_out s past ≡ Some o → (is_lost past ≡ false) × (out_by s past (queue (wire past)) ≡ Some o)
 next_live s past o h = by_loss (is_lost past) refl h
   where
@@ -150,6 +153,7 @@ next_live s past o h = by_loss (is_lost past) refl h
     by_loss true n h = cc
     by_loss false n h = (n, h)
 
+-- the frame that goes out, or else this one
 abbrev pub frame_out : Frame → Option Outgoing → Frame
 frame_out f None = f
 frame_out f (Some o) = o.frame
@@ -166,6 +170,7 @@ control_next s past [] f h = absurd (no_control (next_to_send s.dialect s.role p
     no_control None h = cc
     no_control (Some d) h = let x : true ≡ false = ap is_fresh h in cc
 
+-- what goes out fresh is data, and no control frame waits
 pub data_next : (s : Setting) (past : List Act) (q : List Frame) (f : Frame) → out_by s past q ≡ Some (with_freshness true f) → (q ≡ []) × (is_data_frame f ≡ true)
 data_next s past (g ∷ q) f h = absurd (let x : false ≡ true = ap is_fresh h in cc)
 data_next s past [] f h = (refl, by_turn (next_to_send s.dialect s.role past) refl h)
@@ -211,6 +216,7 @@ out_so s _ _ _ q (sends past last f fs n k) none e lost =
 
 -- ## A whole piece
 
+-- a call that the core handles, and all that then goes out, are a piece
 pub steps : (a : Act) (old new : Running) (mid : Core) (acts : List Act) → is_first a ≡ true → Handles old.core mid a acts → SendsAll mid new.core (old.acts ++ acts) new.acts → Steps a old new
 unfolding Steps Handles
 steps a old new mid acts first h out s past d numbers =

@@ -28,6 +28,7 @@ use Rattle.modem_core.specs.Running.{Running, Drained, Goes, Steps, StepAll, non
 requests_more : (done : List Event) (e : Event) → requests (done ++ e ∷ []) ≡ requests done ++ requests (e ∷ [])
 requests_more done e = filter_map-append request_in done (e ∷ [])
 
+-- one event more brings its octets behind the others
 pub octets_more : (done : List Event) (e : Event) → octets (done ++ e ∷ []) ≡ octets done ++ octets (e ∷ [])
 octets_more done e = flat_map-append event_octets done (e ∷ [])
 
@@ -203,6 +204,7 @@ runs_nothing s v e d = record {
   taken_are = refl;
 }
 
+-- the replay before any event
 pub so_far_start : (s : Setting) (events : List Event) (v : Running) (d : Deframing) → v.acts ≡ [] → Drained s v.core [] → Deframes [] [] d → d.next ≡ None → d.n1 ≡ s.n1 → SoFar s events 0 v d
 so_far_start s events v d e h p idle bound = record { frames = []; deframes = p; idle = idle; bound = bound; runs = λ f. runs_nothing s v e h }
 
@@ -290,12 +292,14 @@ after_event s events k (event.Octets x) v v' d d' at so h idle =
           (run_more s now (event.Octets x ∷ []) (map Got h.frames) v v' r w (begins_octets s.n1 [] now (map first_of r.pieces) x so.frames h.frames d.undecided d'.undecided r.begins before reads) t);
     }
 
+-- after one event more
 pub so_far_step : (s : Setting) (events : List Event) (k : ℕ) (e : Event) (v v' : Running) (d d' : Deframing)
     → k < length events → e ≡ get_or events k e → SoFar s events k v d → HandlesEvent e d d' v v' → d'.next ≡ None → SoFar s events (k + 1) v' d'
 so_far_step s events k e v v' d d' h is so handles idle = after_event s events k e v v' d d' (event_at events k e h is) so handles idle
 
 -- ## The end
 
+-- after the last event its acts are a replay of them, where no caller uses a number twice
 pub so_far_end : (n1 : ℕ) (events : List Event) (v : Running) (d : Deframing) (acts : List Act)
     → take (length events) events ≡ events → v.acts ≡ acts → SoFar (replaying n1) events (length events) v d → UsesOnce (requests events) → Replays n1 events acts
 so_far_end n1 events v d acts all same so f =

@@ -414,6 +414,7 @@ empty_in : (n1 : ℕ) (events : List Event) (acts : List Act) (r : Replays n1 ev
 unfolding EachBeginsEmpty
 empty_in n1 events acts r = begin_empty n1 events acts r
 
+-- in no replay is a request told Busy for want of room, and what a frame or a tick calls for always has room
 pub never_wants_room : (n1 : ℕ) (events : List Event) (acts : List Act) → NeverWantsRoom n1 events acts
 unfolding NeverWantsRoom
 never_wants_room n1 events acts r =
@@ -421,11 +422,14 @@ never_wants_room n1 events acts r =
 
 -- ## Rows
 
+-- Busy for the first request of all would be want of room
 pub busy_wanted : WantsRoom [] busy_at_first
 busy_wanted h = out (h.busy refl)
 
+-- Busy while 0 is being opened is not
 pub busy_under_way : FindsRoom 31 while_opening busy_again
 busy_under_way = record { busy = λ told. refl; fits = tt }
 
+-- a frame whose answer has no place behind a full queue would be
 pub place_wanted : WantsRoom full_queue test_comes
 place_wanted h = out h.fits

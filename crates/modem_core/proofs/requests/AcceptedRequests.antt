@@ -55,14 +55,17 @@ called_fits v w past c f l n h =
 
 -- ## What a request is told at once
 
+-- fewer than 128 requests leave room in hand
 pub few_not : (n : ℕ) → n < 128 → nat_le 128 n ≡ false
 few_not n h = grind (arith, nat_tests)
 
+-- while the line isn't lost and there is room in hand, it is told at once just what refuses it
 pub once_is : (s : Setting) (v : Core) (past : List Act) (q : Request) → Live s v past → length v.hand < 128 → at_once s (seen s past) q ≡ refused_ask s (seen s past) q.ask
 once_is s v past q l h =
     ap (λ (b : Bool). if b then Some LineLost else (if nat_le 128 (length (in_hand past)) then Some Busy else refused_ask s (seen s past) q.ask)) l.lost_is
     ∙ ap (λ (b : Bool). if b then Some Busy else refused_ask s (seen s past) q.ask) (ap (λ (rs : List Request). nat_le 128 (length rs)) l.hand_is ∙ few_not (length v.hand) h)
 
+-- what refuses it by every past it is told at once, and the core stays
 pub refused_handles : (v new : Core) (q : Request) (why : Answer) (acts : List code.Act) → v.station.role ≡ Initiator → v.lost ≡ false → length v.hand < 128 → new ≡ v
     → acts ≡ code.TheVariants.Took q ∷ told_act q why ∷ [] → ((s : Setting) (past : List Act) → Live s v past → refused_ask s (seen s past) q.ask ≡ Some why) → Handles v new (Took q) (map act_of acts)
 unfolding Handles
@@ -113,9 +116,11 @@ state_then s past q fs d h =
     now_is s past (Took q ∷ map Sent (frames_in s past (Took q))) d
     ∙ (ap (λ (gs : List Frame). state_of s.role d (wire (after (Took q ∷ past) (map Sent gs)))) h ∙ ap (state_of s.role d) (wire_sent fs (Took q ∷ past)))
 
+-- each connection has the same state with the station's calls and without them
 pub plain_state : (r : Role) (d : ℕ) (x : List station.Act) → state_of r d (without_calls x) ≡ state_of r d x
 plain_state r d x = ap (λ (s : States). s.own) (same_states r d x)
 
+-- then the core goes on, with the request in hand behind those that are told nothing
 pub accept_on : (s : Setting) (v : Core) (past : List Act) (q : Request) (w : Station) (e : Bool) → Live s v past → MayCome s v past (Took q) → Accepts s v past q w e → v.lost ≡ false
     → GoesOn s (record v { station = w; hand = left_by (told_by happened.Took e (state_shown w false)) v.hand ++ q ∷ [] }) past (Took q)
     (Took q ∷ (map Sent (asking s.role q.ask) ++ map act_of (told_to (told_by happened.Took e (state_shown w false)) v.hand)))
@@ -167,6 +172,7 @@ pub record Becomes (v new : Core) (q : Request) (w : Station) (e : Bool) (acts :
   pub new_is : new ≡ record v { station = w; hand = left_by (told_by happened.Took e (state_shown w false)) v.hand ++ q ∷ [] }
   pub acts_are : map act_of acts ≡ Took q ∷ (map Sent (asking Initiator q.ask) ++ map act_of (told_to (told_by happened.Took e (state_shown w false)) v.hand))
 
+-- and handles it, by the acts that the code comes to
 pub accepted_handles : (v new : Core) (q : Request) (w : Station) (e : Bool) (acts : List code.Act) → v.station.role ≡ Initiator → v.lost ≡ false
     → ((s : Setting) (past : List Act) → Live s v past → MayCome s v past (Took q) → Accepts s v past q w e)
     → ((s : Setting) (past : List Act) → Live s v past → MayCome s v past (Took q) → Becomes v new q w e acts) → Handles v new (Took q) (map act_of acts)
@@ -183,6 +189,7 @@ accepted_handles v new q w e acts role lost accepts becomes s past m =
 
 -- ## Asks other than commands
 
+-- what isn't a command on the connection isn't accepted there
 pub unaccepted_by : {X : Type 0} → (io on room : Bool) (acc more : X) → on ≡ false → (if io && (on && room) then more else acc) ≡ acc
 unaccepted_by true true room acc more h = cc
 unaccepted_by false true room acc more h = cc
@@ -215,6 +222,7 @@ pub pushed_on : (start pushed : ActList) (begun items : List code.Act) (a b : co
 pushed_on start pushed begun items a b n m s p e i =
     i ∙ (ap (λ (v : ActList). v.acts) p ∙ (ap (λ (v : ActList). v.acts ++ a ∷ []) s ∙ ap (λ (x : code.Act). begun ++ x ∷ []) e))
 
+-- where a call succeeds, what follows from its promise of the result is so too
 pub ok_too : {X E : Type 0} (P Q : X → Type 0) (r : Result X E) → ((x : X) → P x → Q x) → IfOk r P → IfOk r Q
 ok_too P Q (Ok x) h k = h x k
 ok_too P Q (Err e) h k = k

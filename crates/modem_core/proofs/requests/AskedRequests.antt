@@ -32,6 +32,7 @@ use Rattle.modem_core.proofs.requests.ProbeRequests.{Probes, probe_accepts, prob
 use Rattle.modem_core.proofs.requests.StopRequests.{stop_refused}
 use Rattle.modem_core.proofs.requests.TakenRequests.{Live, live_of, all_left, none_told}
 
+-- an opening that the station took is handled by its SABM
 pub asked_open : (v new : Core) (w : Station) (q : Request) (d : Dlci) → v.station.role ≡ Initiator → v.lost ≡ false → length v.hand < 128 → Opens v w q d
     → new ≡ record v { station = w; hand = v.hand ++ q ∷ [] } → Handles v new (Took q) (taken_acts q None)
 unfolding Handles
@@ -48,6 +49,7 @@ asked_open v new w q d role lost few o n s past m =
     subst (λ (x : List Act). GoesOn s new past (Took q) x) (sym acts_are)
     (subst (λ (c : Core). GoesOn s c past (Took q) (Took q ∷ (map Sent (asking s.role q.ask) ++ map act_of (told_to says v.hand)))) (sym new_is) there)
 
+-- one that the station refuses is told why
 pub told_open : (v new : Core) (q : Request) (d : Dlci) (why : StationError) → v.station.role ≡ Initiator → v.lost ≡ false → length v.hand < 128 → q.ask ≡ OpenChannel d
     → refused (setting_of v.station) (seen_in v.station) (station.Open d.number) ≡ Some why → new ≡ v → Handles v new (Took q) (taken_acts q (Some (refusal_answer why)))
 told_open v new q d why role lost few asks h n =
@@ -71,6 +73,7 @@ asked_on v new w q e role lost accepts n s past m =
     subst (λ (x : List Act). GoesOn s new past (Took q) x) (sym acts_are)
     (subst (λ (c : Core). GoesOn s c past (Took q) (Took q ∷ (map Sent (asking s.role q.ask) ++ map act_of (told_to says v.hand)))) (sym n) there)
 
+-- a probe that the station took is handled by its Test command
 pub asked_probe : (v new : Core) (w : Station) (q : Request) (octets : List ℕ) → v.station.role ≡ Initiator → v.lost ≡ false → length v.hand < 128 → Probes v w q octets
     → new ≡ record v { station = w; hand = v.hand ++ q ∷ [] } → Handles v new (Took q) (taken_acts q None)
 unfolding Handles
@@ -87,16 +90,19 @@ asked_probe v new w q octets role lost few o n s past m =
     subst (λ (x : List Act). GoesOn s new past (Took q) x) (sym acts_are)
     (subst (λ (c : Core). GoesOn s c past (Took q) (Took q ∷ (map Sent (asking s.role q.ask) ++ map act_of (told_to says v.hand)))) (sym new_is) there)
 
+-- one that it refuses, of 16 octets at most, is told why
 pub told_probe : (v new : Core) (q : Request) (octets : List ℕ) (why : StationError) → v.station.role ≡ Initiator → v.lost ≡ false → length v.hand < 128 → q.ask ≡ Probe octets → length octets ≤ 16
     → refused (setting_of v.station) (seen_in v.station) (station.Probe octets) ≡ Some why → new ≡ v → Handles v new (Took q) (taken_acts q (Some (refusal_answer why)))
 told_probe v new q octets why role lost few asks short h n =
     probe_refused v new q octets why (code.TheVariants.Took q ∷ told_act q (refusal_answer why) ∷ []) role lost few asks short h n refl
 
+-- so is a closing that it refuses
 pub told_close : (v new : Core) (q : Request) (d : Dlci) (why : StationError) → v.station.role ≡ Initiator → v.lost ≡ false → length v.hand < 128 → q.ask ≡ CloseChannel d
     → refused (setting_of v.station) (seen_in v.station) (station.Close d.number) ≡ Some why → new ≡ v → Handles v new (Took q) (taken_acts q (Some (refusal_answer why)))
 told_close v new q d why role lost few asks h n =
     close_refused v new q d why (code.TheVariants.Took q ∷ told_act q (refusal_answer why) ∷ []) role lost few asks h n refl
 
+-- and a stop
 pub told_stop_once : (v new : Core) (q : Request) (why : StationError) → v.station.role ≡ Initiator → v.lost ≡ false → length v.hand < 128 → q.ask ≡ Stop
     → refused (setting_of v.station) (seen_in v.station) station.Stop ≡ Some why → new ≡ v → Handles v new (Took q) (taken_acts q (Some (refusal_answer why)))
 told_stop_once v new q why role lost few asks h n =
@@ -119,6 +125,7 @@ none_asked [] [] = refl
 none_asked [] (o ∷ os) = none_asked [] os
 none_asked (f ∷ fs) os = none_asked fs os
 
+-- a request that was taken on, and left the lanes as they were, is taken
 pub takes_on : (old new : Core) (was now : List Outcome) (q : Request) → new.lanes ≡ old.lanes → AsksOn old new was now q → Takes old new was now q
 takes_on old new was now q lanes a = record {
   acts = taken_acts q None ++ map Told a.told;
@@ -128,6 +135,7 @@ takes_on old new was now q lanes a = record {
   unheard = none_asked (asking Initiator q.ask) a.told;
 }
 
+-- so is one that is told at once, once its outcome waits
 pub takes_once : (old new : Core) (was mid now : List Outcome) (q : Request) (why : Answer) → new.lanes ≡ old.lanes → Handles old new (Took q) (taken_acts q (Some why)) → mid ≡ was
     → (o : Outcome) → o ≡ record { caller = q.caller; number = q.number; answer = why } → (length mid < 128 → now ≡ mid ++ o ∷ []) → Takes old new was now q
 takes_once old new was mid now q why lanes h same o is put = record {

@@ -54,6 +54,7 @@ same_told false false false room = refl
 same_told false false true true = refl
 same_told false false true false = refl
 
+-- what the past tells a closing at once is what the station refuses it for
 pub close_told : (s : Setting) (v : Core) (past : List Act) (d : Dlci) → Live s v past → refused_ask s (seen s past) (CloseChannel d) ≡ option_map refusal_answer (refused (setting_of v.station) (seen_in v.station) (station.Close d.number))
 unfolding told_close refused_close
 close_told s v past d l =
@@ -84,6 +85,7 @@ free_of : (v : Station) (d : ℕ) → refused (setting_of v) (seen_in v) (statio
 unfolding refused_close
 free_of v d h = free_by (d == 0) (is_shut (channel_at v d).state) (is_opened (channel_at v d).state) (has_room v.n1 (octets_of v.queue) (written v.role Disc d [])) h
 
+-- one state alone is opened
 pub opened_is : (s : State) → is_opened s ≡ true → s ≡ IsOpened
 opened_is IsOpened h = refl
 opened_is IsShut h = cc
@@ -121,10 +123,12 @@ running_by v past n f b z o = by_zero (is_opened (channel_at v 0).state) refl
     by_zero true e = e
     by_zero false e = absurd (let x : true ≡ false = sym o ∙ ap is_opened (f.others_shut e n b z) in cc)
 
+-- nothing is so and isn't
 pub and_not : (b : Bool) → (b && not b) ≡ false
 and_not true = refl
 and_not false = refl
 
+-- a closing that the station took is accepted, and 0 stays as it was
 pub close_accepts : (v : Core) (w : Station) (q : Request) (d : Dlci) → length v.hand < 128 → Closes v w q d → (s : Setting) (past : List Act) → Live s v past → MayCome s v past (Took q) → Accepts s v past q w false
 close_accepts v w q d few o s past l m =
     let n = d.number in
@@ -161,6 +165,7 @@ close_accepts v w q d few o s past l m =
 
 -- ## It is refused
 
+-- one that the station refuses is handled by telling it why
 pub close_refused : (v new : Core) (q : Request) (d : Dlci) (why : StationError) (acts : List code.Act) → v.station.role ≡ Initiator → v.lost ≡ false → length v.hand < 128 → q.ask ≡ CloseChannel d
     → refused (setting_of v.station) (seen_in v.station) (station.Close d.number) ≡ Some why → new ≡ v → acts ≡ code.TheVariants.Took q ∷ told_act q (refusal_answer why) ∷ [] → Handles v new (Took q) (map act_of acts)
 close_refused v new q d why acts role lost few asks h n k =

@@ -65,6 +65,7 @@ no_refusal true true true h = cc
 no_refusal true false c h = cc
 no_refusal false b c h = cc
 
+-- a command line has 256 octets at most
 pub short_line : (text : List ℕ) → refusal_of text ≡ None → length text ≤ 256
 short_line text h = not_long (length text) (no_refusal (has_at text) (list_all is_printable text) (nat_lt 256 (length text)) h)
 
@@ -94,6 +95,7 @@ pub both_setting : {A : Type 0} (old mid new : Station) (c e : station.Call) (r 
     → OnOk t (station_fits.StationHandles mid new (Called e)) → OnErr t (new ≡ mid) → setting_of new ≡ setting_of old
 both_setting old mid new c e r t h k hh kk = offer_setting mid new e t hh kk ∙ offer_setting old mid c r h k
 
+-- the station that was offered the text and then CR has taken both, where it refused neither
 pub line_taken : {A : Type 0} (old mid new : Station) (d : ℕ) (text : List ℕ) (r t : Result A StationError)
     → result_err r ≡ offer_refused old d text → OnOk r (station_fits.StationHandles old mid (Called (Offer d text)))
     → result_err t ≡ offer_refused mid d (13 ∷ []) → OnOk t (station_fits.StationHandles mid new (Called (Offer d (13 ∷ [])))) → TakesLine old new d text
@@ -125,6 +127,7 @@ given_called r d c x h = ap (joined_octets (octets_sent d)) (since_goes_on r d x
 
 -- ## Who is in hand
 
+-- where no request is a command on d, there are no commands for d
 pub any_none : (d : ℕ) (rs : List Request) → list_any (commands_on d) rs ≡ false → commands_for d rs ≡ []
 any_none d [] h = refl
 any_none d (r ∷ rs) h = by_test (command_on d r.ask) h (any_none d rs)
@@ -133,6 +136,7 @@ any_none d (r ∷ rs) h = by_test (command_on d r.ask) h (any_none d rs)
     by_test true k more = cc
     by_test false k more = more k
 
+-- and where one is, there are some
 pub any_some : (d : ℕ) (rs : List Request) → list_any (commands_on d) rs ≡ true → 0 < length (commands_for d rs)
 any_some d [] h = cc
 any_some d (r ∷ rs) h = by_test (command_on d r.ask) h (any_some d rs)
@@ -354,6 +358,7 @@ command_reaches s v past q d w l m few o = by_any (list_any (commands_on d.numbe
         let free = free_by (d.number == 0) (is_opened (channel_at v.station d.number).state) o.taken_on in
         enters_reaches s v past q d w l m few o.asks free.not_zero free.was_opened o.short k e
 
+-- what the past tells a command at once is what it is told by the state of its connection
 pub command_told : (s : Setting) (v : Core) (past : List Act) (d : Dlci) (line : List ℕ) → Live s v past → refused_ask s (seen s past) (Command d line) ≡ refused_command v.station d.number
 command_told s v past d line l = ap (λ (x : State). if d.number == 0 then Some ControlChannel else if not (is_opened x) then Some NotOpen else None) (l.states_are d.number d.in_range)
 
@@ -382,6 +387,7 @@ command_accepts v w q d few o s past l m =
       offered_are = λ e b z h. r.offered_are e b z (ap (λ (gs : List Frame). is_open Initiator e (sent_after gs (wire past))) (sym none) ∙ h);
     }
 
+-- a command that is accepted goes into hand, and no frame is sent for it
 pub command_handles : (v new : Core) (w : Station) (q : Request) (d : Dlci) (acts : List code.Act) → v.station.role ≡ Initiator → v.lost ≡ false → length v.hand < 128 → Commands v w q d
     → new ≡ record v { station = w; hand = v.hand ++ q ∷ [] } → acts ≡ code.TheVariants.Took q ∷ [] → Handles v new (Took q) (map act_of acts)
 command_handles v new w q d acts role lost few o n h =
@@ -398,6 +404,7 @@ command_handles v new w q d acts role lost few o n h =
 
 -- ## It is refused
 
+-- one that isn't is handled by telling it why
 pub command_refused : (v new : Core) (q : Request) (d : Dlci) (why : Answer) (acts : List code.Act) → v.station.role ≡ Initiator → v.lost ≡ false → length v.hand < 128 → q.ask ≡ Command d (line_of q)
     → refused_command v.station d.number ≡ Some why → new ≡ v → acts ≡ code.TheVariants.Took q ∷ told_act q why ∷ [] → Handles v new (Took q) (map act_of acts)
 command_refused v new q d why acts role lost few asks h n k =

@@ -65,6 +65,7 @@ pub record Says (v : HistoryView) (now : ℕ → State) (a : Act) (h : Happened)
   pub cause_is : (why : Answer) → cause v now a why ≡ why_shut h (has_ended v now) why
   pub stop_is : stop_ended a ≡ telling.stop_outcome h
 
+-- where the words for what happened fit, and the probe is told so too, a request is told what the history calls for
 pub later_is : (v : HistoryView) (now : ℕ → State) (a : Act) (h : Happened) (shown : ℕ → ChannelState) → Says v now a h → ((d : ℕ) → d < 62 → as_shown (now d) ≡ shown d)
     → (r : Request) (ask : Ask) → ((octets : List ℕ) → probe_later r octets v a ≡ probe_happened h) → later v now a r ask ≡ told_by h (has_ended v now) shown ask
 later_is v now a h shown s e r (OpenChannel d) p =
@@ -111,6 +112,7 @@ abbrev pub AllSay : HistoryView → (ℕ → State) → Act → (Ask → Option 
 AllSay v now a says [] = Unit {0}
 AllSay v now a says (r ∷ rs) = (later v now a r r.ask ≡ says r.ask) × AllSay v now a says rs
 
+-- so what the history calls for are the outcomes that they are told
 pub tolds_are : (v : HistoryView) (now : ℕ → State) (a : Act) (says : Ask → Option Answer) (rs : List Request) → AllSay v now a says rs → filter_map (told_later v now a) rs ≡ map act_of (told_to says rs)
 tolds_are v now a says [] h = refl
 tolds_are v now a says (r ∷ rs) h =

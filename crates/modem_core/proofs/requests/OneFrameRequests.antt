@@ -40,6 +40,7 @@ pub record Asks (v : Core) (w : Station) (q : Request) (c : station.Call) (f : R
 abbrev pub seen_then : (s : Setting) (v : Core) (past : List Act) → Live s v past → station.Call → (Role → Frame) → List station.Act
 seen_then s v past l c f = station.Sent (f v.station.role) ∷ station.Called c ∷ l.runs.seen
 
+-- which the station fits once it took the call
 pub asked_fits : (v : Core) (w : Station) (q : Request) (c : station.Call) (f : Role → Frame) (s : Setting) (past : List Act) → Asks v w q c f → (l : Live s v past) → station_fits.StationFits w (seen_then s v past l c f)
 asked_fits v w q c f s past a l =
     subst (λ (fs : List Frame). station_fits.StationFits w (sent_after fs (station.Called c ∷ l.runs.seen))) (a.call_asks v.station.role) (called_fits v.station w l.runs.seen c l.runs.fits a.in_range a.taken_on a.goes_on)
@@ -56,6 +57,7 @@ asked_same v w q c f s past a l =
     ap (λ (x : List station.Act). station.Sent (f v.station.role) ∷ x) l.runs.same
     ∙ (ap (λ (r : Role). station.Sent (f r) ∷ wire past) (sym l.same_role) ∙ ap (λ (gs : List Frame). sent_after gs (wire past)) (sym (a.asks s.role)))
 
+-- a request that nothing refuses is told nothing at once, where there is room in hand
 pub asked_once : (s : Setting) (v : Core) (past : List Act) (q : Request) → Live s v past → length v.hand < 128 → refused_ask s (seen s past) q.ask ≡ None → at_once s (seen s past) q ≡ None
 asked_once s v past q l few h = once_is s v past q l few ∙ h
 
@@ -91,6 +93,7 @@ asked_accepts v w q c f e few a s past l asked ends waits probe =
 
 -- ## Those who are left
 
+-- no more are left than there were
 pub few_left : (says : Ask → Option Answer) (rs : List Request) → length (left_by says rs) ≤ length rs
 few_left says [] = omega arith
 few_left says (r ∷ rs) = by_told (is_none (says r.ask)) (few_left says rs)

@@ -63,6 +63,7 @@ same_told false true false true true = refl
 same_told true running false true false = refl
 same_told false true false true false = refl
 
+-- what the past tells an opening at once is what the station refuses it for
 pub open_told : (s : Setting) (v : Core) (past : List Act) (d : Dlci) → Live s v past → refused_ask s (seen s past) (OpenChannel d) ≡ option_map refusal_answer (refused (setting_of v.station) (seen_in v.station) (station.Open d.number))
 unfolding told_open refused_open
 open_told s v past d l =
@@ -128,6 +129,7 @@ still_waits old now n shut same test off e b h = by_place (n == e) refl
         absurd (let x : true ≡ false = sym h ∙ none in cc)
     by_place false k = ap test (same e b k) ∙ h
 
+-- so all who wait wait on
 pub all_still : (old now : ℕ → ChannelState) (n : ℕ) → old n ≡ is.Shut → ((e : ℕ) → e < 62 → (n == e) ≡ false → now e ≡ old e) → (rs : List Request) → AllWait old rs → AllWait now rs
 all_still old now n shut same [] h = refl
 all_still old now n shut same (r ∷ rs) h =
@@ -187,6 +189,7 @@ open_waits v w q d s past o l =
     (λ e b k. ap as_shown (after_sabm v.station w n l.runs.seen l.runs.fits o.goes_on.setting (open_fits v w q d s past o l) e b
     ∙ ap (λ (x : Bool). if x then at_sent (channel_at v.station e).state Sabm else (channel_at v.station e).state) k)) v.hand l.runs.waits
 
+-- an opening that the station took is accepted, and 0 doesn't end by it
 pub open_accepts : (v : Core) (w : Station) (q : Request) (d : Dlci) → length v.hand < 128 → Opens v w q d → (s : Setting) (past : List Act) → Live s v past → MayCome s v past (Took q) → Accepts s v past q w false
 open_accepts v w q d few o s past l m =
     let n = d.number in
@@ -233,6 +236,7 @@ open_accepts v w q d few o s past l m =
 
 -- ## It is refused
 
+-- one that the station refuses is handled by telling it why
 pub open_refused : (v new : Core) (q : Request) (d : Dlci) (why : StationError) (acts : List code.Act) → v.station.role ≡ Initiator → v.lost ≡ false → length v.hand < 128 → q.ask ≡ OpenChannel d
     → refused (setting_of v.station) (seen_in v.station) (station.Open d.number) ≡ Some why → new ≡ v → acts ≡ code.TheVariants.Took q ∷ told_act q (refusal_answer why) ∷ [] → Handles v new (Took q) (map act_of acts)
 open_refused v new q d why acts role lost few asks h n k =

@@ -69,6 +69,7 @@ waits_so past (r ∷ rs) = by_ask r.ask (waits_so past rs)
     by_ask (Command d line) h = h
     by_ask Stop h = h
 
+-- what the past tells a probe of 16 octets at most at once is what the station refuses it for
 pub probe_told : (s : Setting) (v : Core) (past : List Act) (octets : List ℕ) → Live s v past → nat_le (length octets) 16 ≡ true
     → refused_ask s (seen s past) (Probe octets) ≡ option_map refusal_answer (refused (setting_of v.station) (seen_in v.station) (station.Probe octets))
 unfolding told_probe refused_probe
@@ -182,9 +183,11 @@ opened_shown (IsStopping n) = refl
 short_so : (n : ℕ) → n ≤ 16 → nat_le n 16 ≡ true
 short_so n h = grind (arith, nat_tests)
 
+-- those in hand wait on
 pub probe_wait : (v : Core) (w : Station) (q : Request) (octets : List ℕ) (s : Setting) (past : List Act) → Probes v w q octets → Live s v past → AllWait (state_shown w false) v.hand
 probe_wait v w q octets s past o l = all_same (state_shown v.station false) (state_shown w false) (λ e b. ap as_shown (probe_states v w q octets s past o l e b)) v.hand l.runs.waits
 
+-- a probe that the station took is accepted, and 0 stays as it was
 pub probe_accepts : (v : Core) (w : Station) (q : Request) (octets : List ℕ) → length v.hand < 128 → Probes v w q octets → (s : Setting) (past : List Act) → Live s v past → MayCome s v past (Took q) → Accepts s v past q w false
 probe_accepts v w q octets few o s past l m =
     let st = v.station in
@@ -216,6 +219,7 @@ probe_accepts v w q octets few o s past l m =
 
 -- ## It is refused
 
+-- one of 16 octets at most that the station refuses is handled by telling it why
 pub probe_refused : (v new : Core) (q : Request) (octets : List ℕ) (why : StationError) (acts : List code.Act) → v.station.role ≡ Initiator → v.lost ≡ false → length v.hand < 128 → q.ask ≡ Probe octets → length octets ≤ 16
     → refused (setting_of v.station) (seen_in v.station) (station.Probe octets) ≡ Some why → new ≡ v → acts ≡ code.TheVariants.Took q ∷ told_act q (refusal_answer why) ∷ [] → Handles v new (Took q) (map act_of acts)
 probe_refused v new q octets why acts role lost few asks short h n k =

@@ -20,6 +20,7 @@ pub record GoesInHand (v : Core) (ask : Ask) (d : Dlci) : Type 0 where
 not_full : (n : ℕ) → nat_le 128 n ≡ false → n < 128
 not_full n h = grind (arith, nat_tests)
 
+-- a request that is sent on is such a command
 pub goes_in_hand : (v : Core) (ask : Ask) (d : Dlci) → sends_on v ask ≡ Some d → GoesInHand v ask d
 goes_in_hand v (Command e line) d h = by_tests v.lost (nat_le 128 (length v.hand)) (refused_command v.station e.number) refl refl refl h
   where

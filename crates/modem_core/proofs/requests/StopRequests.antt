@@ -49,6 +49,7 @@ same_told false room = refl
 same_told true true = refl
 same_told true false = refl
 
+-- what the past tells a stop at once is what the station refuses it for
 pub stop_told : (s : Setting) (v : Core) (past : List Act) → Live s v past → refused_ask s (seen s past) Stop ≡ option_map refusal_answer (refused (setting_of v.station) (seen_in v.station) station.Stop)
 unfolding told_stop refused_stop
 stop_told s v past l =
@@ -92,6 +93,7 @@ stop_asks v w q o = record {
   no_command = λ e. ap (command_on e) o.asks;
 }
 
+-- a stop that the station took is accepted, and by it 0 is Opened no more
 pub stop_accepts : (v : Core) (w : Station) (q : Request) → length v.hand < 128 → Stops v w q → (s : Setting) (past : List Act) → Live s v past → MayCome s v past (Took q) → Accepts s v past q w true
 stop_accepts v w q few o s past l m =
     let st = v.station in
@@ -116,6 +118,7 @@ stop_accepts v w q few o s past l m =
 
 -- ## It is refused
 
+-- one that the station refuses is handled by telling it why
 pub stop_refused : (v new : Core) (q : Request) (why : StationError) (acts : List code.Act) → v.station.role ≡ Initiator → v.lost ≡ false → length v.hand < 128 → q.ask ≡ Stop
     → refused (setting_of v.station) (seen_in v.station) station.Stop ≡ Some why → new ≡ v → acts ≡ code.TheVariants.Took q ∷ told_act q (refusal_answer why) ∷ [] → Handles v new (Took q) (map act_of acts)
 stop_refused v new q why acts role lost few asks h n k =

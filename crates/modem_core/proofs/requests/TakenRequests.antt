@@ -62,6 +62,7 @@ pub record Live (s : Setting) (v : Core) (past : List Act) : Type 0 where
   pub lost_is : is_lost past ≡ false
   pub hand_is : in_hand past ≡ v.hand
 
+-- that is so of each past in which an act may come
 pub live_of : (s : Setting) (v : Core) (past : List Act) (a : Act) → v.station.role ≡ Initiator → v.lost ≡ false → MayCome s v past a → Live s v past
 live_of s v past a e l m =
     let r : Runs v past = subst (λ (b : Bool). RunsUnless b v past) l m.fits.runs in
@@ -84,6 +85,7 @@ distinct_with s v past q m = distinct_few (in_hand (Took q ∷ past)) (few_hand 
 
 -- ## Who may wait
 
+-- who may wait is told nothing
 pub waits_none : (now : ℕ → ChannelState) (e : Bool) (ask : Ask) → may_wait now ask ≡ true → told_by happened.Took e now ask ≡ None
 waits_none now e (OpenChannel d) h = by_state (now d.number) h
   where
@@ -126,6 +128,7 @@ waits_none now e Stop h = by_state (now 0) h
     by_state is.Closing k = cc
     by_state is.Stopping k = refl
 
+-- who is told nothing may wait
 pub none_waits : (now : ℕ → ChannelState) (e : Bool) (ask : Ask) → is_none (told_by happened.Took e now ask) ≡ true → may_wait now ask ≡ true
 none_waits now e (OpenChannel d) h = by_state (now d.number) h
   where
@@ -168,6 +171,7 @@ none_waits now e Stop h = by_state (now 0) h
     by_state is.Closing k = cc
     by_state is.Stopping k = refl
 
+-- all of these requests may wait
 abbrev pub AllWait : (ℕ → ChannelState) → List Request → Type 0
 AllWait now rs = list_all (λ (r : Request). may_wait now r.ask) rs ≡ true
 
@@ -178,6 +182,7 @@ none_told now e (r ∷ rs) h =
     let hs = and_parts (may_wait now r.ask) (list_all (λ (x : Request). may_wait now x.ask) rs) h in
     ap (λ (o : Option Answer). said_to r o ++ told_to (told_by happened.Took e now) rs) (waits_none now e r.ask hs.0) ∙ none_told now e rs hs.1
 
+-- so all of them are left
 pub all_left : (now : ℕ → ChannelState) (e : Bool) (rs : List Request) → AllWait now rs → left_by (told_by happened.Took e now) rs ≡ rs
 all_left now e [] h = refl
 all_left now e (r ∷ rs) h =
@@ -195,6 +200,7 @@ left_wait now e (r ∷ rs) = by_told (is_none (told_by happened.Took e now r.ask
     by_told true k h = and_from (may_wait now r.ask) _ (none_waits now e r.ask k) h
     by_told false k h = h
 
+-- with one more that may wait all may
 pub wait_with : (now : ℕ → ChannelState) (rs : List Request) (q : Request) → AllWait now rs → may_wait now q.ask ≡ true → AllWait now (rs ++ q ∷ [])
 wait_with now rs q h k =
     list_all-append (λ (r : Request). may_wait now r.ask) rs (q ∷ [])
@@ -221,9 +227,11 @@ none_either : (b : Bool) → (let none : List Frame = [] in if b then none else 
 none_either true = refl
 none_either false = refl
 
+-- a request that is told at once sends no frame
 pub once_frames : (s : Setting) (past : List Act) (q : Request) (why : Answer) → at_once s (seen s past) q ≡ Some why → frames_in s past (Took q) ≡ []
 once_frames s past q why h = ap (λ (o : Option Answer). if (seen s past).lost then [] else (if is_none o then asking s.role q.ask else [])) h ∙ none_either (seen s past).lost
 
+-- any other sends the frames that it asks for, while the line isn't lost
 pub asked_frames : (s : Setting) (past : List Act) (q : Request) → is_lost past ≡ false → at_once s (seen s past) q ≡ None → frames_in s past (Took q) ≡ asking s.role q.ask
 asked_frames s past q l h =
     ap (λ (o : Option Answer). if (seen s past).lost then [] else (if is_none o then asking s.role q.ask else [])) h
@@ -310,6 +318,7 @@ all_quiet s past q shown h (r ∷ rs) w =
     let ws = and_parts (may_wait shown r.ask) (list_all (λ (x : Request). may_wait shown x.ask) rs) w in
     (later_is v now (Took q) happened.Took shown (took_says v now q) h r r.ask (λ octets. refl) ∙ waits_none shown (has_ended v now) r.ask ws.0, all_quiet s past q shown h rs ws.1)
 
+-- by a request that is told at once no state changes
 pub once_now : (s : Setting) (past : List Act) (q : Request) (why : Answer) (d : ℕ) → at_once s (seen s past) q ≡ Some why → now_in s past (Took q) d ≡ state_of s.role d (wire past)
 once_now s past q why d h = ap (λ (fs : List Frame). states_now s (seen s past) (Took q ∷ map Sent fs) d) (once_frames s past q why h) ∙ now_is s past (Took q ∷ []) d
 

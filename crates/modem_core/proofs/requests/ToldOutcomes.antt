@@ -18,6 +18,7 @@ use Rattle.modem_core.specs.Telling.{said_to, told_to, left_by, Telling}
 use Rattle.modem_core.proofs.requests.ToldRequests.{Says, begins, waits_on, told_on, all_told}
 use Rattle.modem_core.proofs.sessions.steps.CollectedActs.{told_both}
 
+-- before the first is looked at
 pub begins_on : (says : Says) (stop : Option Asker) (hand : List Request) (told : List Outcome) → TellingOn says stop 0 hand hand told told false
 begins_on says stop hand told = record {
   acts = record { acts = []; left = length hand };
@@ -34,6 +35,7 @@ begins_on says stop hand told = record {
     append-nil [] = refl
     append-nil (x ∷ xs) = ap (λ (ys : List Outcome). x ∷ ys) (append-nil xs)
 
+-- the next is told nothing, and stays
 pub waits_further : (says : Says) (stop : Option Asker) (place : ℕ) (hand hand0 : List Request) (told told0 : List Outcome) (answered : Bool) → TellingOn says stop place hand hand0 told told0 answered → place < length hand
     → (d : Request) → says (slice_index_or hand place d).ask ≡ None → TellingOn says stop (place + 1) hand hand0 told told0 answered
 waits_further says stop place hand hand0 told told0 answered t l d none = record {
@@ -51,6 +53,7 @@ either_both p (x ∷ xs) ys = by_first (p x) (either_both p xs ys)
     by_first true h = refl
     by_first false h = h
 
+-- joined acts end the Stop where the first or the second do
 pub answered_both : (stop : Option Asker) (xs ys : List Act) → is_answered stop (xs ++ ys) ≡ (is_answered stop xs || is_answered stop ys)
 answered_both None xs ys = refl
 answered_both (Some s) xs ys = either_both (is_end_of s) xs ys
@@ -58,6 +61,7 @@ answered_both (Some s) xs ys = either_both (is_end_of s) xs ys
 outcomes_both : (xs ys : List code.Act) → outcomes_told (map act_of (xs ++ ys)) ≡ outcomes_told (map act_of xs) ++ outcomes_told (map act_of ys)
 outcomes_both xs ys = ap outcomes_told (map-append act_of xs ys) ∙ told_both (map act_of xs) (map act_of ys)
 
+-- the next is told this, and its outcome is put behind the others
 pub told_further : (says : Says) (stop : Option Asker) (place : ℕ) (hand hand0 : List Request) (told told0 : List Outcome) (answered : Bool) → TellingOn says stop place hand hand0 told told0 answered → place < length hand
     → (q r : Request) (answer : Answer) (left : List Request) (now : List Outcome) (also : Bool) → q ≡ slice_index_or hand place q → says q.ask ≡ Some answer → r ≡ slice_index_or hand place r → left ≡ remove hand place
     → (o : Outcome) → o ≡ record { caller = r.caller; number = r.number; answer = answer }
@@ -93,6 +97,7 @@ pub record AllToldOn (says : Says) (stop : Option Asker) (hand hand0 : List Requ
   pub adds : Adds told0 told (outcomes_to says hand0)
   pub answered_is : answered ≡ is_answered stop (map act_of (told_to says hand0))
 
+-- behind the last all were told
 pub all_told_on : (says : Says) (stop : Option Asker) (place : ℕ) (hand hand0 : List Request) (told told0 : List Outcome) (answered : Bool) → TellingOn says stop place hand hand0 told told0 answered → length hand ≤ place
     → AllToldOn says stop hand hand0 told told0 answered
 all_told_on says stop place hand hand0 told told0 answered t l =

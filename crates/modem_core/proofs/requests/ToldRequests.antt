@@ -9,9 +9,11 @@ use Rattle.modem_history.specs.declared.act.Act.TheVariants as act
 use Rattle.modem_core.specs.ActLists.{ActList}
 use Rattle.modem_core.specs.Telling.{said_to, told_to, left_by, Telling}
 
+-- what a request is told, by what it asks, if anything
 abbrev pub Says : Type 0
 Says = Ask → Option Answer
 
+-- before the first is looked at, with room for an act for each
 pub begins : (says : Says) (hand : List Request) (acts : ActList) → length hand ≤ acts.left → Telling says 0 hand hand acts acts
 begins says hand acts h = record { front = []; back = hand; split = refl; place_is = refl; left_same = refl; acts_same = refl; room = h }
 
@@ -26,6 +28,7 @@ pub record There (says : Says) (place : ℕ) (hand hand0 : List Request) (acts a
   pub acts_same : acts.acts ++ told_to says (request ∷ back) ≡ acts0.acts ++ told_to says hand0
   pub room : suc (length back) ≤ acts.left
 
+-- while the place isn't behind the last, a request stands there
 pub there : (says : Says) (place : ℕ) (hand hand0 : List Request) (acts acts0 : ActList) → Telling says place hand hand0 acts acts0 → place < length hand → There says place hand hand0 acts acts0
 there says place hand hand0 acts acts0 t l = by_back t.back refl
   where
@@ -42,14 +45,17 @@ there says place hand hand0 acts acts0 t l = by_back t.back refl
       room = subst (λ (v : List Request). length v ≤ acts.left) e t.room;
     }
 
+-- behind the first part stands the request that follows it
 pub at_length : (xs ys : List Request) (r d : Request) → slice_index_or (xs ++ r ∷ ys) (length xs) d ≡ r
 at_length [] ys r d = refl
 at_length (x ∷ xs) ys r d = at_length xs ys r d
 
+-- without it both parts are joined
 pub removed : (xs ys : List Request) (r : Request) → remove (xs ++ r ∷ ys) (length xs) ≡ xs ++ ys
 removed [] ys r = refl
 removed (x ∷ xs) ys r = ap (λ (v : List Request). x ∷ v) (removed xs ys r)
 
+-- it is the one that is read at the place
 pub is_there : (says : Says) (place : ℕ) (hand hand0 : List Request) (acts acts0 : ActList) (t : There says place hand hand0 acts acts0) (d : Request) → slice_index_or hand place d ≡ t.request
 is_there says place hand hand0 acts acts0 t d =
     ap (λ (v : List Request). slice_index_or v place d) t.split ∙ (ap (λ (n : ℕ). slice_index_or (t.front ++ t.request ∷ t.back) n d) t.place_is ∙ at_length t.front t.back t.request d)
@@ -101,6 +107,7 @@ pub record AllTold (says : Says) (hand hand0 : List Request) (acts acts0 : ActLi
   pub left_is : hand ≡ left_by says hand0
   pub acts_are : acts.acts ≡ acts0.acts ++ told_to says hand0
 
+-- behind the last all were told
 pub all_told : (says : Says) (place : ℕ) (hand hand0 : List Request) (acts acts0 : ActList) → Telling says place hand hand0 acts acts0 → length hand ≤ place → AllTold says hand hand0 acts acts0
 all_told says place hand hand0 acts acts0 t l = by_back t.back refl
   where

@@ -54,6 +54,7 @@ untold_waits h ended now (Command d line) e = command_waits (now d.number) _ e
 untold_waits h ended now (Probe octets) e = probe_waits (now 0) h _ e
 untold_waits h ended now Stop e = stop_waits (now 0) h e
 
+-- so all who are left may wait
 pub left_waits : (h : Happened) (ended : Bool) (now : ℕ → ChannelState) (rs : List Request) → list_all (λ (r : Request). may_wait now r.ask) (left_by (told_by h ended now) rs) ≡ true
 left_waits h ended now [] = refl
 left_waits h ended now (r ∷ rs) = by_told (is_none (told_by h ended now r.ask)) refl (left_waits h ended now rs)

@@ -60,6 +60,7 @@ use Rattle.modem_core.proofs.ticks.TickFrames.{tick_frames, frames_so, queue_sen
 
 -- ## Those who are told nothing may wait
 
+-- whatever happened, who is told nothing may wait
 pub none_waits_on : (h : Happened) (now : ℕ → ChannelState) (e : Bool) (ask : Ask) → is_none (told_by h e now ask) ≡ true → may_wait now ask ≡ true
 none_waits_on h now e (OpenChannel d) k = by_state (now d.number) k
   where
@@ -102,6 +103,7 @@ none_waits_on h now e Stop k = by_state (now 0) k
     by_state is.Closing k = cc
     by_state is.Stopping k = refl
 
+-- so all who are left may wait
 pub left_wait_on : (h : Happened) (now : ℕ → ChannelState) (e : Bool) (rs : List Request) → AllWait now (left_by (told_by h e now) rs)
 left_wait_on h now e [] = refl
 left_wait_on h now e (r ∷ rs) = by_told (is_none (told_by h e now r.ask)) refl (left_wait_on h now e rs)
@@ -408,6 +410,7 @@ none_either : (b : Bool) (fs : List Frame) → b ≡ true → (if b then [] else
 none_either true fs h = refl
 none_either false fs h = cc
 
+-- after a loss of the line a tick calls for nothing, and changes nothing
 pub tick_lost : (v new : Core) (acts : List code.Act) → v.lost ≡ true → new ≡ v → acts ≡ code.TheVariants.Tick ∷ [] → Handles v new Tick (map act_of acts)
 unfolding Handles
 tick_lost v new acts lost n h s past m =

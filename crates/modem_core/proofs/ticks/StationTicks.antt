@@ -23,13 +23,16 @@ asking_step : (v : Station) (d count : ℕ) → asking_from v d (suc count) ≡ 
 unfolding asking_from
 asking_step v d count = refl
 
+-- those from d on are d, where it waits for an answer, and those behind it
 pub asking_next : (v : Station) (d : ℕ) → d < 62 → asking_from v d (62 - d) ≡ (if is_asking (channel_at v d).state then 1 else 0) + asking_from v (d + 1) (62 - (d + 1))
 asking_next v d h = let e : 62 - d ≡ suc (62 - (d + 1)) = omega (arith, h) in ap (asking_from v d) e ∙ asking_step v d (62 - (d + 1))
 
+-- behind the last there are none
 pub asking_end : (v : Station) (d : ℕ) → 62 ≤ d → asking_from v d (62 - d) ≡ 0
 unfolding asking_from
 asking_end v d h = let e : 62 - d ≡ 0 = omega (arith, h) in ap (asking_from v d) e
 
+-- a state is shown as waiting for an answer just where it is
 pub asking_shown : (s : State) → shown_asking (as_shown s) ≡ is_asking s
 asking_shown IsShut = refl
 asking_shown (IsOpening n) = refl
@@ -46,6 +49,7 @@ counted v d count new c b l h e k n =
     let one : new ≡ count + (if is_asking (channel_at v d).state then 1 else 0) = n ∙ ap (λ (x : Bool). count + (if x then 1 else 0)) is in
     omega (arith, h, next, one)
 
+-- behind the last all are counted
 pub all_counted : (v : Station) (d count : ℕ) → 62 ≤ d → count + asking_from v d (62 - d) ≡ asking_from v 0 62 → count ≡ asking_from v 0 62
 all_counted v d count l h = let e = asking_end v d l in omega (arith, h, e)
 
@@ -101,6 +105,7 @@ queued_none fs place i h = by_place (nat_lt (place + i) (length fs)) refl
         let all = take_all i (drop place fs) (omega (arith, end, len)) in
         ap (map bared) (more ∙ sym all)
 
+-- where no frame is left no act is written down
 pub pushed_none : (fs : List Frame) (place i : ℕ) (old now : List code.Act) (o : Option FrameBuf) → (o ≡ None) → option_map kept_frame o ≡ option_map bared (slice_get fs (place + i))
     → map act_of now ≡ map act_of old ++ map Sent (queued_from fs place i) → map act_of now ≡ map act_of old ++ map Sent (queued_from fs place (i + 1))
 pushed_none fs place i old now o n h inv = inv ∙ ap (λ (xs : List Frame). map act_of old ++ map Sent xs) (sym (queued_none fs place i (by_place (slice_get fs (place + i)) refl)))

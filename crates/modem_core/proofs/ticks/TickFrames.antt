@@ -29,6 +29,7 @@ use Rattle.modem_core.specs.Ticked.{bared, queued_from, is_asking, asking_from, 
 pub tick_frames : Station → List Frame
 tick_frames v = by_tick v.role v.n1 (λ d. (channel_at v d).state) (octets_of v.queue)
 
+-- by the states that it has, they are what the tick calls for
 pub frames_so : (v : Station) (x : ℕ → State) → ((e : ℕ) → e < 62 → x e ≡ (channel_at v e).state) → by_tick v.role v.n1 x (octets_of v.queue) ≡ tick_frames v
 unfolding tick_frames
 frames_so v x h = ticked_same v.role v.n1 x (λ d. (channel_at v d).state) (octets_of v.queue) 0 62 (λ e k l. h e (omega (arith, l)))
@@ -65,6 +66,7 @@ few_from v q d (suc count) =
     let c = length-append here rest in
     omega (arith, a, b, c)
 
+-- one at most of each connection that waits for an answer
 pub frames_few : (v : Station) → length (tick_frames v) ≤ asking_from v 0 62
 unfolding tick_frames
 frames_few v = few_from v (octets_of v.queue) 0 62
@@ -95,6 +97,7 @@ bared_from r n1 x q d (suc count) =
     let rest = ticked r n1 x (q + octets_of here) (d + 1) count in
     map-append bared here rest ∙ (ap (λ (fs : List Frame). fs ++ map bared rest) (here_bared r n1 q d (x d)) ∙ ap (λ (fs : List Frame). here ++ fs) (bared_from r n1 x (q + octets_of here) (d + 1) count))
 
+-- none has information
 pub frames_bared : (v : Station) → map bared (tick_frames v) ≡ tick_frames v
 unfolding tick_frames
 frames_bared v = bared_from v.role v.n1 (λ e. (channel_at v e).state) (octets_of v.queue) 0 62
@@ -105,6 +108,7 @@ not_data : (b : Bool) → not b ≡ true → b ≡ false
 not_data false h = refl
 not_data true h = cc
 
+-- control frames that are sent wait behind those that waited
 pub queue_sents : (fs : List Frame) (x : List station.Act) → Controls fs → queue (sent_after fs x) ≡ queue x ++ fs
 queue_sents [] x h = sym (append-nil (queue x))
 queue_sents (f ∷ fs) x h =
@@ -205,6 +209,7 @@ pub zero_stays_on : (v : Station) (past : List station.Act) → (channel_at v 0)
 zero_stays_on v past h k =
     zero_sents v.role (tick_frames v) (station.Tick ∷ past) (frames_away v h) ∙ (state_next v.role 0 past station.Tick ∙ ap at_tick k)
 
+-- while 0 is Opened, a probe that waits has one tick more, or is given up at its fourth
 pub probe_counts : (v : Station) (s : sending.StationSetting) (past : List station.Act) → (channel_at v 0).state ≡ IsOpened → (x : Waiting) → probe_of s past ≡ Some x
     → probe_of s (sent_after (tick_frames v) (station.Tick ∷ past)) ≡ (if x.ticks == 3 then None else Some (record x { ticks = x.ticks + 1 }))
 probe_counts v s past h x e =
@@ -214,6 +219,7 @@ none_sents : (s : sending.StationSetting) (fs : List Frame) (x : List station.Ac
 none_sents s [] x h = h
 none_sents s (f ∷ fs) x h = none_sents s fs (station.Sent f ∷ x) (probe_none s x f h)
 
+-- where none waits, none does after the tick
 pub probe_still_none : (v : Station) (s : sending.StationSetting) (past : List station.Act) → probe_of s past ≡ None → probe_of s (sent_after (tick_frames v) (station.Tick ∷ past)) ≡ None
 probe_still_none v s past e = none_sents s (tick_frames v) (station.Tick ∷ past) (ap (λ (o : Option Waiting). probe_after s (zero_stays s past station.Tick) o station.Tick) e)
 
@@ -258,6 +264,7 @@ any_map : (ups : List GivenUp) → list_any is_probe_given ups ≡ list_any is_p
 any_map [] = refl
 any_map (u ∷ us) = ap (λ (b : Bool). is_probe_up (up_of u) || b) (any_map us)
 
+-- the tick gave the probe up just where it was its fourth
 pub given_so : (v : Station) (ups : List GivenUp) → map up_of ups ≡ noticed v → list_any is_probe_given ups ≡ is_given_up v.probe
 given_so v ups h =
     any_map ups ∙ (ap (list_any is_probe_up) h

@@ -70,6 +70,7 @@ new_callers_whole d first cs long new_callers = (
       (k, c.0.place, at_map place_of cs k c.0 c.1, (new_callers k c.0 c.1).1)),
 )
 
+-- and its listeners are subscribed there
 pub new_subscriptions : (d : DeskId) (ls : List ListenerView) → AreNewListeners d ls → AreSubscribed d (map subscription_of ls)
 new_subscriptions d ls new_listeners i e at = let m = map_at subscription_of ls i e at in subst (λ (q : Subscription). IsSubscribed d q) m.2 (new_listeners i m.0 m.1).0
 

@@ -12,9 +12,11 @@ use Rattle.modem_desk.specs.Ends.{EachOnce, Appends, Changes, Announces}
 use Rattle.modem_desk.specs.declared.request.Urc.{Urc}
 use Rattle.modem_desk.proofs.queue_rule.CallerPasses.{at_end}
 
+-- kinds that compare the same are equal
 pub same_kind : (a b : UrcKind) → is_same_kind a b ≡ true → a ≡ b
 same_kind a b e = same_place a b e
 
+-- a search among kinds says whether the kind is there
 pub found : (ks : List UrcKind) (k : UrcKind) (r : Bool) → IsAnyAnswer (λ y b. is_same_kind y k ≡ b) ks r → IsTrue r ↔ Contains ks k
 found ks k true h = ((λ _. (h.0, h.1, same_kind (get_or ks h.0 k) k (h.2 k))), λ _. refl)
 found ks k false h = (

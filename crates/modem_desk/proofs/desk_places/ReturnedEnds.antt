@@ -33,6 +33,7 @@ module _ {A : Type 0} where
       (λ (q : (i ≡ length xs) × (x ≡ a)). subst (λ (y : ℕ × A). P y.0 y.1) (λ k. (sym q.0 k, q.1 k)) new)
       (at_end xs x a i at)
 
+-- one caller more: what it took, and then what waited for it, is what it was told
 pub held_more : (told : List (List Outcome)) (cs : List CallerView) (ws : List (List Outcome)) (c : CallerView) (w : List Outcome) → length ws ≡ length cs
     → HeldFor told cs ws → c.got ++ w ≡ slice_index_or told c.place.number [] → HeldFor told (cs ++ c ∷ []) (ws ++ w ∷ [])
 held_more told cs ws c w long held new = each_more (λ i a. a.got ++ slice_index_or (ws ++ w ∷ []) i [] ≡ slice_index_or told a.place.number []) cs c
@@ -41,6 +42,7 @@ held_more told cs ws c w long held new = each_more (λ i a. a.got ++ slice_index
     ap (λ (l : List Outcome). a.got ++ l) (get_or_append_left ws (w ∷ []) [] i lt) ∙ held i a at)
     (ap (λ (l : List Outcome). c.got ++ l) (get_or_push ws w [] (length cs) long) ∙ new)
 
+-- one listener more: what it took, and then what waited for it, is what was announced to it
 pub heard_more : (announced : List (List Urc)) (ls : List ListenerView) (ws : List (List Urc)) (l : ListenerView) (w : List Urc) → length ws ≡ length ls
     → HeardBy announced ls ws → l.heard ++ w ≡ slice_index_or announced l.subscription.place [] → HeardBy announced (ls ++ l ∷ []) (ws ++ w ∷ [])
 heard_more announced ls ws l w long heard new = each_more (λ i a. a.heard ++ slice_index_or (ws ++ w ∷ []) i [] ≡ slice_index_or announced a.subscription.place []) ls l
@@ -49,6 +51,7 @@ heard_more announced ls ws l w long heard new = each_more (λ i a. a.heard ++ sl
     ap (λ (k : List Urc). a.heard ++ k) (get_or_append_left ws (w ∷ []) [] i lt) ∙ heard i a at)
     (ap (λ (k : List Urc). l.heard ++ k) (get_or_push ws w [] (length ls) long) ∙ new)
 
+-- when the callers at a whole desk have all left, the driver knows that of each number
 pub all_left : (d : DeskId) (n : ℕ) (cs : List CallerView) (taken : List Request) → AreWhole d n cs → AllLeft (driver n taken (map known_of cs))
 all_left d n cs taken whole k lt = let w = whole.1 k lt in (w.0, known_of w.1, at_map known_of cs w.0 w.1 w.2, w.3)
 

@@ -30,6 +30,7 @@ front_numbered first (x ∷ xs) ys h =
     ap (λ (k : ℕ). k ∷ map (λ (r : Request). r.number) xs) (first_of x.number first rest (count_from (suc first) (length (xs ++ ys))) whole)
     ∙ (ap (λ (ks : List ℕ). first ∷ ks) tail ∙ sym (from_first first (length xs)))
 
+-- the first of requests that are numbered one after the other are so too
 pub front_counted : (xs ys : List Request) → IsCounted (xs ++ ys) → IsCounted xs
 front_counted xs ys h = record { first = h.first; numbered = front_numbered h.first xs ys h.numbered }
 
@@ -38,9 +39,11 @@ pub fronts_numbered : (xs ys : List Request) → AreNumbered (xs ++ ys) → AreN
 fronts_numbered xs ys h n =
     front_counted (of_caller n xs) (of_caller n ys) (subst IsCounted (filter-append (λ r. r.caller == n) xs ys) (h n))
 
+-- where no caller has a request, all are numbered so
 pub none_numbered : AreNumbered []
 none_numbered n = record { first = 0; numbered = refl }
 
+-- a request more, with the next number, leaves them numbered so
 pub one_more : (first : ℕ) (xs : List Request) (x : Request) → IsNumbered first xs → x.number ≡ first + length xs → IsCounted (xs ++ x ∷ [])
 one_more first xs x h e =
     let grown : length (xs ++ x ∷ []) ≡ suc (length xs) = length-append xs (x ∷ []) ∙ (let s : length xs + 1 ≡ suc (length xs) = omega arith in s) in

@@ -14,10 +14,12 @@ use Rattle.modem_desk.specs.Rule.{of_caller}
 unfoldable pub with_pass : (ℕ → Option ℕ) → ℕ → Option ℕ → ℕ → Option ℕ
 with_pass pass_of n p m = cond (eqb m n) p (pass_of m)
 
+-- at n it is p
 pub with_pass-here : (pass_of : ℕ → Option ℕ) (n : ℕ) (p : Option ℕ) → with_pass pass_of n p n ≡ p
 unfolding with_pass
 with_pass-here pass_of n p = ap (λ b. cond b p (pass_of n)) (eq-eqb n n refl)
 
+-- at any other number it is as before
 pub with_pass-else : (pass_of : ℕ → Option ℕ) (n m : ℕ) (p : Option ℕ) → m ≢ n → with_pass pass_of n p m ≡ pass_of m
 unfolding with_pass
 with_pass-else pass_of n m p apart = ap (λ b. cond b p (pass_of m)) (ne_eqb m n apart)
@@ -32,9 +34,11 @@ of_one_same n x e = ap (λ b. cond b (x ∷ []) []) (eq-eqb x.caller n e)
 of_one_other : (n : ℕ) (x : Request) → n ≢ x.caller → of_caller n (x ∷ []) ≡ []
 of_one_other n x e = ap (λ b. cond b (x ∷ []) []) (ne_eqb x.caller n (λ h. e (sym h)))
 
+-- a request more of this caller is the last of its requests
 pub of_more_same : (n : ℕ) (all : List Request) (x : Request) → x.caller ≡ n → of_caller n (all ++ x ∷ []) ≡ of_caller n all ++ x ∷ []
 of_more_same n all x e = filter-append (λ r. r.caller == n) all (x ∷ []) ∙ ap (λ l. of_caller n all ++ l) (of_one_same n x e)
 
+-- another's leaves them as they are
 pub of_more_other : (n : ℕ) (all : List Request) (x : Request) → n ≢ x.caller → of_caller n (all ++ x ∷ []) ≡ of_caller n all
 of_more_other n all x e = filter-append (λ r. r.caller == n) all (x ∷ []) ∙ ap (λ l. of_caller n all ++ l) (of_one_other n x e) ∙ append-nil (of_caller n all)
 

@@ -26,6 +26,7 @@ zero_of : (j : ℕ) (u : View) → get_elem? (driver 0 [] [] ∷ []) j ≡ some 
 zero_of zero u e = refl
 zero_of (suc j) u e = absurd (some-ne-none u (sym e))
 
+-- a new queue keeps it, with a driver that knows nothing yet
 pub begins : RuleKept [] (driver 0 [] [] ∷ [])
 begins =
     let d : Shared = record { reader = 0; pass_of = λ _. None; given = 0; taken = []; known = []; all = [] } in
@@ -41,6 +42,7 @@ begins =
           (λ j u other e. absurd (other (zero_of j u e)));
     }
 
+-- a caller submits a request, with its next number
 pub submits : (n pass : ℕ) (v : View) (x : Request) → n ≡ 64 → v.submits ≡ true → x.caller ≡ v.number → IsCounted (v.submitted ++ x ∷ [])
     → Pushes RuleKept n pass v x (λ w. w ≡ caller v.number (v.submitted ++ x ∷ []) v.got (v.got_before ++ v.got ∷ []))
 submits n pass v x size may same next items views short h at =
@@ -86,6 +88,7 @@ front_below : (d : Shared) (x : Request) (items : List Request) → d.all ≡ d.
 front_below d x items whole later =
     at_least x.caller d.given (λ le. not_none d.taken items x (ap (of_caller x.caller) (sym whole) ∙ (later x.caller le).1))
 
+-- the driver takes the first request, which a caller of the desk submitted
 pub takes : (pass : ℕ) (v : View) → v.drives ≡ true → v.counted ≡ false
     → Pops RuleKept pass v (λ x w. (w ≡ driver v.given (v.taken ++ x ∷ []) v.known) × (x.caller < v.given) × AreNumbered (v.taken ++ x ∷ []))
 takes pass v may idle x items views h at =
@@ -113,6 +116,7 @@ takes pass v may idle x items views h at =
       (refl, subst (λ g. x.caller < g) (sym mine.given) below, subst AreNumbered (ap (λ l. l ++ x ∷ []) (sym mine.taken)) (fronts_numbered (d.taken ++ x ∷ []) items (subst AreNumbered (h.whole ∙ sym (append_assoc d.taken (x ∷ []) items)) h.numbered))),
     )
 
+-- at a settlement, when all callers have left, the driver takes it, and knows what waits behind it
 pub drains : (pass : ℕ) (v : View) → v.drives ≡ true → AllLeft v → Pops RuleKept pass v (DrainsOne v)
 drains pass v may gone x items views h at =
     let d = h.desk in
@@ -145,6 +149,7 @@ drains pass v may gone x items views h at =
       (items, refl, subst (λ g. x.caller < g) (sym mine.given) below, omega arith, λ c. (mine.counted c).0),
     )
 
+-- the driver learns that the requests of each caller that has left are those that it submitted
 pub ends : (pass : ℕ) (v : View) → v.drives ≡ true → Learns RuleKept pass v (IsDrained v)
 ends pass v may items views h at =
     let d = h.desk in
@@ -154,6 +159,7 @@ ends pass v may items views h at =
       (λ c. (mine.counted c).0),
     )
 
+-- the driver gives out the next number, to a caller that has submitted nothing
 pub adds_caller : (pass : ℕ) (v : View) → v.drives ≡ true → v.counted ≡ false → Forks RuleKept pass v (driver (v.given + 1) v.taken v.known) (caller v.given [] 0 [])
 adds_caller pass v may idle items views h at =
     let d = h.desk in
@@ -185,6 +191,7 @@ adds_caller pass v may idle items views h at =
           (at_end vs r u j e);
     }
 
+-- a caller gets an outcome more
 pub gets : (pass : ℕ) (v : View) → v.submits ≡ true → Forks RuleKept pass v (caller v.number v.submitted (v.got + 1) v.got_before) returned_view
 gets pass v may items views h at =
     let d = h.desk in
@@ -206,6 +213,7 @@ gets pass v may items views h at =
           (at_end vs returned_view u j e);
     }
 
+-- a caller leaves, and the driver knows what it had submitted
 pub leaves : (pass : ℕ) (v : View) (other : ℕ) (u : View) → v.drives ≡ true → v.counted ≡ false → u.submits ≡ true
     → Merges RuleKept pass v other u (driver v.given v.taken (v.known ++ known u.number u.submitted ∷ [])) returned_view
 leaves pass v other u may idle theirs items views h at two at' =

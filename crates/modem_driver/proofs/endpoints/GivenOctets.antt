@@ -17,10 +17,12 @@ use Rattle.modem_driver.specs.TurnSteps.{StandingFits, Leads, turn_state, view_o
 use Rattle.modem_driver.proofs.sessions.steps.LineOctets.{write_goes}
 use Rattle.modem_driver.proofs.sessions.meanings.WholeTurns.{leads_on, leads_still}
 
+-- the first octets that wait are given, and wait no more
 pub copies : (old : Machine) (count : ℕ) → CopiesOut old (record old { unwritten = drop count old.unwritten }) (take count old.unwritten)
 unfolding CopiesOut
 copies old count l = write_goes l (with_sent l (take count old.unwritten)) old count refl refl refl
 
+-- at first none went out
 pub gives_none : (k : Machine) → GivesOut k k []
 unfolding GivesOut Leads
 gives_none k l d = record {
@@ -37,6 +39,7 @@ one_out : (o : Option Outgoing) → list_all goes_out (acts_out o) ≡ true
 one_out None = refl
 one_out (Some o) = and_from (goes_out (act_out o)) true (act_goes_out o.frame o.fresh) refl
 
+-- the next frame goes into the output, and no octets go out by that
 pub gives_sent : (k0 k1 k2 : Machine) (xs : List ℕ) (moved : Bool) → GivesOut k0 k1 xs → MachineSends k1 k2 moved → GivesOut k0 k2 xs
 unfolding GivesOut MachineSends Leads
 gives_sent k0 k1 k2 xs moved gives sends l d =
@@ -52,6 +55,7 @@ gives_sent k0 k1 k2 xs moved gives sends l d =
           list_all-append goes_out p.acts s.acts ∙ and_from (list_all goes_out p.acts) (list_all goes_out s.acts) (p.are_out b past f) here;
     }
 
+-- octets of it go out behind the others
 pub gives_copied : (k0 k1 k2 : Machine) (xs ys : List ℕ) → GivesOut k0 k1 xs → CopiesOut k1 k2 ys → GivesOut k0 k2 (xs ++ ys)
 unfolding GivesOut CopiesOut MachineMoves Leads
 gives_copied k0 k1 k2 xs ys gives out l d =

@@ -94,6 +94,7 @@ tells_alone l d old o ps told next first a b past fit =
       numbers = fit.numbers;
     }
 
+-- the first outcome that waits is given, and waits no more
 pub gives_outcome : (old new : Machine) (next : ℕ) (o : Outcome) → old.unplaced ≡ o ∷ new.unplaced → new ≡ record old { unplaced = new.unplaced }
     → GivesOutcome (record { machine = old; next = next }) (record { machine = new; next = next }) o
 gives_outcome old new next o first stays = record {
@@ -105,6 +106,7 @@ gives_outcome old new next o first stays = record {
       (tells_alone l d old o new.unplaced e.told next first tells.told));
 }
 
+-- a call gives that one, or none where none waits
 pub polls_outcome : (r : Option Outcome) (old new : Machine) (next : ℕ) → MatchOption r ((old.unplaced ≡ []) × (new ≡ old)) (λ o. (old.unplaced ≡ o ∷ new.unplaced) × (new ≡ record old { unplaced = new.unplaced }))
     → MatchOption r ((old.unplaced ≡ []) × (state_of next new ≡ state_of next old)) (λ o. GivesOutcome (record { machine = old; next = next }) (record { machine = new; next = next }) o)
 polls_outcome None old new next h = (h.0, ap (state_of next) h.1)
@@ -181,6 +183,7 @@ announces_alone l d old u vs announced next first a b past fit =
       numbers = fit.numbers;
     }
 
+-- the first line that waits is given, and waits no more
 pub gives_line : (old new : Machine) (next : ℕ) (u : Urc) → old.unannounced ≡ u ∷ new.unannounced → new ≡ record old { unannounced = new.unannounced }
     → GivesLine (record { machine = old; next = next }) (record { machine = new; next = next }) u
 gives_line old new next u first stays = record {
@@ -192,6 +195,7 @@ gives_line old new next u first stays = record {
       (announces_alone l d old u new.unannounced e.announced next first tells.announced));
 }
 
+-- a call gives that one, or none where none waits
 pub polls_line : (r : Option Urc) (old new : Machine) (next : ℕ) → MatchOption r ((old.unannounced ≡ []) × (new ≡ old)) (λ u. (old.unannounced ≡ u ∷ new.unannounced) × (new ≡ record old { unannounced = new.unannounced }))
     → MatchOption r ((old.unannounced ≡ []) × (state_of next new ≡ state_of next old)) (λ u. GivesLine (record { machine = old; next = next }) (record { machine = new; next = next }) u)
 polls_line None old new next h = (h.0, ap (state_of next) h.1)
@@ -199,6 +203,7 @@ polls_line (Some u) old new next h = gives_line old new next u h.0 h.1
 
 -- ## What is left
 
+-- the requests in hand, and the outcomes and lines that wait
 pub leaves : (e : EndpointState) (hand : List Request) (outcomes : List Outcome) (lines : List Urc) → hand ≡ e.machine.core.hand → outcomes ≡ e.machine.unplaced → lines ≡ e.machine.unannounced
     → Leaves e hand outcomes lines
 leaves e hand outcomes lines all outcomes_are lines_are = record {

@@ -51,10 +51,12 @@ all_calls b w u (called_more _ v _ before one) =
           record { acts = g.acts ++ h.acts; fits = subst (EndpointFits b u.line u.driver u.endpoint) (sym (after_both g.acts h.acts past)) h.fits };
     }
 
+-- whatever history an endpoint fits before some calls goes on to one that it fits after them
 pub one_history : OneHistory
 unfolding OneHistory
 one_history b w v past some fit calls = (all_calls b w v calls).goes past some fit
 
+-- and one that was begun has one history of all its calls
 pub tells_all : TellsAll
 unfolding TellsAll BeginsBy
 tells_all dialect n1 kinds w v same some begins calls =

@@ -38,9 +38,11 @@ begins_so rules dialect is n1 ks k next low e fits holds l d same =
       numbers = ap (list_all (is_numbered next)) (drop-length d.taken);
     }
 
+-- an endpoint whose N1 isn't refused begins, at a modem with these rules of its own
 pub begins : {T E : Type 0} (rules : Rules) (n1 : ℕ) (ks : List UrcKind) (k : Machine) (next : ℕ) (x : T) (e : E) → IsErrOf (Ok x) e ↔ ((n1 < 31) ⊎ (32767 < n1)) → k ≡ machine_by rules n1 ks → Fits k.core [] → HoldsFit k.core [] → BeginsBy (dialect_of rules) n1 ks (record { machine = k; next = next })
 begins rules n1 ks k next x y range e fits holds = begins_so rules (dialect_of rules) refl n1 ks k next (least_n1 n1 x y range) e fits holds
 
+-- or at a standard modem
 pub begins_standard : {T E : Type 0} (n1 : ℕ) (ks : List UrcKind) (k : Machine) (next : ℕ) (x : T) (e : E) → IsErrOf (Ok x) e ↔ ((n1 < 31) ⊎ (32767 < n1)) → k ≡ new_machine n1 ks → Fits k.core [] → HoldsFit k.core [] → Begins n1 ks (record { machine = k; next = next })
 begins_standard n1 ks k next x y range e fits holds = begins_so no_rules standard (sym no_rules_standard) n1 ks k next (least_n1 n1 x y range) e fits holds
 
@@ -114,6 +116,7 @@ numbered_here b l d old k n ask past fit =
 
 -- ## It is taken
 
+-- frames at hand are handled, and then a request of caller 0 with the next number is taken
 pub takes_request : (k0 k1 k2 : Machine) (n : ℕ) (ask : Ask) → HandlesFrames k0 k1 → HandLacksRoom k1 → length k1.core.hand + length k1.unplaced < 128 → MachineTakes k1 k2 (record { caller = 0; number = n; ask = ask }) → (l : LineView) (d : DriverView)
     → TakesRequest l d (record { machine = k0; next = n }) (record { machine = k2; next = n + 1 }) ask n
 unfolding LeadsOver
@@ -130,6 +133,7 @@ takes_request k0 k1 k2 n ask handles lacks room takes l d =
       may = λ some b past f waiting. (takes.adds waiting b l d e past f.stands (next_here b l d k1 n ask past room some f)).may;
     }
 
+-- so it has that number, and the next request one more
 pub numbers : (k0 k1 k2 : Machine) (n later : ℕ) (ask : Ask) → HandlesFrames k0 k1 → HandLacksRoom k1 → length k1.core.hand + length k1.unplaced < 128 → MachineTakes k1 k2 (record { caller = 0; number = n; ask = ask }) → later ≡ n + 1
     → Numbers (record { machine = k0; next = n }) (record { machine = k2; next = later }) ask n
 numbers k0 k1 k2 n later ask handles lacks room takes e = record {
@@ -138,6 +142,7 @@ numbers k0 k1 k2 n later ask handles lacks room takes e = record {
   takes = λ l d. subst (λ (m : ℕ). TakesRequest l d (record { machine = k0; next = n }) (record { machine = k2; next = m }) ask n) (sym e) (takes_request k0 k1 k2 n ask handles lacks room takes l d);
 }
 
+-- a refused request: frames at hand were handled, and nothing else
 pub refuses : (k0 k1 : Machine) (n : ℕ) → HandlesFrames k0 k1 → Refuses (record { machine = k0; next = n }) (record { machine = k1; next = n })
 refuses k0 k1 n handles = record { number = refl; handles = handled_alone k0 k1 n handles }
 
@@ -150,6 +155,7 @@ pub always_err : {A E : Type 0} (P : Type 0) (r : Result A E) → P → OnErr r 
 always_err P (Ok a) p = tt
 always_err P (Err e) p = p
 
+-- so it is where a call was refused
 pub refused_by : {A E : Type 0} (r : Result A E) (k0 k1 k2 : Machine) (n : ℕ) → HandlesFrames k0 k1 → OnErr r (k2 ≡ k1) → OnErr r (Refuses (record { machine = k0; next = n }) (record { machine = k2; next = n }))
 refused_by (Ok a) k0 k1 k2 n handles same = tt
 refused_by (Err e) k0 k1 k2 n handles same = subst (λ (k : Machine). Refuses (record { machine = k0; next = n }) (record { machine = k; next = n })) (sym same) (refuses k0 k1 n handles)

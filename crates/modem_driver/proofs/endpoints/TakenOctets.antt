@@ -19,6 +19,7 @@ use Rattle.modem_driver.proofs.sessions.meanings.WholeTurns.{leads_on, leads_sti
 
 -- ## One after the other
 
+-- what passes by some acts, and then by others, passes by both
 pub passes_both : (s0 s1 s2 : TurnState) → Passes s0 s1 → Passes s1 s2 → Passes s0 s2
 unfolding Leads
 passes_both s0 s1 s2 p q = record {
@@ -31,10 +32,12 @@ passes_both s0 s1 s2 p q = record {
 
 -- ## Frames at hand
 
+-- at first no frame was handled
 pub handles_none : (k : Machine) → HandlesFrames k k
 unfolding HandlesFrames Leads
 handles_none k l d = record { acts = []; leads = λ b past f. f; may = λ waiting b past f. refl }
 
+-- one more is handled, or stays
 pub handles_one : (k0 k1 k2 : Machine) (moved : Bool) → HandlesFrames k0 k1 → MachineGets k1 k2 moved → HandlesFrames k0 k2
 unfolding HandlesFrames MachineGets AddsAll
 handles_one k0 k1 k2 moved handles gets l d =
@@ -55,6 +58,7 @@ hand_lacks k0 k1 gets l d =
 
 -- ## Octets
 
+-- where none wait, octets that come go into the deframer
 pub feeds : (old : Machine) (fed : Deframing) (octets : List ℕ) → old.unfed ≡ [] → TakesIn old.deframer octets fed → fed.n1 ≡ old.deframer.n1 → FeedsFrom old (record old { unfed = []; deframer = fed }) octets
 unfolding FeedsFrom MachineMoves MachineGoes
 feeds old fed octets none takes bound l b d past f =
@@ -66,6 +70,7 @@ feeds old fed octets none takes bound l b d past f =
     let h = feed_goes read fed (length octets) inn bound b m d past g in
     subst (λ (xs : List ℕ). StandingFits b (turn_state m d (record old { unfed = xs; deframer = fed })) past) (drop-length octets) h
 
+-- at first none came
 pub takes_none : (k : Machine) → TakesFrom k k []
 unfolding TakesFrom Leads
 takes_none k l d = record {
@@ -74,6 +79,7 @@ takes_none k l d = record {
   may = λ waiting b past f. refl;
 }
 
+-- frames that they bring are handled
 pub takes_handled : (k0 k1 k2 : Machine) (xs : List ℕ) → TakesFrom k0 k1 xs → HandlesFrames k1 k2 → TakesFrom k0 k2 xs
 unfolding TakesFrom HandlesFrames
 takes_handled k0 k1 k2 xs takes handles l d =

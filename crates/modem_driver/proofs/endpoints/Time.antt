@@ -16,6 +16,7 @@ leads_by : (old new : Machine) (acts : List Act) → MachineGoes old new acts �
 unfolding Leads MachineGoes
 leads_by old new acts goes l d b past f = goes b l d past f
 
+-- frames at hand are handled, and then a tick passes
 pub ticks : (k0 k1 k2 : Machine) (next : ℕ) → HandlesFrames k0 k1 → HandLacksRoom k1 → MachineTicks k1 k2 → (l : LineView) (d : DriverView) → Ticks l d (record { machine = k0; next = next }) (record { machine = k2; next = next })
 ticks k0 k1 k2 next handles lacks tick l d = record {
   between = record { machine = k1; next = next };
@@ -32,6 +33,7 @@ fails : (k : Machine) (l : LineView) (d : DriverView) → Leads (turn_state l d 
 unfolding Leads MachineMoves
 fails k l d b past f = fault_goes l (with_failure l) k refl refl refl b d past f
 
+-- frames at hand are handled, a call fails, and the line is lost
 pub loses : (k0 k1 k2 : Machine) (next : ℕ) → HandlesFrames k0 k1 → HandLacksRoom k1 → MachineLoses (record k1 { faulty = true }) k2 → (l : LineView) (d : DriverView) → Loses l d (record { machine = k0; next = next }) (record { machine = k2; next = next })
 unfolding Leads
 loses k0 k1 k2 next handles lacks loss l d =

@@ -26,6 +26,7 @@ leads_over l m d k0 k1 next acts leads b past f = record { stands = leads b past
 
 -- ## Frames at hand
 
+-- some were handled, and nothing else changed
 pub handled_alone : (k0 k1 : Machine) (next : ℕ) → HandlesFrames k0 k1 → (l : LineView) (d : DriverView)
     → HandlesAlone l d (record { machine = k0; next = next }) (record { machine = k1; next = next })
 unfolding HandlesFrames
@@ -37,12 +38,14 @@ handled_alone k0 k1 next handles l d =
       may = λ b past f waiting. h.may waiting b past f.stands;
     }
 
+-- all were, but for one that lacks room
 pub handled_all : (k0 k1 : Machine) (next : ℕ) → HandlesFrames k0 k1 → HandLacksRoom k1 → (l : LineView) (d : DriverView)
     → HandlesAll l d (record { machine = k0; next = next }) (record { machine = k1; next = next })
 handled_all k0 k1 next handles lacks l d = record { alone = handled_alone k0 k1 next handles l d; lacks = lacks }
 
 -- ## Octets for the line
 
+-- octets that went out
 pub gives_octets : (k0 k1 : Machine) (next : ℕ) (octets : List ℕ) → GivesOut k0 k1 octets → (l : LineView) (d : DriverView)
     → GivesOctets l d (record { machine = k0; next = next }) (record { machine = k1; next = next }) octets
 unfolding GivesOut
@@ -54,6 +57,7 @@ gives_octets k0 k1 next octets gives l d =
       are_out = λ b past f. g.are_out b past f.stands;
     }
 
+-- nothing waits for the line
 pub holds_nothing : (k : Machine) (next : ℕ) → MachineIsDrained k → HoldsNothingBack (record { machine = k; next = next })
 unfolding MachineIsDrained HoldsNothingBack
 holds_nothing k next drained = drained

@@ -33,6 +33,7 @@ few_lines (Held d ∷ acts) = let l = few_lines acts in omega (arith, l)
 few_lines (Freed d ∷ acts) = let l = few_lines acts in omega (arith, l)
 few_lines (Given ∷ acts) = let l = few_lines acts in omega (arith, l)
 
+-- so room for the acts is room for their lines
 pub few_heard : (acts : List code.Act) (room : ℕ) → length acts ≤ room → length (lines_heard (map act_of acts)) ≤ room
 few_heard acts room enough =
     let few = few_lines (map act_of acts) in

@@ -457,6 +457,7 @@ holds_all run s i c at =
           (o.since ++ caller_outcomes n (unplaced_over run.spells)) o.own;
     }
 
+-- every settled desk has its headline
 pub desk_headline : (run : DeskRun) → IsDeskHeadline run
 unfolding IsDeskHeadline
 desk_headline run s = record {

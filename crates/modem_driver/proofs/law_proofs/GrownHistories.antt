@@ -7,6 +7,7 @@ use Rattle.modem_history.proofs.calls.StatesAfterActs.{after_both}
 use Rattle.modem_driver.specs.Grown.{HasGrown, seen_first, seen_later}
 use Rattle.modem_driver.specs.OneSession.{Adds, CallKind, HasLived, LivedGrows, SessionCall, begun, by_fault, by_tick, by_turn, fault_more, lived_on, no_turn, seen_after, seen_by_calls, turn_more}
 
+-- the session as it was seen last fits the history
 pub fits_in : {b : Beginning} {v : SessionView} {seen : List SessionView} {past : List Act} → HasGrown b (v ∷ seen) past → SessionFits b v past
 fits_in (seen_first v f) = f
 fits_in (seen_later v seen past acts before f) = f
@@ -48,6 +49,7 @@ grows b first _ _ (lived_on calls c past now lived adds) =
     let x = adds_some b (seen_after first calls) past c.now c.kind now (sights first calls b past g) adds in
     subst (HasGrown b (c.now ∷ seen_by_calls first calls)) (sym x.now_is) (seen_later c.now (seen_by_calls first calls) past x.acts g (subst (SessionFits b c.now) x.now_is x.fits))
 
+-- the history of a session's calls grew from sight to sight
 pub lived_grows : LivedGrows
 unfolding LivedGrows
 lived_grows b first calls past lived = grows b first calls past lived

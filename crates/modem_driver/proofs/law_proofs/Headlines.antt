@@ -57,6 +57,7 @@ submitted_are run s past f i c at =
     sym ((s.books.callers i c at).order)
     ∙ ap (λ (qs : List Request). of_caller n qs ++ of_caller n run.settlement.left) (driver_took run s past f)
 
+-- where each request was taken with room, so it was at every moment before
 pub room_before : (newer older : List Act) → TakesWithRoom (newer ++ older) → TakesWithRoom older
 room_before [] older h = h
 room_before (Took r ∷ newer) older h = room_before newer older h.1
@@ -70,6 +71,7 @@ room_before (Held d ∷ newer) older h = room_before newer older h
 room_before (Freed d ∷ newer) older h = room_before newer older h
 room_before (Given ∷ newer) older h = room_before newer older h
 
+-- what was taken at an earlier moment comes first
 pub taken_both : (newer older : List Act) → taken_requests (newer ++ older) ≡ taken_requests older ++ taken_requests newer
 taken_both [] older = sym (append-nil (taken_requests older))
 taken_both (Took r ∷ newer) older = ap (λ (qs : List Request). qs ++ r ∷ []) (taken_both newer older) ∙ append_assoc (taken_requests older) (taken_requests newer) (r ∷ [])
@@ -111,6 +113,7 @@ order_of n submitted earlier last b v past f whole newer older joins d =
       commands_are = ap (of_caller n) st.commands ∙ swapped own (λ (q : Request). command_on d q.ask) st.stretch;
     }
 
+-- data leaves only while its connection is open
 pub while_open : (b : Beginning) (past : List Act) → Lawful (driving b) past → NoneAfterClose past
 unfolding Lawful
 while_open b past l newer older f joins is_data =
@@ -123,14 +126,17 @@ while_open b past l newer older f joins is_data =
 
 -- ## What is answered, and what is announced
 
+-- each answer has the lines of the request's own command
 pub answers_own : (b : Beginning) (v : SessionView) (past : List Act) → SessionFits b v past → AnswersOwn b past
 unfolding TellsOwn
 answers_own b v past f = tells_own (driving b) past (laws_of f.history).lawful refl (laws_of f.history).calls (uses_once (taken_requests past) (distinct_taken b v past f))
 
+-- on each connection all lines of a listened kind that no answer holds were heard, once and in order
 pub hears_each : (b : Beginning) (v : SessionView) (past : List Act) → SessionFits b v past → HearsEach b past
 unfolding HearsAll
 hears_each b v past f = hears_all (driving b) past (laws_of f.history).lawful (laws_of f.history).complete
 
+-- a listener's subscription is at its place
 pub subscription_at : (ls : List ListenerView) (i : ℕ) (l : ListenerView) → get_elem? ls i ≡ some l → get_elem? (map subscription_of ls) i ≡ some l.subscription
 subscription_at [] i l e = absurd (some-ne-none l (sym e))
 subscription_at (x ∷ xs) zero l e = ap (λ (y : ListenerView). some y.subscription) (some-injective x l e)
@@ -161,6 +167,7 @@ outcomes_are run s e i c at =
     ap (λ (os : List Outcome). os ++ session.caller_outcomes n run.leftovers.unplaced) same
     ∙ (ap (λ (os : List Outcome). to.since ++ session.caller_outcomes n os) e.finishes.unplaced_are ∙ to.outcomes_are)
 
+-- the requests of a caller are its own
 pub of_its_own : (n : ℕ) (qs : List Request) → All (λ q. q.caller ≡ n) (of_caller n qs)
 of_its_own n [] = All-nil (λ q. q.caller ≡ n)
 of_its_own n (q ∷ qs) = by_caller (q.caller == n) refl (of_its_own n qs)
@@ -204,6 +211,7 @@ has_one_place run s e i c at r in_it =
 
 -- ## Each outcome answers a request of its caller's
 
+-- an outcome that answers one of some requests answers one of more
 pub any_more : (o : Outcome) (xs ys : List Request) → list_any (λ q. is_for q o) xs ≡ true → list_any (λ q. is_for q o) (xs ++ ys) ≡ true
 any_more o xs ys h = list_any-append (λ q. is_for q o) xs ys ∙ ap (λ (b : Bool). b || list_any (λ q. is_for q o) ys) h
 
@@ -219,6 +227,7 @@ answers_one o (q ∷ qs) h = by_tests (is_for q o) (q.caller == o.caller) refl r
     by_tests false true e k g more = ap (λ (b : Bool). b || list_any (λ x. is_for x o) (of_caller o.caller qs)) e ∙ more g
     by_tests false false e k g more = more g
 
+-- outcomes that answer requests: those of a caller answer requests of its own
 pub own_answers : (n : ℕ) (qs more : List Request) (os : List Outcome) → list_all (λ o. list_any (λ q. is_for q o) qs) os ≡ true → list_all (λ o. list_any (λ q. is_for q o) (of_caller n qs ++ more)) (session.caller_outcomes n os) ≡ true
 own_answers n qs more [] h = refl
 own_answers n qs more (o ∷ os) h =
@@ -247,6 +256,7 @@ holds_each run s e i c at =
 
 -- ## The headline
 
+-- every settled run has the headline
 pub headline : (run : Run) → IsHeadline run
 unfolding IsHeadline
 headline run s =

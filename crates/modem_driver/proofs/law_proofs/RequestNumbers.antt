@@ -52,6 +52,7 @@ above_all q first (r ∷ qs) below h =
     let other : (q.number == r.number) ≡ false = lower q.number r.number (q.number == r.number) refl (omega (arith, here)) in
     and_from (is_apart q r) (list_all (is_apart q) qs) (apart_by_number q r other) (above_all q (suc first) qs (omega arith) (tail_is first r qs h))
 
+-- requests that are numbered one after the other are distinct
 pub numbered_once : (first : ℕ) (qs : List Request) → IsNumbered first qs → are_distinct qs ≡ true
 numbered_once first [] h = refl
 numbered_once first (q ∷ qs) h =
@@ -79,6 +80,7 @@ apart_from_own q (r ∷ qs) h = by_caller (r.caller == q.caller) refl (apart_fro
     by_caller false e more =
         and_from (is_apart q r) (list_all (is_apart q) qs) (by_test (q.caller == r.caller) e refl) (more (sym (ap (list_all (is_apart q)) (passed (is_of q.caller) r qs e)) ∙ h))
 
+-- where each caller's are distinct, all are
 pub all_once : (qs : List Request) → ((c : ℕ) → are_distinct (of_caller c qs) ≡ true) → are_distinct qs ≡ true
 all_once [] h = refl
 all_once (q ∷ qs) h =

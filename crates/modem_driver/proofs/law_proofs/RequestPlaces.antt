@@ -24,6 +24,7 @@ counted_in whole (q ∷ qs) h =
     let here : 1 ≤ many q whole = let k = h q in omega (arith, own, k) in
     All-cons (λ r. 1 ≤ many r whole) q qs here (counted_in whole qs (λ r. let k = h r in omega (arith, k)))
 
+-- a request of a list is counted in it
 pub is_counted : (qs : List Request) (r : Request) → Contains qs r → 1 ≤ many r qs
 is_counted qs r at = All-contains (λ q. 1 ≤ many q qs) qs r (counted_in qs qs (λ q. omega arith)) at
 
@@ -47,6 +48,7 @@ counted_own r (q ∷ qs) = by_caller (q.caller == r.caller) refl (counted_own r 
 
 -- ## Requests that have an outcome
 
+-- the request has one of these outcomes
 abbrev pub is_told : List Outcome → Request → Bool
 is_told os r = list_any (λ o. is_for r o) os
 
@@ -92,6 +94,7 @@ answers_more : (r : Request) (x : Outcome) (xs : List Outcome) (b : Bool) → is
 answers_more r x xs true e = ap (λ (c : Bool). length (if c then x ∷ filter (λ o. is_for r o) xs else filter (λ o. is_for r o) xs)) e ∙ let k : suc (length (filter (λ o. is_for r o) xs)) ≡ 1 + length (filter (λ o. is_for r o) xs) = omega arith in k
 answers_more r x xs false e = ap (λ (c : Bool). length (if c then x ∷ filter (λ o. is_for r o) xs else filter (λ o. is_for r o) xs)) e ∙ sym (zero-add (length (filter (λ o. is_for r o) xs)))
 
+-- where it has one, one at least answers it
 pub some_answer : (r : Request) (os : List Outcome) → is_told os r ≡ true → 1 ≤ length (filter (λ o. is_for r o) os)
 some_answer r [] h = cc
 some_answer r (x ∷ xs) h = by_first (is_for r x) refl h (some_answer r xs)
@@ -100,6 +103,7 @@ some_answer r (x ∷ xs) h = by_first (is_for r x) refl h (some_answer r xs)
     by_first true e g more = let k = answers_more r x xs true e in omega (arith, k)
     by_first false e g more = let k = answers_more r x xs false e in let l = more g in omega (arith, k, l)
 
+-- where it has none, none answers it
 pub no_answer : (r : Request) (os : List Outcome) → is_told os r ≡ false → length (filter (λ o. is_for r o) os) ≡ 0
 no_answer r [] h = refl
 no_answer r (x ∷ xs) h = by_first (is_for r x) refl h (no_answer r xs)
@@ -125,6 +129,7 @@ found r o (x ∷ xs) g h = by_x (is_for x o) refl h (found r o xs g)
     by_x false e k more = let l = more k in omega (arith, l)
     by_x true e k more = let own : one (is_same r x) ≡ 1 = ap one (same_of r x o g e) in omega (arith, own)
 
+-- where it has one it was taken
 pub told_taken : (r : Request) (os : List Outcome) (qs : List Request) → list_all (λ o. list_any (λ q. is_for q o) qs) os ≡ true → is_told os r ≡ true → 1 ≤ many r qs
 told_taken r [] qs a h = cc
 told_taken r (o ∷ os) qs a h =

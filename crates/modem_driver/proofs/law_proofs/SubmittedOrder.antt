@@ -88,6 +88,7 @@ took d past q true command true o c r small k =
     and_true true = refl
     and_true false = refl
 
+-- where each request was taken with room there is such a stretch
 pub stretch_of : (d : ℕ) (past : List Act) → TakesWithRoom past → Stretch d past
 stretch_of d [] room = record { before = []; stretch = []; later = []; taken_are = refl; commands = refl; lasts = λ h. refl }
 stretch_of d (Took q ∷ past) room = took d past q (is_open Initiator d (wire past)) (command_on d q.ask) (nat_lt (length (in_hand past)) 128) refl refl refl (lt-ltb _ _ room.0) (stretch_of d past room.1)

@@ -17,9 +17,11 @@ use Rattle.modem_core.specs.Stops.{has_stopped}
 use Rattle.modem_driver.specs.EndingRows.{AreNoEndings, IsNoGoing, IsRightEnding, StaysEnded, stop_answered, ends_in, going_rows, later, ending_outcome, stopped_rows}
 use Rattle.modem_driver.proofs.sessions.polls.StopProgress.{stopped_after}
 
+-- in these a Stop has ended
 pub all_stopped : list_all ends_in stopped_rows ≡ true
 all_stopped = refl
 
+-- in these none has
 pub none_stopped : list_any ends_in going_rows ≡ false
 none_stopped = refl
 
@@ -38,10 +40,12 @@ all_placed c =
           ∙ (sym (told_is told [] os (record { zero = refl; one = refl; told_two = refl; waiting_two = refl; said_two = refl }) c) ∙ append-nil (at_place c told)));
     }
 
+-- a session has ended once all is written and told
 pub right_ending : IsRightEnding
 unfolding IsRightEnding body_of check_octet_of
 right_ending = record { before = after [] stop_answered; since = []; past_is = refl; stopped = refl; written = record { rest = []; joins = refl }; placed = all_placed }
 
+-- and after more was asked and told it still has
 pub stays_ended : StaysEnded
 unfolding StaysEnded body_of check_octet_of
 stays_ended = record { before = after [] stop_answered; since = later; past_is = refl; stopped = refl; written = record { rest = []; joins = refl }; placed = all_placed }
@@ -79,10 +83,12 @@ needs_all v h =
       subst (λ (past : List Act). Begins (caller_outcomes 0 (outcomes past)) (at_place 0 v.desk.told)) same (h.placed 0),
     )
 
+-- it has not while an octet or the Stop's outcome is missing
 pub no_endings : AreNoEndings
 unfolding AreNoEndings body_of check_octet_of
 no_endings = ((λ h. too_short _ _ (omega arith) (needs_all _ h).0), (λ h. too_short _ _ (omega arith) (needs_all _ h).1))
 
+-- where Stopped was told it is wrong that no Stop was answered
 pub no_going : IsNoGoing
 unfolding IsNoGoing
 no_going v e = cc

@@ -13,6 +13,7 @@ below_none asked idle a i = record { calls = omega arith; reads = omega arith; w
 below_one : (asked idle : ℕ) → asked < 2 ^ 64 - 1 → idle < 2 ^ 64 - 1 → AreBelow after_one asked idle
 below_one asked idle a i = record { calls = omega arith; reads = omega arith; writes = omega arith; asked = a; idle = i }
 
+-- patience was asked as it should be
 pub asks_right : AsksRight
 asks_right = record {
   none = record { each = λ below. record { calls = omega arith; reads = omega arith; writes = omega arith; asked = omega arith; each = omega arith; idle = refl } };
@@ -20,6 +21,7 @@ asks_right = record {
   answer = record { each = λ below. record { calls = omega arith; reads = omega arith; writes = omega arith; asked = omega arith; each = omega arith; idle = refl } };
 }
 
+-- it was told the wrong thing, or wasn't asked
 pub asks_wrong : AsksWrong
 asks_wrong = record {
   moved = λ h. let e = (h.each (below_none 1 0 (omega arith) (omega arith))).idle in omega (arith, e);
@@ -35,9 +37,11 @@ all_length : length (closing 31) ≡ 42
 unfolding body_of check_octet_of
 all_length = refl
 
+-- at N1 31 34 flags and the CLD frame close the multiplexer down
 pub closes_right : ClosesRight
 closes_right = record { flags = refl; all = all_length; sent = record { sent_are = refl; read = []; read_are = refl } }
 
+-- the CLD frame alone doesn't
 pub closes_wrong : ClosesWrong
 closes_wrong = record {
   bare = λ h.

@@ -42,6 +42,7 @@ counted_right : IsRight (record { view = ok_counted; acts = csq_history ++ ok_hi
 unfolding check_octet_of body_of verdict_on by_header by_end
 counted_right = fits_none (record { view = ok_counted; acts = csq_history ++ ok_history }) (one_came ++ ok_one) last_flag 13 refl refl refl (read_in (one_came ++ ok_one) refl) (read_in last_flag refl) refl
 
+-- an OK that came behind the command is its answer
 pub counts_behind : CountsBehind
 counts_behind = seen_later ok_counted (csq_left ∷ at_first ∷ []) (after [] csq_history) ok_history (seen_later csq_left (at_first ∷ []) [] csq_history (seen_first at_first nothing_yet) left_right) counted_right
 
@@ -211,5 +212,6 @@ refused seen before acts later earlier =
 by_sights : (seen : List SessionView) (past : List Act) → HasGrown beginning (ok_counted ∷ ok_came ∷ seen) past → ⊥
 by_sights seen _ (seen_later _ _ before acts grown f) = refused seen before acts f (fits_last ok_came seen before grown)
 
+-- one that came before it is none, whatever was seen earlier
 pub counts_not_before : CountsNotBefore
 counts_not_before seen past h = by_sights seen past h

@@ -9,13 +9,16 @@ use Rattle.modem_history.specs.Wholes.{commands_for}
 use Rattle.modem_history.proofs.rows.SessionTests.{octets_differ}
 use Rattle.modem_driver.specs.HeadlineRows.{AreRight, AreWrong, IsOtherOrder, right_places, wrong_places}
 
+-- in each of the right rows the request has one place
 pub all_right_places : AreRight right_places
 all_right_places = (refl, (refl, (refl, tt)))
 
+-- in none of the wrong ones
 pub all_wrong_places : AreWrong wrong_places
 all_wrong_places =
     ((λ h. omega (arith, h)), ((λ h. omega (arith, h)), ((λ h. omega (arith, h)), ((λ h. omega (arith, h)), ((λ h. omega (arith, h)), ((λ h. omega (arith, h)), ((λ h. omega (arith, h)), ((λ h. omega (arith, h)), tt))))))))
 
+-- commands accepted in another order than they were submitted are refused
 pub other_order : IsOtherOrder
 unfolding IsOtherOrder
 other_order h = wrong_way (of_numbers h.before) (of_numbers h.later) joins

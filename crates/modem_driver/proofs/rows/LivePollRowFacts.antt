@@ -325,6 +325,7 @@ none_got b before acts (waits f h room e) = e
 
 -- ## A session that has just begun
 
+-- a session to which nothing has happened has the empty history
 pub is_new_session : IsNewSession
 unfolding IsNewSession BeginsFitting
 is_new_session at = record {
@@ -398,6 +399,7 @@ too_many : (at : DeskId) (more : Bool) → ¬ RunsTurns itself (new_session at) 
 unfolding AsksPerTurn
 too_many at more runs = let x : 65 ≤ 0 + 64 = asks_per_turn itself (new_session at) (after_flags 65 at) more (is_one at) runs in omega (arith, x)
 
+-- no turn, a tick, a loss kept back or given as Stopped, too many turns: none of this is a poll of it
 pub no_live_polls : AreNoLivePolls
 unfolding AreNoLivePolls NoTickIsAPoll NoLossIsKeptBack NoLossIsStopped
 no_live_polls at more = (

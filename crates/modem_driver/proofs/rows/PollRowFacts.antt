@@ -22,6 +22,7 @@ use Rattle.modem_history.specs.Rules.{call, nothing}
 never : {P : Type 0} → false ≡ true → P
 never e = cc
 
+-- a session whose line is lost has the loss as its history
 pub is_lost_session : IsLostSession
 unfolding IsLostSession Lawful Complete
 is_lost_session at = record {
@@ -60,6 +61,7 @@ abbrev gave_other : Result Ended SessionFault → Bool
 gave_other (Err fault.Failed) = false
 gave_other _ = true
 
+-- neither doing nothing nor keeping the loss back is a poll of it, nor does it give Stopped or Line
 pub no_polls : AreNoPolls
 unfolding AreNoPolls LostFails LostGivesFailed
 no_polls at = (

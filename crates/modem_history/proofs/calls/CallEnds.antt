@@ -28,6 +28,7 @@ sent_hand : (fs : List Frame) (past : List Act) → in_hand (after past (map Sen
 sent_hand [] past = refl
 sent_hand (f ∷ fs) past = sent_hand fs (Sent f ∷ past)
 
+-- a choice by a test that fails is the second
 pub if_false : {X : Type 0} → (b : Bool) (x y : X) → b ≡ false → (if b then x else y) ≡ y
 if_false false x y e = refl
 if_false true x y e = cc
@@ -99,9 +100,11 @@ now_is s past acts d =
 abbrev pub frames_in : Setting → List Act → Act → List Frame
 frames_in s past a = frames s (seen s past) a
 
+-- and the state of each connection after them
 abbrev pub now_in : Setting → List Act → Act → ℕ → State
 now_in s past a = states_now s (seen s past) (a ∷ map Sent (frames_in s past a))
 
+-- the history at the end of the call: the act that began it, and all that it calls for
 abbrev pub ended : Setting → List Act → Act → List Act
 ended s past a = after past (a ∷ calls s past a)
 
@@ -116,6 +119,7 @@ pub record Ends (s : Setting) (past : List Act) (a : Act) (d : ℕ) : Type 0 whe
 deliveries_left : (xs ys : List Act) → Deliveries (xs ++ ys) → (Deliveries xs) × (Deliveries ys)
 deliveries_left xs ys h = and_parts (list_all is_delivery xs) (list_all is_delivery ys) (sym (list_all-append is_delivery xs ys) ∙ h)
 
+-- every call ends so, on each connection
 pub end_of : (s : Setting) (past : List Act) (a : Act) (d : ℕ) → Ends s past a d
 end_of s past a d =
     let v = seen s past in

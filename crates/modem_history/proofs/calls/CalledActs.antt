@@ -26,12 +26,15 @@ use Rattle.modem_history.specs.Acts.{Act, Took, Got, Sent, Told, Heard, Tick, Lo
 use Rattle.modem_history.specs.Calls.{Setting, HistoryView, calls_seeing, states_now, frames, frames_by, asking, at_once, said_of, said_at_once, lines_said, by_lines, by_seen, heard, done, first_on, tolds, told_later, later}
 use Rattle.modem_history.specs.Wholes.{is_said}
 
+-- the frame is no data: a control frame
 abbrev pub is_control : Frame → Bool
 is_control f = not (is_data_frame f)
 
+-- all of these are control frames
 abbrev pub Controls : List Frame → Type 0
 Controls fs = list_all is_control fs ≡ true
 
+-- each of these acts may be called for: a control frame sent, an outcome or a line heard
 abbrev pub Saids : List Act → Type 0
 Saids acts = list_all is_said acts ≡ true
 
@@ -41,12 +44,15 @@ is_delivery (Told o) = true
 is_delivery (Heard k d line) = true
 is_delivery a = false
 
+-- each of these acts is an outcome or a line
 abbrev pub Deliveries : List Act → Type 0
 Deliveries acts = list_all is_delivery acts ≡ true
 
+-- outcomes and lines joined are outcomes and lines
 pub deliveries_both : (xs ys : List Act) → Deliveries xs → Deliveries ys → Deliveries (xs ++ ys)
 deliveries_both xs ys h k = list_all-append is_delivery xs ys ∙ and_from (list_all is_delivery xs) (list_all is_delivery ys) h k
 
+-- acts that may be called for may be so joined
 pub saids_both : (xs ys : List Act) → Saids xs → Saids ys → Saids (xs ++ ys)
 saids_both xs ys h k = list_all-append is_said xs ys ∙ and_from (list_all is_said xs) (list_all is_said ys) h k
 
@@ -96,6 +102,7 @@ done_said : (o : Option Request) (ls : List AnswerLine) → Deliveries (done o l
 done_said None ls = refl
 done_said (Some r) ls = refl
 
+-- whatever a line is seen as, it calls for outcomes and lines alone
 pub line_said : (s : Setting) (d : ℕ) (owner : Option Request) (line : List ℕ) (v : line_is.Seen) → Deliveries (by_seen s d owner line v)
 line_said s d owner line Echo = refl
 line_said s d owner line Kept = refl
@@ -137,6 +144,7 @@ spoken s v a now =
     deliveries_both (said_at_once s v a) (lines_said s v a ++ tolds v now a) (once_said s v a)
     (deliveries_both (lines_said s v a) (tolds v now a) (lines_all_said s v a) (tolds_said v now a v.waiting))
 
+-- outcomes and lines may be called for
 pub deliveries_said : (acts : List Act) → Deliveries acts → Saids acts
 deliveries_said [] h = refl
 deliveries_said (Told o ∷ acts) h = deliveries_said acts h

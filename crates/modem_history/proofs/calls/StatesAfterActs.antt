@@ -4,6 +4,7 @@ use Rattle.mux_station.specs.declared.role.Role.{Role}
 use Rattle.mux_station.specs.States.{states, states_then}
 use Rattle.modem_history.specs.Acts.{Act, Took, Got, Sent, Told, Heard, Tick, Lost, Held, Freed, Given, after, wire}
 
+-- the past and then two lists of acts is the past and the first, and then the second
 pub after_both : (xs ys past : List Act) → after past (xs ++ ys) ≡ after (after past xs) ys
 after_both [] ys past = refl
 after_both (x ∷ xs) ys past = after_both xs ys (x ∷ past)

@@ -34,15 +34,18 @@ use Rattle.modem_history.proofs.outcomes.OutcomeCounts.{data_on, is_data}
 
 -- ## Marks
 
+-- the commands begun among joined marks are those of the first, and then those of the second
 pub begun_append : (xs ys : List Mark) → begun_in (xs ++ ys) ≡ begun_in xs ++ begun_in ys
 begun_append [] ys = refl
 begun_append (Line l ∷ xs) ys = begun_append xs ys
 begun_append (Begun c ∷ xs) ys = ap (λ (v : List (List ℕ)). c ∷ v) (begun_append xs ys)
 
+-- no command begins among lines alone
 pub begun_lines : (ls : List (List ℕ)) → begun_in (map Line ls) ≡ []
 begun_lines [] = refl
 begun_lines (l ∷ ls) = begun_lines ls
 
+-- the marks of commands that begin, each with its text
 abbrev pub marks_of : List Request → List Mark
 marks_of qs = map (λ (q : Request). Begun (line_of q)) qs
 
@@ -50,6 +53,7 @@ begun_commands : (qs : List Request) → begun_in (marks_of qs) ≡ map line_of 
 begun_commands [] = refl
 begun_commands (q ∷ qs) = ap (λ (v : List (List ℕ)). line_of q ∷ v) (begun_commands qs)
 
+-- as many commands have begun as are counted
 pub begun_counted : (ms : List Mark) → length (begun_in ms) ≡ begun_count ms
 begun_counted [] = refl
 begun_counted (Line l ∷ ms) = begun_counted ms
@@ -71,6 +75,7 @@ turns_line dialect ms l t =
     let w = option_map (shown dialect) (open_window dialect ms) in
     record { in_turn = (sees dialect w (after_line dialect w l) ms l (seen_by dialect w l) (fits_itself dialect ms t) refl refl).fits.in_turn; order = order_line dialect ms l t.order }
 
+-- marks in turn stay so with lines behind them
 pub turns_lines : (dialect : Dialect) (ls : List (List ℕ)) (ms : List Mark) → Turns dialect ms → Turns dialect (ms ++ map Line ls)
 turns_lines dialect [] ms t = subst (Turns dialect) (sym (append-nil ms)) t
 turns_lines dialect (l ∷ ls) ms t = subst (Turns dialect) (append_assoc ms (Line l ∷ []) (map Line ls)) (turns_lines dialect ls (ms ++ Line l ∷ []) (turns_line dialect ms l t))
@@ -81,6 +86,7 @@ turns_begun dialect ms c none t =
     let closed : IsNone w = subst (λ (o : Option Window). IsNone (option_map (shown dialect) o)) (sym none) refl in
     record { in_turn = (begins dialect w (Some (opened c)) ms c (fits_itself dialect ms t) closed refl).in_turn; order = order_begun dialect ms c none t.order }
 
+-- where no open window is counted, none is open
 pub none_open : (o : Option Window) → open_count o ≡ 0 → o ≡ None
 none_open None e = refl
 none_open (Some w) e = cc
@@ -112,6 +118,7 @@ kept_lines dialect ms out qs ls k = record {
 texts_more : (qs : List Request) (q : Request) → texts (qs ++ q ∷ []) ≡ texts qs ++ (line_of q ++ 13 ∷ []) ∷ []
 texts_more qs q = map-append (λ (r : Request). line_of r ++ 13 ∷ []) qs (q ∷ [])
 
+-- commands go out as one text each
 pub texts_counted : (qs : List Request) → length (texts qs) ≡ length qs
 texts_counted [] = refl
 texts_counted (q ∷ qs) = ap suc (texts_counted qs)
@@ -162,10 +169,12 @@ kept_sent dialect ms out chunk qs turn k =
 
 -- ## Acts of the station
 
+-- a frame that is sent opens no connection
 pub opens_by_sent : (r : Role) (z k : Bool) (d : ℕ) (f : Frame) → opens r z k d (station.Sent f) ≡ false
 opens_by_sent Initiator z k d f = refl
 opens_by_sent Responder z k d f = refl
 
+-- nor does a tick
 pub opens_by_tick : (r : Role) (z k : Bool) (d : ℕ) → opens r z k d station.Tick ≡ false
 opens_by_tick Initiator z k d = refl
 opens_by_tick Responder z k d = refl
@@ -174,6 +183,7 @@ opens_by_loss : (r : Role) (z k : Bool) (d : ℕ) → opens r z k d station.Lost
 opens_by_loss Initiator z k d = refl
 opens_by_loss Responder z k d = refl
 
+-- nor does the mark of a frame given on
 pub opens_by_mark : (r : Role) (z k : Bool) (d : ℕ) → opens r z k d station.Given ≡ false
 opens_by_mark Initiator z k d = refl
 opens_by_mark Responder z k d = refl
@@ -226,6 +236,7 @@ pub record Carried (d : ℕ) (f : Frame) : Type 0 where
   pub same : f.dlci ≡ d
   pub apart : (d == 0) ≡ false
 
+-- a frame that carries information on d is data on d, and d isn't 0
 pub carried : (d : ℕ) (f : Frame) → carries d f ≡ true → Carried d f
 carried d f e =
     let parts = and_parts (not (d == 0)) (is_on Uih d f) e in
@@ -259,6 +270,7 @@ turn_on s past d f w c =
     subst (λ (m : ℕ). reached_in (length (information_out s.role m past ++ f.info)) (texts (accepted s.role m past)) ≤ answered s.dialect (marks s.role m past) + 1) c.same
     (le_of _ _ (when_true (is_data_frame f) c.is_data w))
 
+-- in a lawful history the marks of each connection are in turn, and the commands begun are the accepted ones wholly sent
 pub kept : (s : Setting) (past : List Act) → Lawful s past → (d : ℕ) → Kept s.dialect (marks s.role d past) (information_out s.role d past) (accepted s.role d past)
 unfolding Lawful
 kept s [] l d = kept_none s.dialect
@@ -288,6 +300,7 @@ kept s (Sent f ∷ past) l d =
     (λ e. (data_belongs s d past f (carried d f e) (gone e), gone e)) before
     (λ e. kept_sent s.dialect (marks s.role d past) (information_out s.role d past) f.info (accepted s.role d past) (turn_on s past d f l.0.in_turn (carried d f e)) before)
 
+-- so in a lawful history commands begin in turn on every connection
 pub begins_in_turn : (s : Setting) (past : List Act) → Lawful s past → BeginsInTurn s past
 unfolding BeginsInTurn
 begins_in_turn s past l d = let k = kept s past l d in record { in_turn = k.turns.in_turn; first = k.first }

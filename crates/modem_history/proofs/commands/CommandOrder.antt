@@ -32,6 +32,7 @@ order_line dialect (Line l ∷ ms) line h = order_line dialect ms line h
 order_line dialect (Begun c ∷ ms) line h =
     ((λ b. ap (λ (v : List (List ℕ)). has_final dialect (answer dialect c v)) (lines_more ms line) ∙ final_stays dialect c (lines_of ms) line (h.0 (sym (begun_same ms line) ∙ b))), order_line dialect ms line h.1)
 
+-- many lines more
 pub order_lines : (dialect : Dialect) (ls : List (List ℕ)) (ms : List Mark) → IsInOrder dialect ms → IsInOrder dialect (ms ++ map Line ls)
 order_lines dialect [] ms h = subst (IsInOrder dialect) (sym (append-nil ms)) h
 order_lines dialect (l ∷ ls) ms h = subst (IsInOrder dialect) (append_assoc ms (Line l ∷ []) (map Line ls)) (order_lines dialect ls (ms ++ Line l ∷ []) (order_line dialect ms l h))
@@ -42,6 +43,7 @@ no_window [] h = refl
 no_window (Line l ∷ ms) h = no_window ms h
 no_window (Begun c ∷ ms) h = cc
 
+-- where a command has begun, the last window is the same whatever stands for none
 pub some_window : (ms : List Mark) → has_begun ms ≡ true → (o : Option Window) → last_or o (windows ms) ≡ last_window ms
 some_window [] h o = cc
 some_window (Line l ∷ ms) h o = some_window ms h o
@@ -94,6 +96,7 @@ last_counts : (dialect : Dialect) (c : List ℕ) (ms : List Mark) (b : Bool) →
 last_counts dialect c ms true = refl
 last_counts dialect c ms false = refl
 
+-- where commands begin in order, those answered and the one whose window is open are all that began
 pub counts : (dialect : Dialect) (ms : List Mark) → IsInOrder dialect ms → answered dialect ms + open_count (open_window dialect ms) ≡ begun_count ms
 counts dialect [] h = refl
 counts dialect (Line l ∷ ms) h = counts dialect ms h

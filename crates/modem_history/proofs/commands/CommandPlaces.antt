@@ -66,6 +66,7 @@ After cs out = wholly_sent (length out) cs
 still : (r : Role) (d : ℕ) (past : List Act) (a : Act) (cs bs : List (List ℕ)) → is_got a ≡ false → is_sent a ≡ false → bs ≡ After cs (information_sent r d past) → bs ≡ After cs (information_sent r d (a ∷ past))
 still r d past a cs bs g s h = h ∙ ap (After cs) (sym (sent_still r d past a g s))
 
+-- of some commands those placed on d are the ones wholly sent since it opened
 pub placed_commands : (r : Role) (d : ℕ) (cs : List (List ℕ)) (past : List Act) → begun_in (placed r d cs past) ≡ After cs (information_sent r d past)
 placed_commands r d cs [] = sym (none_whole cs)
 placed_commands r d cs (Got f ∷ past) =
@@ -78,6 +79,7 @@ placed_commands r d cs (Tick ∷ past) = still r d past Tick cs _ refl refl (pla
 placed_commands r d cs (Lost ∷ past) = still r d past Lost cs _ refl refl (placed_commands r d cs past)
 placed_commands r d cs (Given ∷ past) = still r d past Given cs _ refl refl (placed_commands r d cs past)
 
+-- so on every connection the lines that came and the commands wholly sent are placed, whichever commands go out
 pub places_all : (r : Role) (past : List Act) → PlacesAll r past
 unfolding PlacesAll
 places_all r past d cs = record { lines_are = placed_lines r d cs past; commands_are = placed_commands r d cs past }

@@ -52,10 +52,12 @@ info_in d (f ∷ older) = info_in d older ++ info_of d f
 abbrev pub lines_at : List Frame → Frame → List (ℕ × List ℕ)
 lines_at older f = if carries f.dlci f then map (λ l. (f.dlci, l)) (lines (kept_run (info_in f.dlci older) ++ f.info)) else []
 
+-- the lines of all these frames, each with its connection: in the order in which they end
 abbrev pub lines_in : List Frame → List (ℕ × List ℕ)
 lines_in [] = []
 lines_in (f ∷ older) = lines_in older ++ lines_at older f
 
+-- the lines of older frames are among those of all, in the same order
 pub lines_later : (later older : List Frame) → IsAmong (lines_in older) (lines_in (later ++ older))
 lines_later [] older = among_same (lines_in older)
 lines_later (f ∷ later) older = among_more (lines_in older) (lines_in (later ++ older)) (lines_at (later ++ older) f) (lines_later later older)
@@ -67,10 +69,12 @@ abbrev pub ComesBehind : ℕ → List Frame → Type 0
 ComesBehind d [] = Unit {0}
 ComesBehind d (f ∷ older) = (filter (is_on Sabm d) (f ∷ older) ≡ [] → info_in d (f ∷ older) ≡ []) × ComesBehind d older
 
+-- where information on d comes behind a SABM, it does so among the older frames
 pub behind_older : (d : ℕ) (later older : List Frame) → ComesBehind d (later ++ older) → ComesBehind d older
 behind_older d [] older h = h
 behind_older d (f ∷ later) older h = behind_older d later older h.1
 
+-- and where no SABM on d is among them, they carry no information on it
 pub behind_first : (d : ℕ) (fs : List Frame) → ComesBehind d fs → filter (is_on Sabm d) fs ≡ [] → info_in d fs ≡ []
 behind_first d [] h e = refl
 behind_first d (f ∷ fs) h e = h.0 e
@@ -79,6 +83,7 @@ behind_first d (f ∷ fs) h e = h.0 e
 abbrev pub AsksOne : ℕ → List Frame → Type 0
 AsksOne d fs = length (filter (is_on Sabm d) fs) ≤ 1
 
+-- so there is among the older frames
 pub asks_older : (d : ℕ) (later older : List Frame) → AsksOne d (later ++ older) → AsksOne d older
 asks_older d later older h =
     let both : length (filter (is_on Sabm d) (later ++ older)) ≡ length (filter (is_on Sabm d) later) + length (filter (is_on Sabm d) older) =
@@ -92,14 +97,17 @@ empty_of : {A : Type 0} (xs : List A) → length xs ≤ 0 → xs ≡ []
 empty_of [] h = refl
 empty_of (x ∷ xs) h = absurd (omega (arith, h))
 
+-- where the newest is a SABM on d, none of the others is
 pub asked_first : (d : ℕ) (f : Frame) (fs : List Frame) → AsksOne d (f ∷ fs) → is_on Sabm d f ≡ true → filter (is_on Sabm d) fs ≡ []
 asked_first d f fs h e =
     let one : length (filter (is_on Sabm d) (f ∷ fs)) ≡ length (f ∷ filter (is_on Sabm d) fs) = ap length (asked_if d f fs true e) in
     empty_of (filter (is_on Sabm d) fs) (omega (arith, h, one))
 
+-- without the newest there is one at most still
 pub asks_fewer : (d : ℕ) (f : Frame) (fs : List Frame) → AsksOne d (f ∷ fs) → AsksOne d fs
 asks_fewer d f fs h = asks_older d (f ∷ []) fs h
 
+-- where none is a SABM on d, the newest isn't and none of the others is
 pub none_asked : (d : ℕ) (f : Frame) (fs : List Frame) (b : Bool) → is_on Sabm d f ≡ b → filter (is_on Sabm d) (f ∷ fs) ≡ [] → (b ≡ false) × (filter (is_on Sabm d) fs ≡ [])
 none_asked d f fs true e h = let x : f ∷ filter (is_on Sabm d) fs ≡ [] = sym (asked_if d f fs true e) ∙ h in absurd (clash x)
   where
@@ -115,15 +123,18 @@ kind_clash Dm h g = cc
 kind_clash Disc h g = cc
 kind_clash Uih h g = cc
 
+-- a frame that is a SABM on d carries no information on it
 pub sabm_carries_none : (d : ℕ) (f : Frame) (b : Bool) → carries d f ≡ b → is_on Sabm d f ≡ true → b ≡ false
 sabm_carries_none d f false c e = refl
 sabm_carries_none d f true c e =
     let on = (and_parts (not (d == 0)) (is_on Uih d f) c).1 in
     absurd (kind_clash f.kind (and_parts (is_kind f.kind Sabm) (f.dlci == d) e).0 (and_parts (is_kind f.kind Uih) (f.dlci == d) on).0)
 
+-- a frame that carries no information on d adds none
 pub info_none : (d : ℕ) (f : Frame) → carries d f ≡ false → info_of d f ≡ []
 info_none d f e = ap (λ (b : Bool). if b then f.info else []) e
 
+-- and one that carries some adds all that it has
 pub info_some : (d : ℕ) (f : Frame) → carries d f ≡ true → info_of d f ≡ f.info
 info_some d f e = ap (λ (b : Bool). if b then f.info else []) e
 
@@ -191,6 +202,7 @@ come d past f false zero i e on one behind opens was is k = record {
     grows true = refl
     grows false = sym (append-nil (information_got Responder d past))
 
+-- so it is at a responder where one SABM on d at most came, and information on d only behind it
 pub hears : (d : ℕ) (past : List Act) → AsksOne d (frames_got past) → ComesBehind d (frames_got past) → Hears d past
 hears d [] one behind = record { shut = λ h. refl; all = λ h. never h }
 hears d (Got f ∷ past) one behind =

@@ -66,6 +66,7 @@ filled_more : (c : List ℕ) → is_filled c ≡ true → (runs : List (List ℕ
 filled_more [] h runs = absurd (let e : false ≡ true = h in cc)
 filled_more (x ∷ c) h runs = refl
 
+-- a command line and its CR are read as that line, and what stands behind as without them
 pub line_more : (c y : List ℕ) → IsLine c → lines ((c ++ 13 ∷ []) ++ y) ≡ c ∷ lines y
 line_more c y l =
     let runs : ended_runs (c ++ 13 ∷ y) ≡ (c ++ []) ∷ ended_runs y = ended_runs-behind c (13 ∷ y) l.no_end in
@@ -156,10 +157,12 @@ read_as [] out rest a e = ap lines (none_out out rest e) ∙ ap (λ (v : List �
 read_as (c ∷ cs) out rest a e =
     read_on c cs out rest (command_line c a.0) (λ later k. read_as cs later rest a.1 k) e (nat_le (length (c ++ 13 ∷ [])) (length out)) refl
 
+-- of command lines that go out, just those wholly sent are read, wherever they are cut
 pub are_read_as_sent : (cs : List (List ℕ)) (out : List ℕ) → AreReadAsSent cs out
 unfolding AreReadAsSent
 are_read_as_sent cs out a p = read_as cs out p.rest a p.joins
 
+-- and so, in a lawful history, of command lines accepted on each connection
 pub reads_accepted : (s : Setting) (past : List Act) → Lawful s past → ReadsAccepted s past
 unfolding ReadsAccepted
 reads_accepted s past l d a =

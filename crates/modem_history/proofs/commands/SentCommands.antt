@@ -42,6 +42,7 @@ on_and false c e = cc
 
 -- ## At the initiator
 
+-- the initiator asked for d: of the mode frames on d the last is a SABM that it sent, and nothing ended d since
 abbrev pub is_asked : ℕ → List station.Act → Bool
 is_asked d past = (standings Initiator d past).own.is_asked
 
@@ -163,6 +164,7 @@ no_ua_among d f e h = not_the_second (is_on Sabm d f) (is_on Ua d f) (is_on Dm d
     left true b g = cc
     left false b g = refl
 
+-- so it is where one SABM on d at most was sent, and data left only while its connection was open
 pub asks_of : (d : ℕ) (past : List station.Act) → AsksOne d (frames_sent past) → DataWhileOpen past → Asks d past
 asks_of d [] one gated = record { unasked = λ x. (refl, refl, refl); asked = λ x. never x; all = refl }
 asks_of d (station.Got f ∷ past) one gated =
@@ -208,6 +210,7 @@ open_for : (s : Setting) (past : List Act) (f : Frame) → s.role ≡ Initiator 
 open_for s past f role true e g = subst (λ r. is_open r f.dlci (wire past) ≡ true) role g.is_open
 open_for s past f role false e g = never e
 
+-- in a lawful history of an initiator data left only while its connection was open
 pub while_open : (s : Setting) (past : List Act) → s.role ≡ Initiator → Lawful s past → DataWhileOpen (wire past)
 unfolding Lawful
 while_open s [] role l = tt
@@ -228,6 +231,7 @@ lines_more : (qs : List Request) (q : Request) → AreCommandLines (map line_of 
 lines_more [] q h g = (g, tt)
 lines_more (x ∷ qs) q h g = (h.0, lines_more qs q h.1 g)
 
+-- where each command taken is a command line, so is each accepted on d
 pub are_lines : (d : ℕ) (past : List Act) → TakesCommandLines past → AreCommandLines (map line_of (accepted Initiator d past))
 are_lines d [] h = tt
 are_lines d (Took q ∷ past) h = by_accepted (is_accepted Initiator d past q) refl (are_lines d past h.1)
@@ -321,6 +325,7 @@ lines_sent s (Freed d ∷ past) role l h one = lines_sent s past role l.1 h one
 
 -- ## The law
 
+-- a responder reads, in order, command lines that a lawful initiator wholly sent, where each connection is asked for once
 pub reads_in_order : (s : Setting) (past : List Act) (responder : List station.Act) → ReadsInOrder s past responder
 unfolding ReadsInOrder
 reads_in_order s past responder role l h one comes =

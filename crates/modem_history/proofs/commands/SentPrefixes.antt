@@ -22,6 +22,7 @@ prefix_by text out h =
     let e : out ≡ take (length out) text = (bytes_eq-Decides out (take (length out) text)).0 h in
     record { rest = drop (length out) text; joins = ap (λ (v : List ℕ). v ++ drop (length out) text) e ∙ take-append-drop (length out) text }
 
+-- joined commands go out as the first of them, and then as the others
 pub more_text : (before more : List Request) → concat (texts (before ++ more)) ≡ concat (texts before) ++ concat (texts more)
 more_text [] more = refl
 more_text (q ∷ qs) more =
@@ -48,6 +49,7 @@ passed true b d a acts qs more same = record { rest = []; joins = refl }
 passed false true d a acts qs more same = more
 passed false false d a acts qs more same = same
 
+-- what is asked where a test passes holds where it does
 pub when_true : {P : Type 0} (b : Bool) → b ≡ true → When b P → P
 when_true true e h = h
 when_true false e h = cc
@@ -73,6 +75,7 @@ same_out s d past a e h =
     passed (opens_now s.role d (wire past) a) (belongs s.role d (wire past) a) d a (since s.role d (wire past)) (accepted s.role d past)
     (subst (λ (v : List ℕ). IsPrefixOf v (concat (texts (accepted s.role d past)))) (sym e) h) h
 
+-- in a lawful history what left each connection is a prefix of the commands accepted on it
 pub leaves_once : (s : Setting) (past : List Act) → Lawful s past → LeavesOnce s past
 unfolding Lawful
 leaves_once s [] l d = record { rest = []; joins = refl }

@@ -16,6 +16,7 @@ AllFilled (t ∷ ts) = (0 < length t) × AllFilled ts
 last_filled : (xs : List ℕ) (c : ℕ) → 0 < length (xs ++ c ∷ [])
 last_filled xs c = omega (arith, length-append xs (c ∷ []))
 
+-- each command goes out with an octet at least, its CR
 pub texts_filled : (qs : List Request) → AllFilled (texts qs)
 texts_filled [] = tt
 texts_filled (q ∷ qs) = (last_filled (line_of q) 13, texts_filled qs)
@@ -41,13 +42,16 @@ whole_front (x ∷ xs) ys k =
     if_le (length x) n (whole_in (n - length x) (xs ++ ys) + 1) 0 enough
     ∙ (ap (λ (v : ℕ). whole_in v (xs ++ ys) + 1) less ∙ (ap (λ (v : ℕ). v + 1) (whole_front xs ys k) ∙ regroup))
 
+-- fewer octets than the first text has make none whole
 pub whole_none : (t : List ℕ) (ts : List (List ℕ)) (k : ℕ) → k < length t → whole_in k (t ∷ ts) ≡ 0
 whole_none t ts k h = if_gt (length t) k (whole_in (k - length t) ts + 1) 0 h
 
+-- no octets make none whole, where each text has some
 pub whole_at_zero : (ts : List (List ℕ)) → AllFilled ts → whole_in 0 ts ≡ 0
 whole_at_zero [] f = refl
 whole_at_zero (t ∷ ts) f = whole_none t ts 0 f.0
 
+-- as many octets as the first text has make that one whole, and no other
 pub whole_one : (t : List ℕ) (ts : List (List ℕ)) → AllFilled ts → whole_in (length t) (t ∷ ts) ≡ 1
 whole_one t ts f =
     let less : length t - length t ≡ 0 = omega arith in
@@ -55,6 +59,7 @@ whole_one t ts f =
     if_le (length t) (length t) (whole_in (length t - length t) ts + 1) 0 same
     ∙ (ap (λ (v : ℕ). whole_in v ts + 1) less ∙ ap (λ (v : ℕ). v + 1) (whole_at_zero ts f))
 
+-- octets beyond the first texts reach into all of these, and what is more into the others
 pub reached_front : (xs ys : List (List ℕ)) (k : ℕ) → 0 < k → reached_in (length (concat xs) + k) (xs ++ ys) ≡ length xs + reached_in k ys
 reached_front [] ys k h = ap (λ (n : ℕ). reached_in n ys) (zero-add k) ∙ sym (zero-add (reached_in k ys))
 reached_front (x ∷ xs) ys k h =
@@ -66,10 +71,12 @@ reached_front (x ∷ xs) ys k h =
     if_lt 0 n (reached_in (n - length x) (xs ++ ys) + 1) 0 some
     ∙ (ap (λ (v : ℕ). reached_in v (xs ++ ys) + 1) less ∙ (ap (λ (v : ℕ). v + 1) (reached_front xs ys k h) ∙ regroup))
 
+-- no octets reach into none
 pub reached_none : (ts : List (List ℕ)) → reached_in 0 ts ≡ 0
 reached_none [] = refl
 reached_none (t ∷ ts) = refl
 
+-- one octet, and up to all of the first text, reach into that one alone
 pub reached_one : (t : List ℕ) (ts : List (List ℕ)) (k : ℕ) → 0 < k → k ≤ length t → reached_in k (t ∷ ts) ≡ 1
 reached_one t ts k h l =
     let less : k - length t ≡ 0 = omega arith in

@@ -17,6 +17,7 @@ whole_reached n (t ∷ ts) f = reached_by (length t) n (whole_in (n - length t) 
 few_by : (l n a k : ℕ) → a ≤ k → (if nat_le l n then a + 1 else 0) ≤ suc k
 few_by l n a k h = grind (arith, nat_tests)
 
+-- no more texts are whole than there are
 pub whole_few : (n : ℕ) (ts : List (List ℕ)) → whole_in n ts ≤ length ts
 whole_few n [] = omega arith
 whole_few n (t ∷ ts) = few_by (length t) n (whole_in (n - length t) ts) (length ts) (whole_few (n - length t) ts)
@@ -24,6 +25,7 @@ whole_few n (t ∷ ts) = few_by (length t) n (whole_in (n - length t) ts) (lengt
 more_by : (l n m a b : ℕ) → n ≤ m → a ≤ b → (if nat_le l n then a + 1 else 0) ≤ (if nat_le l m then b + 1 else 0)
 more_by l n m a b h k = grind (arith, nat_tests)
 
+-- more octets make no fewer texts whole
 pub whole_more : (n m : ℕ) (ts : List (List ℕ)) → n ≤ m → whole_in n ts ≤ whole_in m ts
 whole_more n m [] h = omega arith
 whole_more n m (t ∷ ts) h =
@@ -38,6 +40,7 @@ whole_push n (x ∷ xs) t h f =
     let less : n - length x ≤ length (concat xs) = omega arith in
     ap (λ (v : ℕ). if nat_le (length x) n then v + 1 else 0) (whole_push (n - length x) xs t less f)
 
+-- the first k of the first m are the first k of all, where k is no more than m
 pub take_within : {X : Type 0} → (k m : ℕ) (xs : List X) → k ≤ m → take k (take m xs) ≡ take k xs
 take_within zero m xs h = refl
 take_within (suc k) zero xs h = absurd (let e : suc k ≤ 0 = h in omega (arith, e))

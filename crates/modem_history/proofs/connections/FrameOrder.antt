@@ -94,5 +94,6 @@ in_order s (Heard m d line ∷ past) l = let k = in_order s past l.1 in record {
 in_order s (Held d ∷ past) l = let k = in_order s past l.1 in record { later = k.later; sent_are = k.sent_are; waits = k.waits; gone = k.gone }
 in_order s (Freed d ∷ past) l = let k = in_order s past l.1 in record { later = k.later; sent_are = k.sent_are; waits = k.waits; gone = k.gone }
 
+-- so in a lawful history the frames given on are the first of those sent, and without a loss the others wait in the queue
 pub gives_in_order : (s : Setting) (past : List Act) → Lawful s past → GivesInOrder past
 gives_in_order s past l = let k = in_order s past l in record { later = k.later; sent_are = k.sent_are; waits = k.waits }

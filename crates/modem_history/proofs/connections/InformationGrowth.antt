@@ -12,10 +12,12 @@ use Rattle.modem_history.proofs.commands.BegunCommands.{carried, data_ends_none}
 
 -- ## What opens and ends
 
+-- a frame comes
 abbrev pub is_got : Act → Bool
 is_got (Got f) = true
 is_got _ = false
 
+-- a frame is sent
 abbrev pub is_sent : Act → Bool
 is_sent (Sent f) = true
 is_sent _ = false
@@ -42,6 +44,7 @@ none_come false true false c e = refl
 none_come false false false c e = refl
 none_come z y true c e = cc
 
+-- data that comes on another connection than 0 ends none
 pub data_come_none : (z : Bool) (d e : ℕ) (f : Frame) → (e == 0) ≡ false → ends z d (Got (data_on e f)) ≡ false
 data_come_none z d e f h = none_come z (not (d == 0)) (e == 0) _ h
 
@@ -58,6 +61,7 @@ got_belongs r d past f e =
     let as_data : f ≡ data_on d f = is_data f c.is_data ∙ ap (λ (m : ℕ). data_on m f) c.same in
     belongs_open (is_open r d past) (ends z d (Got f)) (ap (λ (g : Frame). ends z d (Got g)) as_data ∙ data_come_none z d d f c.apart)
 
+-- so does information that is sent
 pub sent_belongs : (r : Role) (d : ℕ) (past : List Act) (f : Frame) → carries d f ≡ true → belongs r d past (Sent f) ≡ is_open r d past
 sent_belongs r d past f e =
     let c = carried d f e in
@@ -78,6 +82,7 @@ got_by false false true true d f rest e h = absurd (let g : false ≡ true = h r
 got_by false true false i d f rest e h = ap (λ (x : Bool). info_got d rest ++ (if x then f.info else [])) e ∙ append-nil (info_got d rest)
 got_by false false false i d f rest e h = refl
 
+-- by a frame that comes, what came on d begins anew where it opens d, and grows where d is open and it carries some
 pub got_grows : (r : Role) (d : ℕ) (past : List Act) (f : Frame)
     → information_got r d (Got f ∷ past) ≡ (if opens_now r d past (Got f) then [] else (if carries d f && is_open r d past then information_got r d past ++ f.info else information_got r d past))
 got_grows r d past f = got_by (opens_now r d past (Got f)) (belongs r d past (Got f)) (carries d f) (is_open r d past) d f (since r d past) refl (got_belongs r d past f)
@@ -92,6 +97,7 @@ sent_by false false true true d f rest n e h = absurd (let g : false ≡ true = 
 sent_by false true false i d f rest n e h = ap (λ (x : Bool). info_sent d rest ++ (if x then f.info else [])) e ∙ append-nil (info_sent d rest)
 sent_by false false false i d f rest n e h = refl
 
+-- by a frame sent, what was sent on d grows where d is open and it carries some
 pub sent_grows : (r : Role) (d : ℕ) (past : List Act) (f : Frame)
     → information_sent r d (Sent f ∷ past) ≡ (if carries d f && is_open r d past then information_sent r d past ++ f.info else information_sent r d past)
 sent_grows r d past f =
@@ -111,6 +117,7 @@ none_got d Tick rest h = refl
 none_got d Lost rest h = refl
 none_got d Given rest h = refl
 
+-- what came on d stays where no frame comes
 pub got_same : (r : Role) (d : ℕ) (past : List Act) (a : Act) → is_got a ≡ false → information_got r d (a ∷ past) ≡ information_got r d past
 got_same r d past a h =
     got_idle (opens_now r d past a) (belongs r d past a) d a (since r d past) (opens_none r _ _ d a h) (none_got d a (since r d past) h)
@@ -129,9 +136,11 @@ none_gone d Tick rest h = refl
 none_gone d Lost rest h = refl
 none_gone d Given rest h = refl
 
+-- what was sent on d stays where no frame is sent, unless d opens
 pub sent_same : (r : Role) (d : ℕ) (past : List Act) (a : Act) → is_sent a ≡ false → information_sent r d (a ∷ past) ≡ (if opens_now r d past a then [] else information_sent r d past)
 sent_same r d past a h = sent_idle (opens_now r d past a) (belongs r d past a) d a (since r d past) (none_gone d a (since r d past) h)
 
+-- where no frame comes d doesn't open, so of a choice by that the second is taken
 pub not_opened : {X : Type 0} (r : Role) (d : ℕ) (past : List Act) (a : Act) (x y : X) → is_got a ≡ false → (if opens_now r d past a then x else y) ≡ y
 not_opened r d past a x y h = ap (λ (b : Bool). if b then x else y) (opens_none r _ _ d a h)
 

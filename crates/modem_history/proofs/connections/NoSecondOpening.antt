@@ -27,6 +27,7 @@ use Rattle.modem_history.specs.Calls.{Setting, HistoryView, frames, frames_by, a
 abbrev pub is_free : ℕ → Frame → Bool
 is_free d f = not (is_on Sabm d f)
 
+-- none of these is a SABM on d
 abbrev pub Free : ℕ → List Frame → Type 0
 Free d fs = list_all (is_free d) fs ≡ true
 
@@ -79,6 +80,7 @@ messaged r d (IsClosing n) f = refl
 alive : (s : Setting) (v : HistoryView) (a : Act) (d : ℕ) → Free d (frames_by s v a) → Free d (frames s v a)
 alive s v a d h = free_if d v.lost [] (frames_by s v a) refl h
 
+-- a frame that comes calls for no SABM
 pub got_free : (s : Setting) (v : HistoryView) (f : Frame) (d : ℕ) → Free d (frames s v (Got f))
 got_free s v f d =
     alive s v (Got f) d
@@ -151,20 +153,25 @@ took_free_by s v q d h Stop k = free_if d (is_none (at_once s v q)) (asking s.ro
 
 -- ## Any call on a connection that is open
 
+-- a request calls for no SABM on d while d is Opened
 pub took_free : (s : Setting) (v : HistoryView) (q : Request) (d : ℕ) → is_opened (v.state d) ≡ true → Free d (frames s v (Took q))
 took_free s v q d h = alive s v (Took q) d (took_free_by s v q d h q.ask refl)
 
+-- nor does a tick
 pub tick_free : (s : Setting) (v : HistoryView) (d : ℕ) → is_opened (v.state d) ≡ true → Free d (frames s v Tick)
 tick_free s v d h = alive s v Tick d (ticked_free s.role s.n1 v.state v.queued d 0 62 h)
 
+-- a hold calls for no SABM, whatever it holds
 pub held_free : (s : Setting) (v : HistoryView) (d e : ℕ) → Free d (frames s v (Held e))
 held_free s v d e = alive s v (Held e) d (free_if d (is_opened (v.state e)) (msc_frame s.role e held_up ∷ []) [] refl refl)
 
+-- nor does its end
 pub freed_free : (s : Setting) (v : HistoryView) (d e : ℕ) → Free d (frames s v (Freed e))
 freed_free s v d e = alive s v (Freed e) d (free_if d (is_opened (v.state e)) (msc_frame s.role e ready ∷ []) [] refl refl)
 
 -- ## Asked or not
 
+-- d was asked for: of the mode frames on d the last is a SABM that was sent, and nothing ended d since
 abbrev pub is_asked : Role → ℕ → List station.Act → Bool
 is_asked r d w = (standings r d w).own.is_asked
 
@@ -173,6 +180,7 @@ not_asked false false c h k = refl
 not_asked false true c h k = cc
 not_asked true x c h k = cc
 
+-- where d isn't asked for, frames sent without a SABM on it don't ask for it
 pub sent_unasked : (r : Role) (d : ℕ) (fs : List Frame) (past : List Act) → Free d fs → is_asked r d (wire past) ≡ false → is_asked r d (wire (after past (map Sent fs))) ≡ false
 sent_unasked r d [] past h k = k
 sent_unasked r d (f ∷ fs) past h k =
@@ -203,12 +211,14 @@ by_opening d f true false e g h k = mode_frame_answers true (is_mode_frame_on d 
     is_ua true x = refl
     is_ua false x = cc
 
+-- at an initiator where an open d isn't asked for, neither is a d that is open after a frame that comes
 pub got_unasked : (d : ℕ) (f : Frame) (w : List station.Act) → (is_open Initiator d w ≡ true → is_asked Initiator d w ≡ false) → is_open Initiator d (station.Got f ∷ w) ≡ true
     → is_asked Initiator d (station.Got f ∷ w) ≡ false
 got_unasked d f w h k =
     let s = standings Initiator d w in
     by_opening d f s.own.is_asked s.own.is_open (not (ends s.zero.is_open d (station.Got f))) (ends s.zero.is_open d (station.Got f)) k h
 
+-- where d isn't asked for, a tick doesn't ask for it
 pub tick_unasked : (r : Role) (d : ℕ) (w : List station.Act) → is_asked r d w ≡ false → is_asked r d (station.Tick ∷ w) ≡ false
 tick_unasked r d w h = not_asked false (is_asked r d w) _ refl h
 

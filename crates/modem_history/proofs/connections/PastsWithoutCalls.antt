@@ -95,6 +95,7 @@ placed_alike r d cs (Sent f ∷ past) =
     (placed r d cs (without_calls past)) (placed r d cs past) (map Begun (commands_ended r d cs (without_calls past) f)) (map Begun (commands_ended r d cs past f))
     refl (carried_alike r d past f) (placed_alike r d cs past) (ap (map Begun) (ended_by r d cs past f))
 
+-- information, lines and places on all connections are the same with a station's calls and without
 pub needs_no_calls : (r : Role) (past : List Act) → NeedsNoCalls r past
 unfolding NeedsNoCalls
 needs_no_calls r past = record {

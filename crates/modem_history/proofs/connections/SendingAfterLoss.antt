@@ -101,6 +101,7 @@ none_sent s past f false h g n =
     let off : false ≡ true = deliveries in
     cc
 
+-- so no lawful history goes on with a frame sent once the line is lost
 pub none_after_loss : (s : Setting) (past : List Act) → NoneAfterLoss s past
 unfolding Lawful
 none_after_loss s past f h l = none_sent s past f (is_data_frame f) h l.0.gated l.0.controlled

@@ -63,5 +63,6 @@ none_stand s d (Heard k e line ∷ past) l n = none_stand s d past l.1 n
 none_stand s d (Held e ∷ past) l n = none_stand s d past l.1 n
 none_stand s d (Freed e ∷ past) l n = none_stand s d past l.1 n
 
+-- once its line is lost, no connection of a lawful initiator is open
 pub none_open : (s : Setting) (d : ℕ) (past : List Act) → s.role ≡ Initiator → Lawful s past → is_lost past ≡ true → is_open s.role d (wire past) ≡ false
 none_open s d past r l n = ap (λ (v : _). is_open v d (wire past)) r ∙ ap (λ (v : Standings). v.own.is_open) (none_stand s d past l n)

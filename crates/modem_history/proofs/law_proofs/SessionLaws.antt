@@ -40,6 +40,7 @@ sent_whole b v past f =
     ap (λ (xs : List ℕ). xs ++ v.unwritten) f.sent_are
     ∙ (append_assoc b.line.sent f.since v.unwritten ∙ ap (λ (xs : List ℕ). b.line.sent ++ xs) f.frames_are)
 
+-- the octets that a fitting session sent are the first of the spellings of the frames sent
 pub sends_spellings : (b : Beginning) (v : SessionView) (past : List Act) → SessionFits b v past → SendsSpellings b v past
 sends_spellings b v past f =
     let order = gives_in_order (driving b) past (laws_of f.history).lawful in
@@ -76,6 +77,7 @@ spelled_first (w ∷ whole) (g ∷ given) later other x e h =
     let k = spelled_first whole given later other x tails (append_cancel_left (spelled g) (octets_of_frames given) (octets_of_frames whole ++ x) octets) in
     record { more = k.more; are = ap (λ (fs : List Frame). g ∷ fs) k.are ∙ ap (λ (f : Frame). f ∷ (whole ++ k.more)) (first_same g w (given ++ other) (whole ++ later) e) }
 
+-- the frames that are wholly among these octets have been given on
 pub has_marks : (b : Beginning) (v : SessionView) (past : List Act) → SessionFits b v past → HasMarks b v past
 has_marks b v past f whole later rest e h =
     let order = gives_in_order (driving b) past (laws_of f.history).lawful in
@@ -90,6 +92,7 @@ has_marks b v past f whole later rest e h =
 
 -- ## Octets that come
 
+-- the frames got are the first of those read in what was received, where what is unfed are octets
 pub got_are_read : (b : Beginning) (v : SessionView) (past : List Act) → SessionFits b v past → AreOctets v.unfed → GotAreRead b v past
 got_are_read b v past f octets =
     let r = f.received in
@@ -110,6 +113,7 @@ drop_own : (qs : List Request) → drop (length qs) qs ≡ []
 drop_own [] = refl
 drop_own (q ∷ qs) = drop_own qs
 
+-- a new session fits the empty history, where a frame takes an octet at least
 pub begins_fitting : (b : Beginning) → BeginsFitting b
 unfolding BeginsFitting
 begins_fitting b n = record {
@@ -137,9 +141,11 @@ since_are b v past f = ap (drop (length b.desk.taken)) f.requests.taken_are ∙ 
 pub distinct_taken : (b : Beginning) (v : SessionView) (past : List Act) → SessionFits b v past → are_distinct (taken_requests past) ≡ true
 distinct_taken b v past f = sym (ap are_distinct (since_are b v past f)) ∙ f.requests.once
 
+-- the requests in hand are those taken and not told, in order
 pub hand_is_untold : (b : Beginning) (v : SessionView) (past : List Act) → SessionFits b v past → in_hand past ≡ untold past
 hand_is_untold b v past f = hand_is (driving b) past (laws_of f.history).lawful (distinct_taken b v past f)
 
+-- no request has two outcomes among those told since the session began and those that wait
 pub tells_once : (b : Beginning) (v : SessionView) (past : List Act) → SessionFits b v past → TellsOnce b v
 tells_once b v past f r since e =
     let to = f.told.each r.caller in
@@ -149,6 +155,7 @@ tells_once b v past f r since e =
     let few = (answers_once (driving b) past (laws_of f.history).lawful).once (uses_once (taken_requests past) (distinct_taken b v past f)) r in
     subst (λ (os : List Outcome). length os ≤ 1) (sym theirs) few
 
+-- all this follows where a session fits a history
 pub fits_says : (b : Beginning) (v : SessionView) (past : List Act) → FitsSays b v past
 unfolding FitsSays
 fits_says b v past f = record {
@@ -181,6 +188,7 @@ once_between b old mid new past xs ys f e h once =
     ∙ ap (λ (qs : List Request). qs ++ ys) (sym (since_more b old mid past xs f e))) in
     (distinct_front (taken_since b mid) ys (sym (ap are_distinct since) ∙ once)).0
 
+-- two calls in a row are as one, whatever is said of the core before, between and after
 pub runs_on : (old mid new : SessionView) (first second third : Beginning → List Act → Type 0) → RunsOn old mid new first second third
 runs_on old mid new first second third one other = record {
   acts = one.acts ++ other.acts;
@@ -191,13 +199,16 @@ runs_on old mid new first second third one other = record {
       subst (FitsWith b new (third b)) (sym (after_both one.acts other.acts past)) there;
 }
 
+-- a session with a history has one after a call, whatever is said of its core
 pub keeps_history : (b : Beginning) (old new : SessionView) (core later : Beginning → List Act → Type 0) → KeepsHistory b old new core later
 keeps_history b old new core later h g = record { past = after h.past g.acts; fits = g.goes b h.past h.fits }
 
+-- the same of two calls, for all tests of a core
 pub calls_run_on : CallsRunOn
 unfolding CallsRunOn
 calls_run_on old mid new first second third = runs_on old mid new (by_test first) (by_test second) (by_test third)
 
+-- and the same of one call
 pub calls_keep_history : (b : Beginning) → CallsKeepHistory b
 unfolding CallsKeepHistory
 calls_keep_history b old new core later = keeps_history b old new (by_test core) (by_test later)

@@ -31,6 +31,7 @@ sent_by : (b : Bool) (xs owing total : List Act) (f : Frame) → xs ++ owing ≡
 sent_by true xs owing total f h n = h
 sent_by false xs owing total f h n = moved xs owing total (Sent f) h n
 
+-- in a lawful history what stands is the beginning of what was called for, and the rest is owed
 pub beginning : (s : Setting) (past : List Act) → Lawful s past → IsBeginning s past
 unfolding Lawful
 beginning s [] l = refl
@@ -45,22 +46,27 @@ beginning s (Sent f ∷ past) l = sent_by (is_data_frame f) (stands past) (owed 
 beginning s (Told o ∷ past) l = moved (stands past) (owed s past) (called s past) (Told o) (beginning s past l.1) l.0.answered
 beginning s (Heard k d line ∷ past) l = moved (stands past) (owed s past) (called s past) (Heard k d line) (beginning s past l.1) l.0.heard
 
+-- a test whose contrary passes fails
 pub not_true : (b : Bool) → not b ≡ true → b ≡ false
 not_true false h = refl
 not_true true h = cc
 
+-- where a test fails, its law asks nothing
 pub when_not : (b : Bool) (P : Type 0) → b ≡ false → When b P
 when_not false P h = tt
 when_not true P h = absurd (let e : true ≡ false = h in cc)
 
+-- what holds anyway holds as the law of a test
 pub when_is : (b : Bool) (P : Type 0) → P → When b P
 when_is false P p = tt
 when_is true P p = p
 
+-- of acts chosen by a test that passes, the first are taken
 pub if_true : (b : Bool) (xs ys : List Act) → b ≡ true → (if b then xs else ys) ≡ xs
 if_true true xs ys h = refl
 if_true false xs ys h = cc
 
+-- and by one that fails, the second
 pub if_false : (b : Bool) (xs ys : List Act) → b ≡ false → (if b then xs else ys) ≡ ys
 if_false false xs ys h = refl
 if_false true xs ys h = cc
@@ -155,6 +161,7 @@ first_allowed s past (Told f) b h c = absurd (let e : false ≡ true = b in cc)
 first_allowed s past (Heard k d line) b h c = absurd (let e : false ≡ true = b in cc)
 first_allowed s past Given b h c = absurd (let e : false ≡ true = b in cc)
 
+-- a call that does just what its first act calls for keeps a history lawful and complete
 pub call_goes_on : (s : Setting) (past : List Act) (a : Act) → CallGoesOn s past a
 unfolding CallGoesOn Complete
 call_goes_on s past (Took r) b h l c = paid s past (Took r) refl (first_allowed s past (Took r) b h c) (calls_said s (seen s past) (Took r)) l c

@@ -33,6 +33,7 @@ one_before : (o : Option (UrcKind × List ℕ)) (xs ys : List (UrcKind × List �
 one_before None xs ys = refl
 one_before (Some p) xs ys = refl
 
+-- marks joined announce what the first do, and then what the second do behind these
 pub announced_both : (dialect : Dialect) (past xs ys : List Mark) → announced_from dialect past (xs ++ ys) ≡ announced_from dialect past xs ++ announced_from dialect (past ++ xs) ys
 announced_both dialect past [] ys = ap (λ (v : List Mark). announced_from dialect v ys) (sym (append-nil past))
 announced_both dialect past (Line l ∷ xs) ys =
@@ -51,6 +52,7 @@ announced_commands dialect past (q ∷ qs) = announced_commands dialect (past ++
 
 -- ## What is to be heard
 
+-- what is to be heard on d of joined acts is that of the first, and then that of the second
 pub heard_both : (d : ℕ) (xs ys : List Act) → to_be_heard d (xs ++ ys) ≡ to_be_heard d xs ++ to_be_heard d ys
 heard_both d [] ys = refl
 heard_both d (Heard kind e line ∷ xs) ys =
@@ -89,6 +91,7 @@ line_heard s d owner line (line_is.TheVariants.Done ls) = done_silent d owner ls
 line_heard s d owner line (Unsolicited kind) = listened_kind s d kind line
 line_heard s d owner line line_is.TheVariants.Other = listened_kind s d Other line
 
+-- the listened lines of two lists joined are those of the first, and then those of the second
 pub listened_both : (s : Setting) (xs ys : List (UrcKind × List ℕ)) → listened s (xs ++ ys) ≡ listened s xs ++ listened s ys
 listened_both s xs ys = filter-append (λ (p : UrcKind × List ℕ). s.listens p.0) xs ys
 
@@ -129,6 +132,7 @@ none_both : (xs ys : List (UrcKind × List ℕ)) → xs ≡ [] → ys ≡ [] →
 none_both [] ys e f = f
 none_both (x ∷ xs) ys e f = cc
 
+-- lines on e call for nothing to be heard on another connection d
 pub lines_elsewhere : (s : Setting) (d e : ℕ) (owner : Option Request) (ms : List Mark) (ls : List (List ℕ)) → (e == d) ≡ false → to_be_heard d (by_lines s e owner ms ls) ≡ []
 lines_elsewhere s d e owner ms [] h = refl
 lines_elsewhere s d e owner ms (l ∷ ls) h =

@@ -160,6 +160,7 @@ no_kind true k b e = refl
 no_kind false true b e = cc
 no_kind false false b e = refl
 
+-- so a frame that opens d carries no information on d
 pub opens_bare : (r : Role) (z asked : Bool) (d : ℕ) (f : Frame) → opens r z asked d (station.Got f) ≡ true → carries d f ≡ false
 opens_bare r z asked d f h = no_kind (d == 0) (is_kind f.kind Uih) (f.dlci == d) (opening_kind r z asked d f f.kind refl h)
 
@@ -317,10 +318,12 @@ each_once s past l d =
     none_lost_more s.dialect (earlier_marks s.role d past) (marks s.role d past) (earlier_kept s past l d)
     (none_lost s.dialect (marks s.role d past) (kept s past l d).turns.in_turn, tt)
 
+-- in a lawful history what was heard on each connection begins what is announced there; the rest is owed, and none is lost
 pub hears_in_order : (s : Setting) (past : List Act) → Lawful s past → HearsInOrder s past
 unfolding HearsInOrder
 hears_in_order s past l d = record { in_order = hears s past l d; each_once = each_once s past l d }
 
+-- and where nothing is owed, all that is announced there was heard
 pub hears_all : (s : Setting) (past : List Act) → Lawful s past → HearsAll s past
 unfolding HearsAll Complete
 hears_all s past l c d =

@@ -21,10 +21,12 @@ use Rattle.modem_history.proofs.lines.HeardLines.{opens_bare}
 
 -- ## Marks
 
+-- lines as marks are these lines
 pub lines_placed_are : (ls : List (List ℕ)) → lines_of (map Line ls) ≡ ls
 lines_placed_are [] = refl
 lines_placed_are (l ∷ ls) = ap (λ (v : List (List ℕ)). l ∷ v) (lines_placed_are ls)
 
+-- commands as marks are no lines
 pub commands_no_lines : (cs : List (List ℕ)) → lines_of (map Begun cs) ≡ []
 commands_no_lines [] = refl
 commands_no_lines (c ∷ cs) = commands_no_lines cs
@@ -35,12 +37,14 @@ more_lines ms x y ls h e =
     lines_of-append ms (map Line ls)
     ∙ (ap (λ (v : List (List ℕ)). lines_of ms ++ v) (lines_placed_are ls) ∙ (ap (λ (v : List (List ℕ)). v ++ ls) h ∙ sym e))
 
+-- so they are where a frame opens d and nothing is left, where it brings lines, and where it does neither
 pub lines_by : (o c : Bool) (ms : List Mark) (x y : List ℕ) (ls : List (List ℕ)) → lines_of ms ≡ lines x → lines (x ++ y) ≡ lines x ++ ls
     → lines_of (if o then [] else (if c then ms ++ map Line ls else ms)) ≡ lines (if o then [] else (if c then x ++ y else x))
 lines_by true c ms x y ls h e = refl
 lines_by false true ms x y ls h e = more_lines ms x y ls h e
 lines_by false false ms x y ls h e = h
 
+-- commands that begin, or none, leave the lines as they were
 pub commands_by : (c : Bool) (ms : List Mark) (cs : List (List ℕ)) (x : List (List ℕ)) → lines_of ms ≡ x → lines_of (if c then ms ++ map Begun cs else ms) ≡ x
 commands_by true ms cs x h = lines_of-append ms (map Begun cs) ∙ (ap (λ (v : List (List ℕ)). lines_of ms ++ v) (commands_no_lines cs) ∙ (append-nil (lines_of ms) ∙ h))
 commands_by false ms cs x h = h
@@ -52,6 +56,7 @@ read_on r d past f = (reads_on (information_got r d past) f.info).reads_kept
 as_before : (r : Role) (d : ℕ) (past : List Act) (a : Act) (ls : List (List ℕ)) → is_got a ≡ false → ls ≡ lines (information_got r d past) → ls ≡ lines (information_got r d (a ∷ past))
 as_before r d past a ls n h = h ∙ ap lines (sym (got_same r d past a n))
 
+-- the lines placed on d are those of the information that came since it opened, whichever commands go out
 pub placed_lines : (r : Role) (d : ℕ) (cs : List (List ℕ)) (past : List Act) → lines_of (placed r d cs past) ≡ lines (information_got r d past)
 placed_lines r d cs [] = refl
 placed_lines r d cs (Got f ∷ past) =
@@ -66,6 +71,7 @@ placed_lines r d cs (Given ∷ past) = as_before r d past Given _ refl (placed_l
 
 -- ## All connections
 
+-- the lines on d of two lists joined are those of the first, and then those of the second
 pub on_both : (d : ℕ) (xs ys : List (ℕ × List ℕ)) → lines_on d (xs ++ ys) ≡ lines_on d xs ++ lines_on d ys
 on_both d xs ys = filter_map-append _ xs ys
 
@@ -135,6 +141,7 @@ all_still r d past a ls n h =
     ∙ ap (λ (v : List (List Act)). flat_map lines (map (info_got d) (v ++ since r d (a ∷ past) ∷ [])))
     (sym (append-nil before) ∙ ap (λ (v : List (List Act)). before ++ v) (sym (not_opened r d past a (since r d past ∷ []) [] n))))))
 
+-- a frame that opens d brings no lines, where none that opens it carries information
 pub got_none : (o c i : Bool) → (o ≡ true → c ≡ false) → o ≡ true → (c && i) ≡ false
 got_none o true i h e = absurd (let x : true ≡ false = h e in cc)
 got_none o false i h e = refl
@@ -153,6 +160,7 @@ all_lines r (Tick ∷ past) d = all_still r d past Tick (lines_on d (lines_got r
 all_lines r (Lost ∷ past) d = all_still r d past Lost (lines_on d (lines_got r past)) refl (all_lines r past d)
 all_lines r (Given ∷ past) d = all_still r d past Given (lines_on d (lines_got r past)) refl (all_lines r past d)
 
+-- among the lines of all connections, those of each are the lines of its information over all its openings
 pub has_all_lines : (r : Role) (past : List Act) → HasAllLines r past
 unfolding HasAllLines
 has_all_lines r past d = all_lines r past d

@@ -30,6 +30,7 @@ use Rattle.modem_history.proofs.commands.CommandPlaces.{placed_more}
 abbrev lines_of_commands : List Request → List (List ℕ)
 lines_of_commands qs = map line_of qs
 
+-- the texts of commands are their lines, each with CR
 pub texts_are : (qs : List Request) → texts qs ≡ with_cr (map line_of qs)
 texts_are [] = refl
 texts_are (q ∷ qs) = ap (λ (v : List (List ℕ)). (line_of q ++ 13 ∷ []) ∷ v) (texts_are qs)
@@ -76,6 +77,7 @@ gone : (c : Bool) (ms ns xs ys : List Mark) → ms ≡ ns → xs ≡ ys → (if 
 gone true ms ns xs ys h e = ap (λ (v : List Mark). v ++ ys) (sym h) ∙ ap (λ (v : List Mark). ms ++ v) (sym e)
 gone false ms ns xs ys h e = sym h
 
+-- in a lawful history what is marked on d is its lines and the accepted commands, placed over the wire
 pub are_placed : (s : Setting) (past : List Act) → Lawful s past → (d : ℕ) → marks s.role d past ≡ placed s.role d (map line_of (accepted s.role d past)) (wire past)
 unfolding Lawful
 are_placed s [] l d = refl
@@ -97,6 +99,7 @@ are_placed s (Sent f ∷ past) l d =
     (gone (carries d f && is_open s.role d (wire past)) (marks s.role d past) (placed s.role d (map line_of qs) (wire past)) (begun_placed s.role d past f) _ (are_placed s past l.1 d)
     (same_begun (length (information_out s.role d past)) (length f.info) qs))
 
+-- and so on every connection
 pub are_marks_placed : (s : Setting) (past : List Act) → Lawful s past → AreMarksPlaced s past
 unfolding AreMarksPlaced
 are_marks_placed s past l d = are_placed s past l d
@@ -160,6 +163,7 @@ have_lines s (Sent f ∷ past) d =
     (no_lines (drop (whole_in out (texts qs)) (whole_after (out + length f.info) qs)))
     ∙ have_lines s past d
 
+-- the lines marked in all openings of a connection are its own among those of all connections
 pub have_marks_all_lines : (s : Setting) (past : List Act) → HaveMarksAllLines s past
 unfolding HaveMarksAllLines
 have_marks_all_lines s past d = have_lines s past d

@@ -71,6 +71,7 @@ earlier_placed s (Held e ∷ past) l d = earlier_placed s past l.1 d
 earlier_placed s (Freed e ∷ past) l d = earlier_placed s past l.1 d
 earlier_placed s (Given ∷ past) l d = earlier_placed s past l.1 d
 
+-- in a lawful history what is marked in each opening are its lines and the commands accepted in it, placed over the wire
 pub are_all_marks_placed : (s : Setting) (past : List Act) → Lawful s past → AreAllMarksPlaced s past
 unfolding AreAllMarksPlaced
 are_all_marks_placed s past l d =
@@ -130,6 +131,7 @@ commands_each r d (c ∷ cs) (p ∷ ps) =
     ap (λ (v : List (List ℕ)). v ∷ map begun_in (placed_at r d cs ps)) first
     ∙ ap (λ (v : List (List (List ℕ))). wholly_sent (length (information_sent r d p)) c ∷ v) rest
 
+-- what is placed in each opening are its lines, and the commands beside it that are wholly sent
 pub places_each : (r : Role) (past : List station.Act) → PlacesEach r past
 unfolding PlacesEach
 places_each r past d css e =

@@ -38,6 +38,7 @@ use Rattle.modem_history.proofs.law_proofs.WholeHistories.{beginning, not_true}
 
 -- ## Counts
 
+-- 1 where the test passes, else 0
 abbrev pub one : Bool → ℕ
 one b = if b then 1 else 0
 
@@ -59,6 +60,7 @@ told_append : (r : Request) (xs ys : List Act) → told_to r (xs ++ ys) ≡ told
 told_append r [] ys = sym (zero-add (told_to r ys))
 told_append r (a ∷ xs) ys = let h = told_append r xs ys in omega (arith, h)
 
+-- of joined requests as many are this one as of the first and of the second together
 pub many_append : (r : Request) (xs ys : List Request) → many r (xs ++ ys) ≡ many r xs + many r ys
 many_append r [] ys = sym (zero-add (many r ys))
 many_append r (q ∷ xs) ys = let h = many_append r xs ys in omega (arith, h)
@@ -90,6 +92,7 @@ either_zero : (b : Bool) (z : ℕ) → z ≡ 0 → z ≡ (if b then 0 else z)
 either_zero true z e = e
 either_zero false z e = refl
 
+-- an outcome takes off all that are the request that it answers, and of any other none
 pub many_without : (r : Request) (o : Outcome) (qs : List Request) → many r (without o qs) ≡ (if is_for r o then 0 else many r qs)
 many_without r o [] = either_zero (is_for r o) 0 refl
 many_without r o (q ∷ qs) =
@@ -166,6 +169,7 @@ final_closes None false true o x y got ls e = refl
 final_closes None false false o x y got ls e = absurd (let g : Kept ≡ Done ls = e in cc)
 final_closes (Some k) echo final o x y got ls e = absurd (let g : Unsolicited k ≡ Done ls = e in cc)
 
+-- a line seen as Other, or as unsolicited instead, ends no answer
 pub no_final : (k : Option UrcKind) (ls : List AnswerLine) → by_kind k line_is.TheVariants.Other ≡ Done ls → ⊥
 no_final None ls e = let g : line_is.TheVariants.Other ≡ Done ls = e in cc
 no_final (Some k) ls e = let g : Unsolicited k ≡ Done ls = e in cc
@@ -179,6 +183,7 @@ none_shown : (dialect : Dialect) (o : Option Window) → option_map (shown diale
 none_shown dialect None e = refl
 none_shown dialect (Some w) e = cc
 
+-- so a line that is Done leaves no window open
 pub done_closes : (dialect : Dialect) (ms : List Mark) (l : List ℕ) (ls : List AnswerLine) → seen_after dialect ms l ≡ Done ls → open_window dialect (ms ++ Line l ∷ []) ≡ None
 done_closes dialect ms l ls e =
     let seen : seen_by dialect (option_map (shown dialect) (open_window dialect ms)) l ≡ Done ls = seen_line dialect ms l ∙ e in
@@ -188,11 +193,13 @@ closed_after : (b : Bool) (x y : Option OpenWindow) → x ≡ None → y ≡ Non
 closed_after true x y e h = e
 closed_after false x y e h = h
 
+-- where no window is open, a line opens none
 pub stays_closed : (dialect : Dialect) (ms : List Mark) (l : List ℕ) → open_window dialect ms ≡ None → open_window dialect (ms ++ Line l ∷ []) ≡ None
 stays_closed dialect ms l e =
     none_shown dialect (open_window dialect (ms ++ Line l ∷ []))
     (sym (shows_line dialect ms l) ∙ (ap (λ (w : Option Window). after_line dialect (option_map (shown dialect) w) l) e ∙ closed_after (is_none (dialect.kind_of l)) None None refl refl))
 
+-- nor is it Done there
 pub closed_tells_none : (dialect : Dialect) (ms : List Mark) (l : List ℕ) (ls : List AnswerLine) → open_window dialect ms ≡ None → seen_after dialect ms l ≡ Done ls → ⊥
 closed_tells_none dialect ms l ls e h =
     no_final (dialect.kind_of l) ls (ap (λ (w : Option Window). seen_by dialect (option_map (shown dialect) w) l) (sym e) ∙ (seen_line dialect ms l ∙ h))
@@ -254,14 +261,17 @@ kind_is Ua e = cc
 kind_is Dm e = cc
 kind_is Disc e = cc
 
+-- data on d with the information of this frame, and its C/R and P/F
 abbrev pub data_on : ℕ → Frame → Frame
 data_on d f = record { dlci = d; kind = Uih; cr = f.cr; pf = f.pf; info = f.info }
 
+-- a data frame is data on its own connection
 pub is_data : (f : Frame) → is_data_frame f ≡ true → f ≡ data_on f.dlci f
 is_data f e =
     let parts = and_parts (is_kind f.kind Uih) (not (f.dlci == 0)) e in
     ap (λ (k : Kind). record { dlci = f.dlci; kind = k; cr = f.cr; pf = f.pf; info = f.info }) (kind_is f.kind parts.0)
 
+-- and that is another than 0
 pub not_zero : (f : Frame) → is_data_frame f ≡ true → (f.dlci == 0) ≡ false
 not_zero f e = let parts = and_parts (is_kind f.kind Uih) (not (f.dlci == 0)) e in not_true (f.dlci == 0) parts.1
 
@@ -522,6 +532,7 @@ counted s (Lost ∷ past) r l = lost_counted s past r l.1 (with_none s past Lost
 counted s (Held d ∷ past) r l = with_none s past (Held d) r refl (counted s past r l.1)
 counted s (Freed d ∷ past) r l = with_none s past (Freed d) r refl (counted s past r l.1)
 
+-- the older part of a lawful history is lawful
 pub lawful_part : (s : Setting) (newer older : List Act) → Lawful s (newer ++ older) → Lawful s older
 unfolding Lawful
 lawful_part s [] older l = l
@@ -531,6 +542,7 @@ counted_cond : {X : Type 0} → (x : X) (xs : List X) (b : Bool) → length (con
 counted_cond x xs true = omega arith
 counted_cond x xs false = omega arith
 
+-- as many requests are left by the test of being this one as are counted
 pub many_filtered : (r : Request) (qs : List Request) → length (filter (is_same r) qs) ≡ many r qs
 many_filtered r [] = refl
 many_filtered r (q ∷ qs) = counted_cond q (filter (is_same r) qs) (is_same r q) ∙ ap (λ (n : ℕ). one (is_same r q) + n) (many_filtered r qs)
@@ -603,6 +615,7 @@ earlier_taken s older o l =
     let some = owed_counts r o (owed s older) l.0.answered.later l.0.answered.is_next (for_itself o) in
     some_same o (taken_requests older) (omega (arith, n, c, a, some))
 
+-- in a lawful history each outcome answers a request taken before it, and no request has two where no number is used twice
 pub answers_once : (s : Setting) (past : List Act) → Lawful s past → AnswersOnce past
 answers_once s past l = record {
   earlier = λ newer older o e. earlier_taken s older o (lawful_part s newer (Told o ∷ older) (subst (λ (acts : List Act). Lawful s acts) e l));

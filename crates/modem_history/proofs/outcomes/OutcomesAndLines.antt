@@ -17,6 +17,7 @@ pub record Deliveries (acts past : List Act) : Type 0 where
   pub lost_same : is_lost (after past acts) ≡ is_lost past
   pub hand_same : in_hand (after past acts) ≡ taken_off acts (in_hand past)
 
+-- outcomes and lines leave the wire, and whether it is lost; from the hand they take the requests told
 pub deliveries : (acts past : List Act) → list_all is_delivery acts ≡ true → Deliveries acts past
 deliveries [] past h = record { wire_same = refl; lost_same = refl; hand_same = refl }
 deliveries (Told o ∷ acts) past h = let w = deliveries acts (Told o ∷ past) h in record { wire_same = w.wire_same; lost_same = w.lost_same; hand_same = w.hand_same }
@@ -30,6 +31,7 @@ deliveries (Held d ∷ acts) past h = absurd (let e : false ≡ true = h in cc)
 deliveries (Freed d ∷ acts) past h = absurd (let e : false ≡ true = h in cc)
 deliveries (Given ∷ acts) past h = absurd (let e : false ≡ true = h in cc)
 
+-- outcomes and lines, and then other acts, take off what the first do, and then what the others do
 pub off_both : (xs ys : List Act) (hand : List Request) → list_all is_delivery xs ≡ true → taken_off (xs ++ ys) hand ≡ taken_off ys (taken_off xs hand)
 off_both [] ys hand h = refl
 off_both (Told o ∷ xs) ys hand h = off_both xs ys (without o hand) h

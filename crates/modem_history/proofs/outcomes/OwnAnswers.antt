@@ -259,6 +259,7 @@ told_owned s r older o l c u ls d =
     let all = subst (λ (acts : List Act). AllTell (Owned s older) acts) (sym (beginning s older l.1)) (owned s r older l.1 c u) in
     first_tells (Owned s older) o (owed s older) l.0.answered.later l.0.answered.is_next (tell_right (Owned s older) (stands older) (owed s older) all) ls d
 
+-- in a lawful history of an initiator, of whole calls without a number twice, each answer told is that of its own command
 pub tells_own : (s : Setting) (past : List Act) → Lawful s past → TellsOwn s past
 unfolding TellsOwn
 tells_own s past l r c u newer older o ls e d =

@@ -39,6 +39,7 @@ none_same r q (s ∷ qs) h k =
     let parts = and_parts (is_apart q s) (list_all (is_apart q) qs) k in
     passed (is_same r) s qs (not_apart r q s (is_same r s) refl h parts.0) ∙ none_same r q qs h parts.1
 
+-- of distinct requests no two have the same caller and number
 pub uses_once : (qs : List Request) → are_distinct qs ≡ true → UsesOnce qs
 uses_once [] d r = omega arith
 uses_once (q ∷ qs) d r =

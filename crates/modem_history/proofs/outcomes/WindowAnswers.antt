@@ -138,6 +138,7 @@ later_plain v now a r Stop = either_plain (is_stopping (now 0)) None (Some (stop
 
 -- ## Acts that tell answers
 
+-- the answer that the act tells, if it tells one, is of this kind
 abbrev pub Tells : (Outcome → List AnswerLine → Type 0) → Act → Type 0
 Tells P (Told o) = (ls : List AnswerLine) → o.answer ≡ Done ls → P o ls
 Tells P _ = Unit {0}
@@ -147,6 +148,7 @@ abbrev pub AllTell : (Outcome → List AnswerLine → Type 0) → List Act → T
 AllTell P [] = Unit {0}
 AllTell P (a ∷ acts) = Tells P a × AllTell P acts
 
+-- where the answers of two lists of acts are, so are those of both joined
 pub tell_both : (P : Outcome → List AnswerLine → Type 0) (xs ys : List Act) → AllTell P xs → AllTell P ys → AllTell P (xs ++ ys)
 tell_both P [] ys h k = k
 tell_both P (a ∷ xs) ys h k = (h.0, tell_both P xs ys h.1 k)
@@ -163,14 +165,17 @@ tell_one P Q up (Held d) h = tt
 tell_one P Q up (Freed d) h = tt
 tell_one P Q up Given h = tt
 
+-- answers of one kind are of each kind that it implies
 pub tell_more : (P Q : Outcome → List AnswerLine → Type 0) → ((o : Outcome) (ls : List AnswerLine) → P o ls → Q o ls) → (xs : List Act) → AllTell P xs → AllTell Q xs
 tell_more P Q up [] h = tt
 tell_more P Q up (a ∷ xs) h = (tell_one P Q up a h.0, tell_more P Q up xs h.1)
 
+-- and where those of joined acts are of a kind, so are those of the second
 pub tell_right : (P : Outcome → List AnswerLine → Type 0) (xs ys : List Act) → AllTell P (xs ++ ys) → AllTell P ys
 tell_right P [] ys h = h
 tell_right P (a ∷ xs) ys h = tell_right P xs ys h.1
 
+-- frames sent tell no answer
 pub none_told : (P : Outcome → List AnswerLine → Type 0) (fs : List Frame) → AllTell P (map Sent fs)
 none_told P [] = tt
 none_told P (f ∷ fs) = (tt, none_told P fs)
@@ -186,10 +191,12 @@ later_tells : (P : Outcome → List AnswerLine → Type 0) (q : Request) (o : Op
 later_tells P q None rest h k = k
 later_tells P q (Some x) rest h k = (plain_tells P (outcome_of q x) x h, k)
 
+-- nor does what requests are told by the states
 pub tolds_tell : (P : Outcome → List AnswerLine → Type 0) (v : HistoryView) (now : ℕ → State) (a : Act) (qs : List Request) → AllTell P (filter_map (told_later v now a) qs)
 tolds_tell P v now a [] = tt
 tolds_tell P v now a (q ∷ qs) = later_tells P q (later v now a q q.ask) (filter_map (told_later v now a) qs) (later_plain v now a q q.ask) (tolds_tell P v now a qs)
 
+-- nor what one is told at once
 pub at_once_tells : (P : Outcome → List AnswerLine → Type 0) (s : Setting) (v : HistoryView) (a : Act) → AllTell P (said_at_once s v a)
 at_once_tells P s v (Took q) = said_tells P q (at_once s v q) (at_once_plain s v q)
 at_once_tells P s v (Got f) = tt
@@ -259,6 +266,7 @@ owner_tells P (Some q) ls p = (λ more e. subst (P (outcome_of q (Done ls))) (sa
     same_lines : (xs ys : List AnswerLine) → Done xs ≡ Done ys → xs ≡ ys
     same_lines xs ys e = cc
 
+-- what a line tells is of this kind, where the answer that it ends is so for the owner of the window
 pub line_tells : (P : Outcome → List AnswerLine → Type 0) (s : Setting) (d : ℕ) (owner : Option Request) (l : List ℕ) (x : line_is.Seen) → ((q : Request) (ls : List AnswerLine) → owner ≡ Some q → x ≡ line_is.TheVariants.Done ls → P (outcome_of q (Done ls)) ls)
     → AllTell P (by_seen s d owner l x)
 line_tells P s d owner l Echo p = tt
@@ -288,6 +296,7 @@ ends_here dialect base before rest all l ls e h =
       ends = subst (λ (ms : List Mark). Ends dialect ms ls) (placed_last base before l ∙ ap (λ (xs : List (List ℕ)). base ++ map Line xs) (sym first)) h;
     }
 
+-- so is what lines tell, where each answer that one of them ends, behind those before it, is so for the owner
 pub lines_tell : (P : Outcome → List AnswerLine → Type 0) (s : Setting) (d : ℕ) (owner : Option Request) (base : List Mark) (all before rest : List (List ℕ)) (ms : List Mark)
     → ((q : Request) (ls : List AnswerLine) → owner ≡ Some q → EndsAt s.dialect base all ls → P (outcome_of q (Done ls)) ls) → before ++ rest ≡ all → ms ≡ base ++ map Line before → AllTell P (by_lines s d owner ms rest)
 lines_tell P s d owner base all before [] ms p e m = tt
@@ -304,6 +313,7 @@ lines_tell P s d owner base all before (l ∷ rest) ms p e m =
 abbrev Answered : Setting → List Act → Outcome → List AnswerLine → Type 0
 Answered s past o ls = HasAnswer s past ls
 
+-- where so many lines of a frame make a window whole, one of the frame ends it, and this is its answer
 pub window_ends : (s : Setting) (past : List Act) (f : Frame) (ls : List AnswerLine) → EndsAt s.dialect (marks s.role f.dlci past) (lines (run_on s.role f.dlci past ++ f.info)) ls → EndsWindow s past f ls
 window_ends s past f ls h = record { count = h.count; window = h.ends.window; is_last = h.ends.is_last; ended = h.ends.ended; answer = h.ends.answer }
 
@@ -387,6 +397,7 @@ called_tell s (Lost ∷ past) l = lost_tell s past (beginning s past l.1) (calle
 called_tell s (Held d ∷ past) l = one_more s (Held d) past (called_tell s past l.1)
 called_tell s (Freed d ∷ past) l = one_more s (Freed d) past (called_tell s past l.1)
 
+-- where all that is owed tells answers of this kind, the outcome that is next does
 pub first_tells : (P : Outcome → List AnswerLine → Type 0) (o : Outcome) (owing later : List Act) → owing ≡ Told o ∷ later → AllTell P owing → (ls : List AnswerLine) → o.answer ≡ Done ls → P o ls
 first_tells P o owing later e h = (subst (λ (acts : List Act). AllTell P acts) e h).0
 
@@ -396,6 +407,7 @@ owed_tells s older o l ls d =
     let all = subst (λ (acts : List Act). AllTell (Answered s older) acts) (sym (beginning s older l.1)) (called_tell s older l.1) in
     first_tells (Answered s older) o (owed s older) l.0.answered.later l.0.answered.is_next (tell_right (Answered s older) (stands older) (owed s older) all) ls d
 
+-- in a lawful history each answer told is that of a window, which a frame before it ended
 pub tells_answers : (s : Setting) (past : List Act) → Lawful s past → TellsAnswers s past
 tells_answers s past l newer older o ls e d =
     let part : Lawful s (Told o ∷ older) = lawful_part s newer (Told o ∷ older) (subst (λ (acts : List Act). Lawful s acts) e l) in

@@ -51,6 +51,7 @@ regroup ms l ls = append_assoc ms (Line l ∷ []) (map Line ls)
 
 -- ## No window
 
+-- where no window is open, lines take no request off
 pub closed_off : (s : Setting) (d : ℕ) (owner : Option Request) (ms : List Mark) (ls : List (List ℕ)) (hand : List Request) → open_window s.dialect ms ≡ None → taken_off (by_lines s d owner ms ls) hand ≡ hand
 closed_off s d owner ms [] hand e = refl
 closed_off s d owner ms (l ∷ ls) hand e =
@@ -58,6 +59,7 @@ closed_off s d owner ms (l ∷ ls) hand e =
     ∙ (ap (taken_off (by_lines s d owner (ms ++ Line l ∷ []) ls)) (other_off s d owner l (seen_after s.dialect ms l) hand (λ got. closed_tells_none s.dialect ms l got e))
     ∙ closed_off s d owner (ms ++ Line l ∷ []) ls hand (stays_closed s.dialect ms l e))
 
+-- and none opens by them
 pub closed_stays : (dialect : Dialect) (ms : List Mark) (ls : List (List ℕ)) → open_window dialect ms ≡ None → open_window dialect (ms ++ map Line ls) ≡ None
 closed_stays dialect ms [] e = ap (open_window dialect) (append-nil ms) ∙ e
 closed_stays dialect ms (l ∷ ls) e = ap (open_window dialect) (sym (regroup ms l ls)) ∙ closed_stays dialect (ms ++ Line l ∷ []) ls (stays_closed dialect ms l e)

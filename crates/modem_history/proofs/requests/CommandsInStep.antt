@@ -33,6 +33,7 @@ told_off s past a post h =
     let front = distinct_front (in_hand past) post h in
     off_tolds (seen s past) (now_in s past a) a [] (in_hand past) post front.0 (apart_none (in_hand past)) front.1
 
+-- so what is told later leaves in hand just the requests that it doesn't tell
 pub told_off_all : (s : Setting) (past : List Act) (a : Act) → are_distinct (in_hand past) ≡ true
     → taken_off (tolds (seen s past) (now_in s past a) a) (in_hand past) ≡ filter (stays (seen s past) (now_in s past a) a) (in_hand past)
 told_off_all s past a h =
@@ -43,6 +44,7 @@ told_off_all s past a h =
 
 -- ## A call that brings no request and no line
 
+-- commands on d stay in step where those accepted, the marks and the commands in hand are the same
 pub in_step : (s : Setting) (d : ℕ) (past later : List Act) → InStep s d past → accepted s.role d later ≡ accepted s.role d past → marks s.role d later ≡ marks s.role d past
     → commands_for d (in_hand later) ≡ commands_for d (in_hand past) → InStep s d later
 in_step s d past later i a m h = record {
@@ -55,6 +57,7 @@ in_step s d past later i a m h = record {
 abbrev pub left_in : Setting → List Act → Act → List Request
 left_in s past a = filter (stays (seen s past) (now_in s past a) a) (in_hand past)
 
+-- such a call keeps them so, where at its end only requests told are off, and nothing is opened, accepted or placed on d
 pub plain : (s : Setting) (d : ℕ) (past : List Act) (a : Act) → Kept s d past → in_hand (ended s past a) ≡ left_in s past a
     → (is_open s.role d (wire (ended s past a)) ≡ true → is_open s.role d (wire past) ≡ true)
     → (is_open s.role d (wire (ended s past a)) ≡ true → accepted s.role d (a ∷ past) ≡ accepted s.role d past)
@@ -82,10 +85,12 @@ open_first s d past a o = sent_open s.role d (frames_in s past a) (a ∷ past) (
 pub unasked_end : (s : Setting) (d : ℕ) (past : List Act) (a : Act) → Free d (frames_in s past a) → is_asked s.role d (wire (a ∷ past)) ≡ false → is_asked s.role d (wire (ended s past a)) ≡ false
 unasked_end s d past a f h = ap (is_asked s.role d) (end_of s past a d).wire_is ∙ sent_unasked s.role d (frames_in s past a) (a ∷ past) f h
 
+-- where both tests pass, the first does
 pub open_left : (b c : Bool) → (b && c) ≡ true → b ≡ true
 open_left true c h = refl
 open_left false c h = cc
 
+-- where one of two tests passes and the first doesn't, the second does
 pub or_right : (o b : Bool) → o ≡ false → (o || b) ≡ true → b ≡ true
 or_right false b e h = h
 or_right true b e h = cc
@@ -95,6 +100,7 @@ tick_was s d past h =
     let t = standings s.role d (wire past) in
     open_left t.own.is_open (not (ends t.zero.is_open d station.Tick)) (or_right (opens_now s.role d (wire past) station.Tick) (t.own.is_open && not (ends t.zero.is_open d station.Tick)) (opens_by_tick s.role t.zero.is_open t.own.is_asked d) h)
 
+-- a tick, with all that it calls for, keeps the commands on d in step
 pub kept_tick : (s : Setting) (d : ℕ) (past : List Act) → are_distinct (in_hand past) ≡ true → Kept s d past → Kept s d (ended s past Tick)
 kept_tick s d past h k =
     let was : is_open s.role d (wire (ended s past Tick)) ≡ true → is_open s.role d (wire past) ≡ true = λ o. tick_was s d past (open_first s d past Tick o) in
@@ -104,6 +110,7 @@ kept_tick s d past h k =
       unasked = λ o. unasked_end s d past Tick (tick_free s (seen s past) d (seen_open s d past (was o))) (tick_unasked s.role d (wire past) (k.unasked (was o)));
     }
 
+-- so does a hold of any connection
 pub kept_held : (s : Setting) (d e : ℕ) (past : List Act) → are_distinct (in_hand past) ≡ true → Kept s d past → Kept s d (ended s past (Held e))
 kept_held s d e past h k =
     let was : is_open s.role d (wire (ended s past (Held e))) ≡ true → is_open s.role d (wire past) ≡ true = λ o. open_first s d past (Held e) o in
@@ -112,6 +119,7 @@ kept_held s d e past h k =
       unasked = λ o. unasked_end s d past (Held e) (held_free s (seen s past) d e) (k.unasked (was o));
     }
 
+-- and so does its end
 pub kept_freed : (s : Setting) (d e : ℕ) (past : List Act) → are_distinct (in_hand past) ≡ true → Kept s d past → Kept s d (ended s past (Freed e))
 kept_freed s d e past h k =
     let was : is_open s.role d (wire (ended s past (Freed e))) ≡ true → is_open s.role d (wire past) ≡ true = λ o. open_first s d past (Freed e) o in

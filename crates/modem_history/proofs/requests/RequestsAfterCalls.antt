@@ -91,6 +91,7 @@ kept_both test other (q ∷ qs) h = by_tests (other q) (test q) refl refl (kept_
     by_tests false false e g k = k
     by_tests false true e g k = absurd (let x : false ≡ true = sym e ∙ h q g in cc)
 
+-- and none is kept where all that pass the one fail the other
 pub kept_none : (test other : Request → Bool) (qs : List Request) → ((q : Request) → test q ≡ true → other q ≡ false) → filter test (filter other qs) ≡ []
 kept_none test other [] h = refl
 kept_none test other (q ∷ qs) h = by_tests (other q) (test q) refl refl (kept_none test other qs h)
@@ -100,6 +101,7 @@ kept_none test other (q ∷ qs) h = by_tests (other q) (test q) refl refl (kept_
     by_tests true false e g k = ap (λ (x : Bool). if x then q ∷ filter test (filter other qs) else filter test (filter other qs)) g ∙ k
     by_tests false c e g k = k
 
+-- where none passes a test, none does of those that another test leaves
 pub none_kept : (test other : Request → Bool) (qs : List Request) → filter test qs ≡ [] → filter test (filter other qs) ≡ []
 none_kept test other [] h = refl
 none_kept test other (q ∷ qs) h = by_tests (other q) (test q) refl h (none_kept test other qs)
@@ -146,6 +148,7 @@ first_passes test d (x ∷ xs) r h e =
     by_first true g more k = let same : x ≡ r = cc in subst (λ (v : Request). test v ≡ true) same g
     by_first false g more k = more k
 
+-- what holds of all requests holds of those that a test leaves
 pub all_filter : (test other : Request → Bool) (qs : List Request) → list_all test qs ≡ true → list_all test (filter other qs) ≡ true
 all_filter test other [] h = refl
 all_filter test other (q ∷ qs) h =
@@ -158,6 +161,7 @@ all_filter test other (q ∷ qs) h =
 
 -- ## Lists without a number twice
 
+-- distinct requests are distinct where some are left out
 pub distinct_filter : (test : Request → Bool) (qs : List Request) → are_distinct qs ≡ true → are_distinct (filter test qs) ≡ true
 distinct_filter test [] h = refl
 distinct_filter test (q ∷ qs) h =
@@ -168,6 +172,7 @@ distinct_filter test (q ∷ qs) h =
     by_test true k g = and_from (list_all (is_apart q) (filter test qs)) (are_distinct (filter test qs)) g k
     by_test false k g = k
 
+-- of distinct requests the first ones are distinct, and each is apart from those behind
 pub distinct_front : (xs ys : List Request) → are_distinct (xs ++ ys) ≡ true → (are_distinct xs ≡ true) × (list_all (apart_of ys) xs ≡ true)
 distinct_front [] ys h = (refl, refl)
 distinct_front (x ∷ xs) ys h =
@@ -176,6 +181,7 @@ distinct_front (x ∷ xs) ys h =
     let more = distinct_front xs ys hs.1 in
     (and_from (list_all (is_apart x) xs) (are_distinct xs) both.0 more.0, and_from (all_apart x ys) (list_all (apart_of ys) xs) (all_swap x ys both.1) more.1)
 
+-- all but the last are distinct, and apart from the last
 pub distinct_ends : (xs : List Request) (q : Request) → are_distinct (xs ++ q ∷ []) ≡ true → (are_distinct xs ≡ true) × (all_apart q xs ≡ true)
 distinct_ends [] q h = (refl, refl)
 distinct_ends (x ∷ xs) q h =
@@ -185,6 +191,7 @@ distinct_ends (x ∷ xs) q h =
     let more = distinct_ends xs q hs.1 in
     (and_from (list_all (is_apart x) xs) (are_distinct xs) both.0 more.0, and_from (is_apart x q) (all_apart q xs) one.0 more.1)
 
+-- each is apart from none
 pub apart_none : (qs : List Request) → list_all (apart_of []) qs ≡ true
 apart_none [] = refl
 apart_none (q ∷ qs) = apart_none qs
@@ -222,6 +229,7 @@ abbrev pub head_of : List Request → Option Request
 head_of [] = None
 head_of (q ∷ qs) = Some q
 
+-- so it is: the first on d is the head of those on d
 pub first_head : (d : ℕ) (qs : List Request) → first_on d qs ≡ head_of (commands_for d qs)
 first_head d [] = refl
 first_head d (x ∷ xs) = by_test (command_on d x.ask) (first_head d xs)
@@ -244,6 +252,7 @@ filter_swap p q (x ∷ xs) = by_tests (p x) (q x) refl refl (filter_swap p q xs)
     by_tests false true g m k = ap (λ (y : Bool). if y then x ∷ filter p (filter q xs) else filter p (filter q xs)) g ∙ k
     by_tests false false g m k = k
 
+-- an outcome takes its request off before other acts or behind them alike
 pub off_swap : (acts : List Act) (o : Outcome) (hand : List Request) → taken_off acts (without o hand) ≡ without o (taken_off acts hand)
 off_swap [] o hand = refl
 off_swap (Told p ∷ acts) o hand =

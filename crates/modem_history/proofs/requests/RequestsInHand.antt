@@ -23,6 +23,7 @@ all_apart q qs = list_all (λ (r : Request). is_apart r q) qs
 eq_self : (n : ℕ) → (n == n) ≡ true
 eq_self n = grind (arith, nat_tests)
 
+-- an outcome of a request answers it
 pub for_itself : (q : Request) (why : Answer) → is_for q (outcome_of q why) ≡ true
 for_itself q why = and_from (q.caller == q.caller) (q.number == q.number) (eq_self q.caller) (eq_self q.number)
 
@@ -46,12 +47,14 @@ apart_swaps q r h =
     eq_swaps : (n m : ℕ) → (n == m) ≡ (m == n)
     eq_swaps n m = grind (arith, nat_tests)
 
+-- a request apart from all of these has them all apart from it
 pub all_swap : (q : Request) (qs : List Request) → list_all (is_apart q) qs ≡ true → all_apart q qs ≡ true
 all_swap q [] h = refl
 all_swap q (r ∷ rs) h =
     let parts = and_parts (is_apart q r) (list_all (is_apart q) rs) h in
     and_from (is_apart r q) (all_apart q rs) (apart_swaps q r parts.0) (all_swap q rs parts.1)
 
+-- and the other way round
 pub all_swap_back : (q : Request) (qs : List Request) → all_apart q qs ≡ true → list_all (is_apart q) qs ≡ true
 all_swap_back q [] h = refl
 all_swap_back q (r ∷ rs) h =
@@ -103,12 +106,14 @@ without_found test why (x ∷ xs) r d e = by_test (test x) (without_found test w
         let parts = and_parts (list_all (is_apart x) xs) (are_distinct xs) d in
         kept_if (is_apart x r) x (without (outcome_of r why) xs) (without_first test xs) (found_passes (is_apart x) test xs r parts.0 e) (k e)
 
+-- the first command on d is the first that is found to be one
 pub first_is_found : (d : ℕ) (qs : List Request) → first_on d qs ≡ find (commands_on d) qs
 first_is_found d [] = refl
 first_is_found d (x ∷ xs) = ap (λ (v : Option Request). if commands_on d x then Some x else v) (first_is_found d xs)
 
 -- ## What is left
 
+-- without the first that passes a test, those that pass it are all but their first
 pub filter_first : (test : Request → Bool) (qs : List Request) → filter test (without_first test qs) ≡ drop 1 (filter test qs)
 filter_first test [] = refl
 filter_first test (x ∷ xs) = by_test (test x) refl (filter_first test xs)
@@ -126,6 +131,7 @@ filter_other test other (x ∷ xs) never = by_test (other x) refl (filter_other 
     by_test true h k = sym (dropped_if (test x) x (filter test xs) (filter test xs) (never x h) refl)
     by_test false h k = ap (λ (v : List Request). if test x then x ∷ v else v) k
 
+-- what holds of all holds without the first that passes another test
 pub all_first : (test other : Request → Bool) (qs : List Request) → list_all test qs ≡ true → list_all test (without_first other qs) ≡ true
 all_first test other [] h = refl
 all_first test other (x ∷ xs) h = by_test (other x) (all_first test other xs (and_parts (test x) (list_all test xs) h).1)
@@ -134,6 +140,7 @@ all_first test other (x ∷ xs) h = by_test (other x) (all_first test other xs (
     by_test true k = (and_parts (test x) (list_all test xs) h).1
     by_test false k = and_from (test x) (list_all test (without_first other xs)) (and_parts (test x) (list_all test xs) h).0 k
 
+-- distinct requests are distinct without it
 pub distinct_first : (other : Request → Bool) (qs : List Request) → are_distinct qs ≡ true → are_distinct (without_first other qs) ≡ true
 distinct_first other [] h = refl
 distinct_first other (x ∷ xs) h = by_test (other x) (distinct_first other xs (and_parts (list_all (is_apart x) xs) (are_distinct xs) h).1)
@@ -143,6 +150,7 @@ distinct_first other (x ∷ xs) h = by_test (other x) (distinct_first other xs (
     by_test false k =
         and_from (list_all (is_apart x) (without_first other xs)) (are_distinct (without_first other xs)) (all_first (is_apart x) other xs (and_parts (list_all (is_apart x) xs) (are_distinct xs) h).0) k
 
+-- and no more than with it
 pub length_first : (other : Request → Bool) (qs : List Request) → length (without_first other qs) ≤ length qs
 length_first other [] = omega arith
 length_first other (x ∷ xs) = by_test (other x) (length_first other xs)

@@ -44,6 +44,7 @@ use Rattle.modem_history.proofs.requests.CommandsInStep.{Kept, told_off_all, lef
 abbrev pub closes : Dialect → List Mark → List (List ℕ) → Bool
 closes dialect ms ls = is_some (open_window dialect ms) && not (is_some (open_window dialect (ms ++ map Line ls)))
 
+-- the requests left in hand: without the owner where the window closes, else all
 abbrev pub left_by : Bool → Option Request → List Request → List Request
 left_by c owner hand = if c then minus owner hand else hand
 
@@ -63,6 +64,7 @@ left_swap acts false owner hand = refl
 left_swap acts true None hand = refl
 left_swap acts true (Some r) hand = off_swap acts (outcome_of r Opened) hand
 
+-- the request that owns the window on d: the first command on d in hand
 abbrev pub owner_of : List Act → ℕ → Option Request
 owner_of past d = first_on d (in_hand past)
 
@@ -183,6 +185,7 @@ data_answers s d past ls before cs left l h acc ans e = by_windows (open_window 
 
 -- ## The whole call
 
+-- at an initiator data opens no connection
 pub opens_none : (r : Role) → r ≡ Initiator → (z k : Bool) (d : ℕ) (f : Frame) → is_data_frame f ≡ true → opens r z k d (station.Got f) ≡ false
 opens_none Initiator e z k d f h = ap (λ (g : Frame). opens Initiator z k d (station.Got g)) (is_data f h)
 opens_none Responder e z k d f h = cc
@@ -206,6 +209,7 @@ got_was s d past f n o =
 abbrev pub is_read : Setting → List Act → Frame → Bool
 is_read s past f = is_opened ((seen s past).state f.dlci) && is_data_frame f
 
+-- where no line of a frame is read, just the requests that are told later are off at the end
 pub unread_hand : (s : Setting) (past : List Act) (f : Frame) → is_read s past f ≡ false → are_distinct (in_hand past) ≡ true → in_hand (ended s past (Got f)) ≡ left_in s past (Got f)
 unread_hand s past f b h =
     let a = Got f in
@@ -227,6 +231,7 @@ unread_marks s d past f n false c e g = refl
 pub got_accepted : (s : Setting) (d : ℕ) (past : List Act) (f : Frame) → opens_now s.role d (wire past) (station.Got f) ≡ false → accepted s.role d (Got f ∷ past) ≡ accepted s.role d past
 got_accepted s d past f n = if_false (opens_now s.role d (wire past) (station.Got f)) [] (accepted s.role d past) n
 
+-- where it opens nothing, its lines are placed on d if it carries information on d and d is open, else nothing is
 pub got_marks : (s : Setting) (d : ℕ) (past : List Act) (f : Frame) (b : Bool) → opens_now s.role d (wire past) (station.Got f) ≡ false → (carries d f && is_open s.role d (wire past)) ≡ b
     → marks s.role d (Got f ∷ past) ≡ (if b then marks s.role d past ++ map Line (lines (run_on s.role d past ++ f.info)) else marks s.role d past)
 got_marks s d past f b n e =
@@ -234,11 +239,13 @@ got_marks s d past f b n e =
     let more = ms ++ map Line (lines (run_on s.role d past ++ f.info)) in
     if_false (opens_now s.role d (wire past) (station.Got f)) [] (if carries d f && is_open s.role d (wire past) then more else ms) n ∙ ap (λ (x : Bool). if x then more else ms) e
 
+-- data on d carries information on d
 pub data_carries : (d : ℕ) (f : Frame) → is_data_frame f ≡ true → (d == 0) ≡ false → f.dlci ≡ d → carries d f ≡ true
 data_carries d f h z e =
     let kind = (and_parts (is_kind f.kind Uih) (not (f.dlci == 0)) h).0 in
     and_from (not (d == 0)) (is_kind f.kind Uih && (f.dlci == d)) (ap not z) (and_from (is_kind f.kind Uih) (f.dlci == d) kind (eq-eqb f.dlci d e))
 
+-- a frame on another connection carries none on d, open or not
 pub carries_apart : (d : ℕ) (f : Frame) (o : Bool) → (d == f.dlci) ≡ false → (carries d f && o) ≡ false
 carries_apart d f o e = by_carried (carries d f) refl
   where
@@ -329,6 +336,7 @@ got_open s d past f r l z h k false c n e o = unread_open s d past f r n h k (op
 got_open s d past f r l z h k true true n e o = read_here s d past f r l n z h k (sym (eqb-true d f.dlci e)) o
 got_open s d past f r l z h k true false n e o = read_there s d past f r n h k e o
 
+-- a frame that comes, with all that it calls for, keeps the commands of a lawful initiator in step on d, which is another than 0
 pub kept_got : (s : Setting) (d : ℕ) (past : List Act) (f : Frame) → s.role ≡ Initiator → Lawful s past → (d == 0) ≡ false → are_distinct (in_hand past) ≡ true → Kept s d past → Kept s d (ended s past (Got f))
 kept_got s d past f r l z h k = record {
   on = record {

@@ -26,9 +26,11 @@ use Rattle.modem_history.proofs.requests.CommandsInStep.{Kept, told_off, told_of
 
 -- ## Who is in hand then
 
+-- the request, where it is told nothing; else none
 abbrev pub if_none : Option Answer → Request → List Request
 if_none o q = if is_none o then q ∷ [] else []
 
+-- at the end are in hand the requests that weren't told, and the one taken where it isn't told at once
 pub took_hand : (s : Setting) (past : List Act) (q : Request) → are_distinct (in_hand past ++ q ∷ []) ≡ true → in_hand (ended s past (Took q)) ≡ left_in s past (Took q) ++ if_none (at_once s (seen s past) q) q
 took_hand s past q h = (end_of s past (Took q) 0).hand_is ∙ by_answer (at_once s (seen s past) q)
   where
@@ -97,6 +99,7 @@ no_frame s past q d Stop k c = cc
 
 -- ## While d is open
 
+-- a number is less than another just where the other isn't at most it
 pub less_not : (n m : ℕ) → nat_lt n m ≡ not (nat_le m n)
 less_not n m = grind (arith, nat_tests)
 
@@ -166,6 +169,7 @@ taken_shut s d past q h o =
     ∙ (ap (λ (x : List Request). x ++ commands_for d (if_none once q)) (commands_go (seen s past) (now_in s past a) a d (in_hand past) (sym (end_of s past a d).open_is ∙ o))
     ∙ none_more d q once (command_on d q.ask) refl (λ c. told_or_shut s d past q (is_open s.role d (wire past)) refl o c)))
 
+-- a request that is taken, with all that it calls for, keeps the commands on d in step while the line is live
 pub kept_took : (s : Setting) (d : ℕ) (past : List Act) (q : Request) → is_lost past ≡ false → (d == 0) ≡ false → are_distinct (in_hand past ++ q ∷ []) ≡ true → Kept s d past → Kept s d (ended s past (Took q))
 kept_took s d past q live z h k =
     let was : is_open s.role d (wire (ended s past (Took q))) ≡ true → is_open s.role d (wire past) ≡ true = λ o. open_first s d past (Took q) o in

@@ -68,9 +68,11 @@ none_same q (r ∷ qs) h =
 itself : (q : Request) → is_same q q ≡ true
 itself q = and_from (q.caller == q.caller) (q.number == q.number) (eq-eqb q.caller q.caller refl) (eq-eqb q.number q.number refl)
 
+-- each request stands among these once at most, by caller and number
 abbrev pub Few : List Request → Type 0
 Few qs = (r : Request) → many r qs ≤ 1
 
+-- requests that stand there once are distinct
 pub distinct_few : (qs : List Request) → Few qs → are_distinct qs ≡ true
 distinct_few [] h = refl
 distinct_few (q ∷ qs) h =
@@ -79,9 +81,11 @@ distinct_few (q ∷ qs) h =
     let none : many q qs ≡ 0 = omega (arith, here, first) in
     and_from (list_all (is_apart q) qs) (are_distinct qs) (none_same q qs none) (distinct_few qs (λ r. let x = h r in omega (arith, x)))
 
+-- where each was taken once at most, each is in hand once at most
 pub few_hand : (past : List Act) → Few (taken_requests past) → Few (in_hand past)
 few_hand past h r = let a = hand_few r past in let b = h r in omega (arith, a, b)
 
+-- and so was each before the last was taken
 pub few_before : (past : List Act) (q : Request) → Few (taken_requests past ++ q ∷ []) → Few (taken_requests past)
 few_before past q h r = let a = many_append r (taken_requests past) (q ∷ []) in let b = h r in omega (arith, a, b)
 
@@ -105,6 +109,7 @@ none_and : (b : Bool) → (false || (b && false)) ≡ false
 none_and true = refl
 none_and false = refl
 
+-- a frame given on leaves d open or shut as it was
 pub given_open : (r : Role) (d : ℕ) (w : List station.Act) → is_open r d (station.Given ∷ w) ≡ is_open r d w
 given_open r d w =
     let t = standings r d w in
@@ -142,6 +147,7 @@ answered_begun dialect ms c =
     ∙ (ap (λ (v : List (List (List ℕ))). length (filter (has_final dialect) v)) (map-append (answer_of dialect) (windows ms) (record { command = c; after = [] } ∷ []))
     ∙ ap length (filter-append (has_final dialect) (answers dialect ms) ([] ∷ []) ∙ append-nil (filter (has_final dialect) (answers dialect ms))))
 
+-- nor have many that begin
 pub answered_commands : (dialect : Dialect) (ms : List Mark) (qs : List Request) → answered dialect (ms ++ marks_of qs) ≡ answered dialect ms
 answered_commands dialect ms [] = ap (answered dialect) (append-nil ms)
 answered_commands dialect ms (q ∷ qs) =
@@ -151,6 +157,7 @@ sent_answered : (dialect : Dialect) (r : Role) (d : ℕ) (past : List Act) (f : 
 sent_answered dialect r d past f true = answered_commands dialect (marks r d past) _
 sent_answered dialect r d past f false = refl
 
+-- data sent on another connection than 0 leaves d open or shut as it was
 pub data_open : (r : Role) (d e : ℕ) (f : Frame) (w : List station.Act) → (e == 0) ≡ false → is_open r d (station.Sent (data_on e f) ∷ w) ≡ is_open r d w
 data_open r d e f w z =
     let t = standings r d w in
@@ -162,6 +169,7 @@ data_asked r d e f w z =
     let t = standings r d w in
     same_stand false t.own.is_asked (false || ends t.zero.is_open d (station.Sent (data_on e f))) refl (data_ends_none t.zero.is_open d e f z)
 
+-- a data frame is on another connection than 0
 pub not_on_zero : (f : Frame) → is_data_frame f ≡ true → (f.dlci == 0) ≡ false
 not_on_zero f h = not_true (f.dlci == 0) (and_parts _ (not (f.dlci == 0)) h).1
 
@@ -191,6 +199,7 @@ paid s d past a n k =
 called : (s : Setting) (d : ℕ) (past : List Act) (a : Act) → owed s past ≡ [] → Kept s d (ended s past a) → Kept s d (after (a ∷ past) (owed s past ++ calls_behind s past (owed s past) a))
 called s d past a e k = subst (λ (owing : List Act). Kept s d (after (a ∷ past) (owing ++ calls_behind s past owing a))) (sym e) k
 
+-- where nothing is owed, what is in step once all has come is so now
 pub here : (s : Setting) (d : ℕ) (past : List Act) → owed s past ≡ [] → Kept s d (settled s past) → Kept s d past
 here s d past e k = subst (λ (acts : List Act). Kept s d (after past acts)) e k
 
@@ -204,6 +213,7 @@ kept_sent s d past f true e g n k =
     subst (λ (acts : List Act). Kept s d (after (Sent f ∷ past) acts)) (sym none) (kept_data s d past f e (here s d past none k))
 kept_sent s d past f false e g n k = paid s d past (Sent f) n k
 
+-- in a lawful history of an initiator, of whole calls, no number twice and no loss, commands are in step once all owed has come
 pub kept_all : (s : Setting) → s.role ≡ Initiator → (past : List Act) → Lawful s past → CompleteCalls s past → Few (taken_requests past) → is_lost past ≡ false → (d : ℕ) → (d == 0) ≡ false → Kept s d (settled s past)
 unfolding Lawful
 kept_all s r [] l c u n d z = record { on = record { while_open = λ e. absurd (let x : false ≡ true = e in cc); while_shut = λ e. refl }; unasked = λ e. absurd (let x : false ≡ true = e in cc) }
@@ -233,9 +243,11 @@ kept_all s r (Freed e ∷ past) l c u n d z =
     called s d past (Freed e) none (kept_freed s d e past (distinct_few (in_hand past) (few_hand past u)) (here s d past none (kept_all s r past l.1 c.1 u n d z)))
 kept_all s r (Lost ∷ past) l c u n d z = absurd (let x : true ≡ false = n in cc)
 
+-- requests of which no two have the same caller and number stand there once at most
 pub few_once : (qs : List Request) → UsesOnce qs → Few qs
 few_once qs h r = let a = many_filtered r qs in let b = h r in omega (arith, a, b)
 
+-- so an initiator's commands are in step wherever nothing is owed
 pub stays_in_step : (s : Setting) (past : List Act) → Lawful s past → StaysInStep s past
 unfolding Complete StaysInStep
 stays_in_step s past l r c u n e d z = (here s d past e (kept_all s r past l c (few_once (taken_requests past) u) n d z)).on

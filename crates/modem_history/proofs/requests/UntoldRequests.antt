@@ -50,6 +50,7 @@ not_its r o (q ∷ qs) h k =
     by_test true e a m go = apart_differ q r o (is_for r o) refl a e
     by_test false e a m go = go m
 
+-- where outcomes are all of some requests, a request apart from these has none
 pub no_outcome : (r : Request) (qs : List Request) (os : List Outcome) → all_apart r qs ≡ true → list_all (λ o. list_any (λ q. is_for q o) qs) os ≡ true → list_any (λ o. is_for r o) os ≡ false
 no_outcome r qs [] h k = refl
 no_outcome r qs (o ∷ os) h k =
@@ -115,6 +116,7 @@ one_more os o qs =
 last_waits : (os : List Outcome) (r : Request) → list_any (λ o. is_for r o) os ≡ false → filter (waits_yet os) (r ∷ []) ≡ r ∷ []
 last_waits os r h = ap (λ (b : Bool). if not b then r ∷ [] else []) h
 
+-- in a lawful history of distinct requests those in hand are those taken and not told
 pub hand_is : (s : Setting) (past : List Act) → Lawful s past → are_distinct (taken_requests past) ≡ true → in_hand past ≡ untold past
 unfolding Lawful
 hand_is s [] l d = refl

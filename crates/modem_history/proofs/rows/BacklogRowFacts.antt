@@ -13,9 +13,11 @@ use Rattle.modem_history.specs.BacklogRows.{BacklogRow, CountsByConnection, IsHe
 use Rattle.modem_history.proofs.rows.HistoryTests.{all_below}
 use Rattle.modem_history.proofs.rows.TurnTests.{holds_below}
 
+-- lines that wait count where they came, all kinds alike
 pub counts_by_connection : CountsByConnection
 counts_by_connection = record { none = refl; on_one = refl; on_two = refl; on_three = refl; of_none = refl; many = refl }
 
+-- a turn may hold a connection where 256 of its lines wait, not where 255 do; it may free it where 127 do, not where 128 do
 pub may_hold_and_free : MayHoldAndFree
 may_hold_and_free = record { holds = refl; holds_early = refl; holds_another = refl; frees = refl; frees_early = refl; frees_another = refl }
 
@@ -65,6 +67,7 @@ each_by (row ∷ rows) h =
     let parts = and_parts (row_test row) (rows_test rows) h in
     (held_by row.view (after [] row.acts) parts.0, each_by rows parts.1)
 
+-- in each right row the connections are held by their backlogs
 pub all_rightly_held : Each IsHeldRight rightly_held
 all_rightly_held = each_by rightly_held refl
 
@@ -76,6 +79,7 @@ never e = cc
 never_back : true ≡ false → ⊥
 never_back e = cc
 
+-- and in no wrong one
 pub all_wrongly_held : Each IsHeldWrong wrongly_held
 all_wrongly_held = (
   (λ h. never (h.many 1 (lit< tt) refl refl (lit≤ tt))),
@@ -105,6 +109,7 @@ all_wrongly_held = (
 
 -- ## A full control queue
 
+-- in each of these rows they are held so, or no MSC has a place
 pub all_held_or_full : Each IsHeldOrFull held_or_full
 all_held_or_full = (inr (λ d. lit< tt), (inr (λ d. lit< tt), (inl all_rightly_held.0, (inr (λ d. lit< tt), tt))))
 
@@ -113,6 +118,7 @@ has_place : {P : Type 0} (n : ℕ) → P ⊎ ((d : ℕ) → 4127 < n) → n ≤ 
 has_place n (inl h) few = h
 has_place n (inr h) few = let x : 4127 < n = h 1 in let y : ⊥ = omega (arith, x, few) in absurd y
 
+-- and in each of the others they aren't, though an MSC has a place
 pub all_neither : Each IsNeither neither_held_nor_full
 all_neither = (
   (λ h. never ((has_place 4127 h (lit≤ tt)).many 1 (lit< tt) refl refl (lit≤ tt))),

@@ -106,5 +106,6 @@ blocked_with_untried_wrong turn = empty_not (turn.exchanges.hands_back.lines Rin
 blocked_by_another_ring_wrong : IsWrongExchange blocked_by_another_ring
 blocked_by_another_ring_wrong turn = empty_not (turn.exchanges.hands_back.lines Creg)
 
+-- none of the wrong exchanges is that of its turn
 pub all_wrong_exchanges : Each IsWrongExchange wrong_exchanges
 all_wrong_exchanges = (moved_by_fewer_wrong, (moved_unasked_wrong, (idle_unasked_wrong, (idle_without_room_wrong, (idle_unread_wrong, (full_unasked_wrong, (full_without_room_wrong, (full_of_later_wrong, (full_of_more_wrong, (full_of_none_wrong, (waiting_unasked_wrong, (waiting_without_room_wrong, (waiting_unoffered_wrong, (waiting_for_its_like_wrong, (waiting_offered_on_wrong, (waiting_with_untried_wrong, (blocked_unasked_wrong, (blocked_without_room_wrong, (blocked_unoffered_wrong, (blocked_offered_on_wrong, (blocked_with_untried_wrong, (blocked_by_another_ring_wrong, tt))))))))))))))))))))))

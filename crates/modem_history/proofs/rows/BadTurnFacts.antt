@@ -389,5 +389,6 @@ held_too_early_wrong t turn =
 moved_by_dropped_request_wrong : IsWrongTurn moved_by_dropped_request
 moved_by_dropped_request_wrong t turn = never turn.moved
 
+-- none of the wrong turns is a turn, whatever it exchanged with its line and its desk
 pub all_wrong_turns : Each IsWrongTurn wrong_turns
 all_wrong_turns = (idle_with_frame_wrong, (idle_with_unfed_wrong, (idle_half_unfed_wrong, (idle_with_unsent_wrong, (idle_with_queued_wrong, (idle_with_outcome_wrong, (idle_with_line_wrong, (idle_with_command_wrong, (idle_after_read_wrong, (idle_without_read_wrong, (idle_though_told_wrong, (idle_though_sent_wrong, (idle_though_announced_wrong, (idle_with_lost_frame_wrong, (idle_with_dropped_request_wrong, (idle_and_still_held_wrong, (idle_and_failed_wrong, (moved_by_nothing_wrong, (moved_by_a_mark_wrong, (unfed_grows_wrong, (full_unoffered_wrong, (full_but_taken_wrong, (full_of_nothing_wrong, (full_without_read_wrong, (full_with_frame_wrong, (full_with_unfed_wrong, (full_with_test_wrong, (full_though_told_wrong, (full_though_read_wrong, (full_though_taken_wrong, (full_with_dropped_request_wrong, (full_and_not_held_wrong, (full_and_still_held_wrong, (full_and_failed_wrong, (waiting_but_told_wrong, (waiting_for_another_wrong, (waiting_for_the_greater_wrong, (waiting_with_unsent_wrong, (waiting_with_frame_wrong, (waiting_without_read_wrong, (waiting_for_none_wrong, (waiting_untried_wrong, (waiting_half_unfed_wrong, (waiting_with_lost_frame_wrong, (waiting_with_queued_wrong, (waiting_with_command_wrong, (waiting_and_not_held_wrong, (waiting_and_still_held_wrong, (waiting_and_failed_wrong, (blocked_by_none_wrong, (blocked_by_a_later_wrong, (blocked_with_command_wrong, (blocked_and_not_held_wrong, (blocked_and_still_held_wrong, (blocked_by_another_wrong, (blocked_though_announced_wrong, (blocked_untried_wrong, (blocked_with_unsent_wrong, (blocked_with_outcome_wrong, (blocked_with_frame_wrong, (blocked_half_unfed_wrong, (blocked_without_read_wrong, (blocked_with_queued_wrong, (blocked_and_failed_wrong, (tick_in_a_turn_wrong, (loss_in_a_turn_wrong, (failed_and_moved_wrong, (three_calls_wrong, (read_twice_wrong, (read_while_unfed_wrong, (two_frames_wrong, (two_requests_wrong, (told_at_once_wrong, (held_too_early_wrong, (moved_by_dropped_request_wrong, tt)))))))))))))))))))))))))))))))))))))))))))))))))))))))))))))))))))))))))))

@@ -137,6 +137,7 @@ failed_reading_right = record {
   means = refl;
 }
 
+-- each right entry is one
 pub all_right_entries : Each IsRightEntry right_entries
 all_right_entries = (
   entered_right,
@@ -306,6 +307,7 @@ failed_without_fault_wrong i = numbers_differ 0 1 refl i.failed
 fault_passed_over_wrong : IsWrongEntry fault_passed_over
 fault_passed_over_wrong i = numbers_differ 1 0 refl i.failed
 
+-- and no wrong one is
 pub all_wrong_entries : Each IsWrongEntry wrong_entries
 all_wrong_entries = (entered_on_error_wrong, (refused_on_ok_wrong, (read_on_wrong, (entered_at_second_wrong, (entered_by_old_ok_wrong, (entered_half_sent_wrong, (read_before_wrong, (sent_more_wrong, (sent_another_wrong, (read_without_room_wrong, (offered_nothing_wrong, (gave_up_too_soon_wrong, (gave_up_on_ok_wrong, (called_too_often_wrong, (failed_without_fault_wrong, (fault_passed_over_wrong, tt))))))))))))))))
 
@@ -320,6 +322,7 @@ outcome_handed_back_right = record { line_stays = refl; desk_stays = refl; hand_
 line_handed_back_right : IsRightEnd line_handed_back
 line_handed_back_right = record { line_stays = refl; desk_stays = refl; hand_is = refl; unplaced_are = refl; unannounced_are = refl }
 
+-- each right end is what `finish` gives
 pub all_right_ends : Each IsRightEnd right_ends
 all_right_ends = (both_handed_back_right, (outcome_handed_back_right, (line_handed_back_right, tt)))
 
@@ -347,6 +350,7 @@ line_called_wrong f = numbers_differ 41 40 refl (ap (λ (l : LineView). l.calls)
 told_at_end_wrong : IsWrongEnd told_at_end
 told_at_end_wrong f = outcomes_differ _ _ refl (ap (λ (d : EndView). at_place 0 d.told) f.desk_stays)
 
+-- and no wrong one is
 pub all_wrong_ends : Each IsWrongEnd wrong_ends
 all_wrong_ends = (
   first_left_out_wrong,

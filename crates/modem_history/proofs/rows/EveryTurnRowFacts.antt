@@ -177,6 +177,7 @@ waits_steps =
       asks = record { asks = λ e. no_request e; found_none = refl };
     }
 
+-- these turns take all their steps, and count only what moved nothing, found no request or was handed back
 pub take_their_steps : TakeTheirSteps
 take_their_steps = record {
   writes = writes_steps;
@@ -336,6 +337,7 @@ leaves_an_outcome_skips t turn steps =
     let one : 0 ≡ counted 0 1 = steps.offers.outcomes_back 0 (lit< tt) ∙ ap (λ (os : List Outcome). counted 0 (length os)) back in
     omega (arith, one)
 
+-- each of the skipping turns leaves a step out, whatever it exchanged
 pub all_skip : Each SkipsAStep skipping_turns
 all_skip = (offers_nothing_skips, (reads_without_room_skips, (asks_for_none_skips, (looks_at_no_backlog_skips, (puts_half_skips, (leaves_an_outcome_skips, tt))))))
 
@@ -394,5 +396,6 @@ leaves_an_outcome_seems =
     let t = reads_octets lf_octet (outcome_back (outcome_of 1 Opened)) in
     seems row t (turn_by row.old row.new t (after [] row.before) row.acts row.says refl refl refl (lit≤ tt) refl (record { outcomes = one_back (outcome_of 1 Opened); lines = λ k. refl }) tt)
 
+-- and yet each of them ends in its answer, by some exchange
 pub all_seem : Each SeemsATurn skipping_turns
 all_seem = (offers_nothing_seems, (reads_without_room_seems, (asks_for_none_seems, (looks_at_no_backlog_seems, (puts_half_seems, (leaves_an_outcome_seems, tt))))))

@@ -61,6 +61,7 @@ memory_right = record {
   };
 }
 
+-- right are the faults at a write that fails, in a later turn, and where there is no memory
 pub are_right_faults : AreRightFaults
 are_right_faults = record { first = first_right; later = later_right; memory = memory_right }
 
@@ -126,6 +127,7 @@ failure_passed_over_wrong t f = numbers_differ 1 0 refl f.means.sound
 places_faulty_wrong : IsWrongFault places_faulty
 places_faulty_wrong t f = numbers_differ 1 0 refl f.means.sound
 
+-- none of the wrong faults is one, whatever the turn exchanged
 pub all_wrong_faults : Each IsWrongFault wrong_faults
 all_wrong_faults = (fails_unfailed_wrong, (lost_before_wrong, (failed_too_soon_wrong, (calls_lost_line_wrong, (memory_for_loss_wrong, (loss_untold_wrong, (loss_and_request_wrong, (sends_behind_loss_wrong, (feeds_when_lost_wrong, (goes_on_faulty_wrong, (failure_passed_over_wrong, (places_faulty_wrong, tt))))))))))))
 
@@ -137,6 +139,7 @@ sends_again_right = record { live = refl; more = drop 1 sends_again.acts; acts_a
 only_ticks_right : IsRightTick only_ticks
 only_ticks_right = record { live = refl; more = []; acts_are = refl; follow = refl; line_stays = refl; desk_stays = refl; unfed_stay = refl }
 
+-- each right tick is one
 pub all_right_ticks : Each IsRightTick right_ticks
 all_right_ticks = (sends_again_right, (only_ticks_right, tt))
 
@@ -158,5 +161,6 @@ ticks_when_lost_wrong k = never_back k.live
 data_at_tick_wrong : IsWrongTick data_at_tick
 data_at_tick_wrong k = never (ap (list_all is_said) (ap (drop 1) k.acts_are) ∙ k.follow)
 
+-- and no wrong one is
 pub all_wrong_ticks : Each IsWrongTick wrong_ticks
 all_wrong_ticks = (tick_left_out_wrong, (two_ticks_wrong, (data_at_tick_wrong, (places_at_tick_wrong, (ticks_when_lost_wrong, tt)))))

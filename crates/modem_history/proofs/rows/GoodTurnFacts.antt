@@ -301,6 +301,7 @@ idles_on_right = record {
       });
 }
 
+-- each right turn is one, by its exchange, and its session fits before it and after it
 pub are_right : AreRightTurns
 are_right = record {
   writes = writes_right;

@@ -326,6 +326,7 @@ not_sent_unquiet = unquiet (replaying 31) (after [] not_sent) 1 (lit< tt) refl
 half_sent_unquiet : IsUnquiet half_sent
 half_sent_unquiet = unquiet (replaying 31) (after [] half_sent) 1 (lit< tt) refl
 
+-- each good history is lawful, complete and quiet
 pub all_good : AllAre IsGood good_rows
 all_good = (
   csq_good,
@@ -428,6 +429,7 @@ all_good = (
   ),
 )
 
+-- no refused one is lawful
 pub all_refused : AllAre IsRefused refused_rows
 all_refused = (
   answer_to_the_second_refused,
@@ -611,6 +613,7 @@ all_refused = (
   ),
 )
 
+-- no incomplete one is complete
 pub all_incomplete : AllAre IsIncomplete incomplete_rows
 all_incomplete = (
   ring_dropped_incomplete,
@@ -632,6 +635,7 @@ all_incomplete = (
   ),
 )
 
+-- no unquiet one is quiet
 pub all_unquiet : AllAre IsUnquiet unquiet_rows
 all_unquiet =
     (not_sent_unquiet, (half_sent_unquiet, tt))

@@ -30,6 +30,7 @@ use Rattle.modem_history.proofs.law_proofs.WholeHistories.{call_goes_on}
 
 -- ## Tests
 
+-- the list is empty
 abbrev pub is_nil : {A : Type 0} → List A → Bool
 is_nil [] = true
 is_nil (x ∷ xs) = false
@@ -47,6 +48,7 @@ data_test s past d info =
     && (starts_with nat_eq (concat (texts (accepted s.role d past))) (information_out s.role d past ++ info)
     && nat_le (reached_in (length (information_out s.role d past ++ info)) (texts (accepted s.role d past))) (answered s.dialect (marks s.role d past) + 1))))))))
 
+-- a connection may be held, or freed, where the act does so
 abbrev pub held_test : Setting → List Act → Act → Bool
 held_test s past (Held d) = may_hold s.role d past
 held_test s past (Freed d) = is_held s.role d past
@@ -60,20 +62,24 @@ pub data Step : Type 0 where
   Data : (dlci : ℕ) → (info : List ℕ) → Step
   Mark : Step
 
+-- the step may follow the past
 abbrev pub step_test : Setting → List Act → Step → Bool
 step_test s past (Call a) = is_first a && held_test s past a
 step_test s past (Data d info) = not (d == 0) && data_test s past d info
 step_test s past Mark = some_wait (queue (wire past))
 
+-- the past after the step: a call with all that it calls for, a data frame as this end writes it, or a mark
 abbrev pub step_on : Setting → List Act → Step → List Act
 step_on s past (Call a) = after past (a ∷ calls s past a)
 step_on s past (Data d info) = Sent (written s.role Uih d info) ∷ past
 step_on s past Mark = Given ∷ past
 
+-- each step may follow what went before it
 abbrev pub steps_test : Setting → List Act → List Step → Bool
 steps_test s past [] = true
 steps_test s past (x ∷ xs) = step_test s past x && steps_test s (step_on s past x) xs
 
+-- the past after these steps
 abbrev pub run : Setting → List Act → List Step → List Act
 run s past [] = past
 run s past (x ∷ xs) = run s (step_on s past x) xs
@@ -83,6 +89,7 @@ abbrev pub steps_at : Frame → Bool → List Step → List Step
 steps_at f true rest = Data f.dlci f.info ∷ rest
 steps_at f false rest = rest
 
+-- a call for each act that begins one, data and marks; what is called for has no step of its own
 abbrev pub steps_of : List Act → List Step
 steps_of [] = []
 steps_of (Sent f ∷ acts) = steps_at f (is_data_frame f) (steps_of acts)
@@ -193,9 +200,11 @@ holds_below test (suc n) d h small =
     let parts = and_parts (test n) (all_below test n) h in
     last_or_below test n d (d == n) refl parts.0 (holds_below test n d parts.1) small
 
+-- d is 0, shut or stopped, or else waits for one answer or has them all
 abbrev pub quiet_at : Setting → List Act → ℕ → Bool
 quiet_at s past d = (d == 0) || (not (is_open s.role d (wire past)) || (is_stopped s.role d (wire past) || is_quiet_on s d past))
 
+-- so is each connection
 abbrev pub quiet_test : Setting → List Act → Bool
 quiet_test s past = all_below (quiet_at s past) 62
 
@@ -219,6 +228,7 @@ good s acts h e q =
 
 -- ## Refused histories
 
+-- numbers of an answer
 abbrev pub answer_code : Answer → List ℕ
 answer_code (Done ls) = 0 ∷ flat_map (λ (l : AnswerLine). length l.text ∷ l.text) ls
 answer_code Opened = 1 ∷ []
@@ -234,10 +244,12 @@ answer_code ControlChannel = 10 ∷ []
 answer_code LineLost = 11 ∷ []
 answer_code Busy = 12 ∷ []
 
+-- 1 for true, 0 for false
 abbrev pub bit : Bool → ℕ
 bit true = 1
 bit false = 0
 
+-- the number of a kind of lines
 abbrev pub kind_code : UrcKind → ℕ
 kind_code Ring = 0
 kind_code Cring = 1
@@ -255,6 +267,7 @@ act_code (Sent f) = 2 ∷ kind_place f.kind ∷ f.dlci ∷ bit f.cr ∷ bit f.pf
 act_code (Heard kind d line) = 3 ∷ kind_code kind ∷ d ∷ line
 act_code _ = []
 
+-- numbers of the next act owed; none where nothing is owed
 abbrev pub next_code : List Act → List ℕ
 next_code [] = []
 next_code (a ∷ owing) = act_code a
@@ -267,6 +280,7 @@ other_test owing a = not (bytes_eq (next_code owing) (act_code a))
 abbrev pub unwritten : Setting → Frame → Bool
 unwritten s f = not (beq f.cr (written_cr s.role f.kind)) || f.pf
 
+-- the frame sent may not follow: data that isn't as written or fails its test, or a control frame that isn't the next owed
 abbrev pub sent_refused : Setting → List Act → Frame → Bool → Bool
 sent_refused s past f true = unwritten s f || not (data_test s past f.dlci f.info)
 sent_refused s past f false = other_test (owed s past) (Sent f)
@@ -385,6 +399,7 @@ refused_act s past (Freed d) l h = by_either (either (owes_frame (owed s past)) 
     by_either (inr k) = no_test (is_held s.role d past) l.held k
 refused_act s past Given l h = no_test (some_wait (queue (wire past))) l.marked h
 
+-- a history in which some act may not stand where it stands isn't lawful
 pub refused : (s : Setting) (past : List Act) → refusal_test s past ≡ true → ¬ Lawful s past
 unfolding Lawful
 refused s [] h l = cc
@@ -403,6 +418,7 @@ incomplete s past h c = clash (is_nil (owed s past)) h (nil_is (owed s past) c)
 abbrev pub unquiet_test : Setting → List Act → ℕ → Bool
 unquiet_test s past d = not (d == 0) && (is_open s.role d (wire past) && (not (is_stopped s.role d (wire past)) && not (is_quiet_on s d past)))
 
+-- a history with such a connection isn't quiet
 pub unquiet : (s : Setting) (past : List Act) (d : ℕ) → d < 62 → unquiet_test s past d ≡ true → ¬ Quiet s past
 unfolding Quiet
 unquiet s past d small h q =

@@ -30,15 +30,18 @@ step_by_rule s past (Call a) = after past (a ∷ calls s past a)
 step_by_rule s past (Data d info) = after_out s past
 step_by_rule s past Mark = after_out s past
 
+-- a call may begin there; data and marks take whatever goes out next
 abbrev pub may_step : Setting → List Act → Step → Bool
 may_step s past (Call a) = may_begin s past a
 may_step s past (Data d info) = true
 may_step s past Mark = true
 
+-- the past after these steps, each by its rule
 abbrev pub run_by_rules : Setting → List Act → List Step → List Act
 run_by_rules s past [] = past
 run_by_rules s past (x ∷ xs) = run_by_rules s (step_by_rule s past x) xs
 
+-- each step may follow what went before it
 abbrev pub may_run : Setting → List Act → List Step → Bool
 may_run s past [] = true
 may_run s past (x ∷ xs) = may_step s past x && may_run s (step_by_rule s past x) xs
@@ -54,9 +57,11 @@ run_made s past (x ∷ xs) h m =
     let parts = and_parts (may_step s past x) (may_run s (step_by_rule s past x) xs) h in
     run_made s (step_by_rule s past x) xs parts.1 (step_made s past x parts.0 m)
 
+-- the steps of these acts may be run by the rules, with N1 31
 abbrev pub may_be_run : List Act → Bool
 may_be_run acts = may_run (replaying 31) [] (steps_of acts)
 
+-- the history that they make there
 abbrev pub run_of : List Act → List Act
 run_of acts = run_by_rules (replaying 31) [] (steps_of acts)
 
@@ -72,6 +77,7 @@ made_rows (row ∷ rows) h e =
     let same : run_of row ≡ after [] row = ap first_of_rows e in
     (subst (Made (replaying 31)) same (run_made (replaying 31) [] (steps_of row) parts.0 (nothing (lit≤ tt))), made_rows rows parts.1 (ap (λ (xs : List (List Act)). drop 1 xs) e))
 
+-- the rules make each of the good histories
 pub all_made : AllAre IsMade good_rows
 all_made = made_rows good_rows refl refl
 
@@ -85,9 +91,11 @@ incomplete_unmade : (rows : List (List Act)) → AllAre IsIncomplete rows → Al
 incomplete_unmade [] h = tt
 incomplete_unmade (row ∷ rows) h = ((λ m. let k = laws_of m in h.0 k.complete), incomplete_unmade rows h.1)
 
+-- they make none of the refused ones
 pub none_refused : AllAre IsUnmade refused_rows
 none_refused = refused_unmade refused_rows all_refused
 
+-- and none of the incomplete ones
 pub none_incomplete : AllAre IsUnmade incomplete_rows
 none_incomplete = incomplete_unmade incomplete_rows all_incomplete
 
@@ -127,10 +135,12 @@ outs_in_turn s (Held d ∷ past) t = outs_in_turn s past t.1
 outs_in_turn s (Freed d ∷ past) t = outs_in_turn s past t.1
 outs_in_turn s (Given ∷ past) t = outs_in_turn s past t.1
 
+-- numbers of a frame that goes out; none where none does
 abbrev pub out_code : Option Outgoing → List ℕ
 out_code None = []
 out_code (Some o) = act_code (Sent o.frame)
 
+-- numbers of all of them, joined
 abbrev pub outs_code : List (Option Outgoing) → List ℕ
 outs_code os = flat_map out_code os
 
@@ -144,6 +154,7 @@ untimely acts h m =
 taken_past_128_unmade : IsUnmade taken_past_128
 taken_past_128_unmade m = let few : 128 < 128 = (laws_of m).room.0 in omega (arith, few)
 
+-- the rules make none of the histories that are broken into, out of turn or past the bound
 pub all_unmade : AllAre IsUnmade unmade_rows
 all_unmade = (
   broken told_behind_the_next refl,

@@ -32,10 +32,12 @@ nothing_yet_right : IsRight nothing_yet
 unfolding check_octet_of body_of verdict_on by_header by_end
 nothing_yet_right = fits_none nothing_yet [] [] 0 refl refl refl (read_in [] refl) (read_in [] refl) refl
 
+-- the SABM waits in the control queue: the session fits
 pub sabm_queued_right : IsRight sabm_queued
 unfolding check_octet_of body_of verdict_on by_header by_end
 sabm_queued_right = fits_none sabm_queued lf_octet [] 0 refl refl refl (read_in lf_octet refl) (read_in [] refl) refl
 
+-- it fits with two octets of the SABM sent and four that wait
 pub sabm_half_sent_right : IsRight sabm_half_sent
 unfolding check_octet_of body_of verdict_on by_header by_end
 sabm_half_sent_right = fits_none sabm_half_sent lf_octet [] 2 refl refl refl (read_in lf_octet refl) (read_in [] refl) refl
@@ -44,14 +46,17 @@ ua_unfed_right : IsRight ua_unfed
 unfolding check_octet_of body_of verdict_on by_header by_end
 ua_unfed_right = fits_none ua_unfed lf_octet [] 6 refl refl refl (read_in lf_octet refl) (read_in [] refl) refl
 
+-- with 0 open, and the caller told
 pub zero_opened_right : IsRight zero_opened
 unfolding check_octet_of body_of verdict_on by_header by_end
 zero_opened_right = fits_none zero_opened zero_came last_flag 6 refl refl refl (read_in zero_came refl) (read_in last_flag refl) refl
 
+-- with 0 open, and the outcome that waits for a place
 pub outcome_waits_right : IsRight outcome_waits
 unfolding check_octet_of body_of verdict_on by_header by_end
 outcome_waits_right = fits_none outcome_waits zero_came last_flag 6 refl refl refl (read_in zero_came refl) (read_in last_flag refl) refl
 
+-- with the command sent, which waits for its answer
 pub csq_sent_right : IsRight csq_sent
 unfolding check_octet_of body_of verdict_on by_header by_end
 csq_sent_right = fits_none csq_sent one_came last_flag 13 refl refl refl (read_in one_came refl) (read_in last_flag refl) refl
@@ -60,6 +65,7 @@ ring_announced_right : IsRight ring_announced
 unfolding check_octet_of body_of verdict_on by_header by_end
 ring_announced_right = fits_none ring_announced (one_came ++ ring_one) last_flag 10 refl refl refl (read_in (one_came ++ ring_one) refl) (read_in last_flag refl) refl
 
+-- with the RING that waits for a place
 pub ring_waits_right : IsRight ring_waits
 unfolding check_octet_of body_of verdict_on by_header by_end
 ring_waits_right = fits_none ring_waits (one_came ++ ring_one) last_flag 10 refl refl refl (read_in (one_came ++ ring_one) refl) (read_in last_flag refl) refl
@@ -74,6 +80,7 @@ ua_next = record {
   spells = record { indicator = 1 ∷ []; octets = refl; dlci = lit< tt; indicates = short 0 (lit< tt); room = lit≤ tt };
 }
 
+-- it fits with the UA at hand
 pub ua_at_hand_right : IsRight ua_at_hand
 unfolding check_octet_of body_of verdict_on by_header by_end
 ua_at_hand_right = fits_by ua_at_hand zero_came 6 refl refl (record {
@@ -92,6 +99,7 @@ ring_next = record {
   spells = record { indicator = 0x11 ∷ []; octets = refl; dlci = lit< tt; indicates = short 8 (lit< tt); room = lit≤ tt };
 }
 
+-- and with RING at hand, whose first flag ended the frame before it
 pub ring_comes_right : IsRight ring_comes
 unfolding check_octet_of body_of verdict_on by_header by_end
 ring_comes_right = fits_by ring_comes (one_came ++ drop 1 ring_one) 10 refl refl (record {
@@ -100,10 +108,12 @@ ring_comes_right = fits_by ring_comes (one_came ++ drop 1 ring_one) 10 refl refl
   octets = small_octets ring_one refl;
 })
 
+-- it fits after a call that failed, with the LineLost that waits for a place
 pub line_lost_right : IsRight line_lost
 unfolding check_octet_of body_of verdict_on by_header by_end
 line_lost_right = fits_none line_lost zero_came last_flag 2 refl refl refl (read_in zero_came refl) (read_in last_flag refl) refl
 
+-- each right session fits its history
 pub all_right : Each IsRight right_sessions
 all_right = (nothing_yet_right, (sabm_queued_right, (sabm_half_sent_right, (ua_unfed_right, (ua_at_hand_right, (zero_opened_right, (outcome_waits_right, (csq_sent_right, (ring_announced_right, (ring_comes_right, (ring_waits_right, (line_lost_right, tt))))))))))))
 
@@ -287,5 +297,6 @@ sound_line_lost_wrong f = let failed : 0 < 0 = f.loss.by_fault refl in omega ari
 lost_twice_wrong : IsWrong lost_twice
 lost_twice_wrong f = let few : 2 ≤ 1 = f.loss.one in omega arith
 
+-- and no wrong one does
 pub all_wrong : Each IsWrong wrong_sessions
 all_wrong = (written_twice_wrong, (octet_left_out_wrong, (octet_waits_again_wrong, (marked_too_early_wrong, (marked_too_late_wrong, (two_marked_wrong, (data_overtakes_octets_wrong, (data_overtakes_frame_wrong, (half_a_frame_wrong, (octets_of_none_wrong, (broken_frame_got_wrong, (got_too_soon_wrong, (got_unfed_wrong, (frame_dropped_wrong, (flag_dropped_wrong, (other_n1_wrong, (request_dropped_wrong, (request_invented_wrong, (number_twice_wrong, (caller_unknown_wrong, (sound_line_lost_wrong, (lost_twice_wrong, (told_and_kept_wrong, (outcome_dropped_wrong, (told_to_another_wrong, (told_by_number_wrong, (told_in_other_order_wrong, (not_told_at_all_wrong, (announced_out_of_order_wrong, (announced_elsewhere_wrong, (announced_twice_wrong, (line_dropped_wrong, (unheard_line_waits_wrong, (lines_change_places_wrong, (announced_beyond_wrong, tt)))))))))))))))))))))))))))))))))))

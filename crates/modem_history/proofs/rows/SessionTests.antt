@@ -51,24 +51,31 @@ clash : (b : Bool) → b ≡ false → b ≡ true → ⊥
 clash true h k = cc
 clash false h k = cc
 
+-- octets that fail to be equal one by one aren't the same
 pub octets_differ : (xs ys : List ℕ) → bytes_eq xs ys ≡ false → xs ≡ ys → ⊥
 octets_differ xs ys h e = clash (bytes_eq xs ys) h (same_octets xs ys e)
 
+-- numbers of all these acts, joined
 abbrev pub acts_code : List Act → List ℕ
 acts_code acts = flat_map act_code acts
 
+-- acts with other numbers aren't the same
 pub acts_differ : (xs ys : List Act) → bytes_eq (acts_code xs) (acts_code ys) ≡ false → xs ≡ ys → ⊥
 acts_differ xs ys h e = octets_differ (acts_code xs) (acts_code ys) h (ap acts_code e)
 
+-- numbers of outcomes, as those of the acts that tell them
 abbrev pub outcomes_code : List Outcome → List ℕ
 outcomes_code os = acts_code (map Told os)
 
+-- outcomes with other numbers aren't the same
 pub outcomes_differ : (xs ys : List Outcome) → bytes_eq (outcomes_code xs) (outcomes_code ys) ≡ false → xs ≡ ys → ⊥
 outcomes_differ xs ys h e = octets_differ (outcomes_code xs) (outcomes_code ys) h (ap outcomes_code e)
 
+-- the number of each of these requests
 abbrev pub numbers_of : List Request → List ℕ
 numbers_of qs = map (λ (q : Request). q.number) qs
 
+-- requests with other numbers aren't the same
 pub requests_differ : (xs ys : List Request) → bytes_eq (numbers_of xs) (numbers_of ys) ≡ false → xs ≡ ys → ⊥
 requests_differ xs ys h e = octets_differ (numbers_of xs) (numbers_of ys) h (ap numbers_of e)
 
@@ -119,15 +126,18 @@ abbrev pub one_out : Frame → Bool → List (Option Outgoing)
 one_out f true = Some (with_freshness true f) ∷ []
 one_out f false = []
 
+-- those that were sent
 abbrev pub data_out : List Act → List (Option Outgoing)
 data_out [] = []
 data_out (Sent f ∷ past) = one_out f (is_data_frame f) ++ data_out past
 data_out (_ ∷ past) = data_out past
 
+-- what was next before a frame, where it is data; else nothing
 abbrev pub one_next : Setting → List Act → Bool → List (Option Outgoing)
 one_next s past true = next_out s past ∷ []
 one_next s past false = []
 
+-- what the next one was at each of them
 abbrev pub next_outs : Setting → List Act → List (Option Outgoing)
 next_outs s [] = []
 next_outs s (Sent f ∷ past) = one_next s past (is_data_frame f) ++ next_outs s past
@@ -155,6 +165,7 @@ sends_in_turn s (Held d ∷ past) e = (tt, sends_in_turn s past e)
 sends_in_turn s (Freed d ∷ past) e = (tt, sends_in_turn s past e)
 sends_in_turn s (Given ∷ past) e = (tt, sends_in_turn s past e)
 
+-- the rules make a history whose steps may follow and lead to it, that is quiet, of whole calls with room, and with data in turn
 pub history_is : (b : Beginning) (acts : List Act) → 1 ≤ b.n1 → steps_test (driving b) [] (steps_of acts) ≡ true
     → run (driving b) [] (steps_of acts) ≡ after [] acts → quiet_test (driving b) (after [] acts) ≡ true
     → (calls_test (driving b) (after [] acts) && room_test (after [] acts)) ≡ true → data_out (after [] acts) ≡ next_outs (driving b) (after [] acts) → Made (driving b) (after [] acts)
@@ -171,10 +182,12 @@ history_is b acts low h e q k n =
 
 -- ## Octets that come
 
+-- all are less than 256
 abbrev pub all_small : List ℕ → Bool
 all_small [] = true
 all_small (x ∷ xs) = nat_lt x 256 && all_small xs
 
+-- numbers less than 256 are octets
 pub small_octets : (xs : List ℕ) → all_small xs ≡ true → AreOctets xs
 small_octets [] e i = lit< tt
 small_octets (x ∷ xs) e zero = ltb-true x 256 (and_parts (nat_lt x 256) (all_small xs) e).0
@@ -184,9 +197,11 @@ small_octets (x ∷ xs) e (suc i) = small_octets xs (and_parts (nat_lt x 256) (a
 abbrev pub frames_in : List ℕ → List Frame
 frames_in s = (found_in 31 (length s) s).frames
 
+-- and what is left behind it
 abbrev pub rest_of : List ℕ → List ℕ
 rest_of s = (found_in 31 (length s) s).rest
 
+-- octets are read so, with N1 31
 pub read_in : (s : List ℕ) → all_small s ≡ true → Reads 31 s (frames_in s) (rest_of s)
 read_in s e = found_reads 31 (length s) s (omega arith) (small_octets s e)
 
@@ -204,6 +219,7 @@ pub record IsRead (taken_requests : List ℕ) (handed : List Frame) (kept : List
   pub frames : frames_in taken_requests ≡ handed
   pub rest : rest_of taken_requests ≡ kept
 
+-- so it is, with N1 31
 pub is_read : (taken_requests : List ℕ) (handed : List Frame) (d : Deframing) → Deframes taken_requests handed d → d.n1 ≡ 31 → d.next ≡ None → all_small taken_requests ≡ true → IsRead taken_requests handed d.undecided
 is_read taken_requests handed d deframes n1 none small =
     let reads = subst (λ n. Reads n taken_requests handed d.undecided) n1 (past_all taken_requests handed d deframes none) in
@@ -272,6 +288,7 @@ some_is k m P e p = subst P (some_eq e) p
     some_eq : some k ≡ some m → k ≡ m
     some_eq h = cc
 
+-- what holds at each place of a list holds of the kind found there
 pub at_each : (P : ℕ → UrcKind → Type 0) (ks : List UrcKind) → AtEach P ks → (i : ℕ) (m : UrcKind) → get_elem? ks i ≡ some m → P i m
 at_each P [] h i m e = cc
 at_each P (k ∷ ks) h zero m e = some_is k m (P zero) e h.0
@@ -361,6 +378,7 @@ lost_by : (lost : Bool) (failures : ℕ) → (not lost || nat_lt 0 failures) ≡
 lost_by true failures h e = ltb-true 0 failures h
 lost_by false failures h e = cc
 
+-- a row fits where its tests pass, both sides agree and its deframer took what was fed
 pub fits_by : (row : SessionRow) (fed : List ℕ) (written : ℕ) → row_test row ≡ true → seen_side row ≡ told_side row fed written
     → Deframes fed (gots (after [] row.acts)) row.view.deframer → IsRight row
 fits_by row fed written h e deframes =

@@ -31,6 +31,7 @@ pub record OfKinds (P : UrcKind → Type 0) : Type 0 where
   pub other : P Other
   pub own : (number : ℕ) → P (Own number)
 
+-- what holds of each of these, and of each kind of own codes, holds of every kind
 pub of_kinds : (P : UrcKind → Type 0) → OfKinds P → (k : UrcKind) → P k
 of_kinds P h Ring = h.ring
 of_kinds P h Cring = h.cring
@@ -46,6 +47,7 @@ own_place : (b : Bool) (number place : ℕ) → place < 7 → (7 + number == pla
 own_place false number place small e = refl
 own_place true number place small e = let same : 7 + number ≡ place = eqb-true (7 + number) place e in absurd (omega (arith, small, same))
 
+-- so it is for every number
 pub none_own : (number : ℕ) (lines : List Urc) → list_all (λ (u : Urc). nat_lt (kind_place u.kind) 7) lines ≡ true → of_kind (Own number) lines ≡ []
 none_own number [] h = refl
 none_own number (u ∷ lines) h =
@@ -53,6 +55,7 @@ none_own number (u ∷ lines) h =
     let other : (7 + number == kind_place u.kind) ≡ false = own_place (7 + number == kind_place u.kind) number (kind_place u.kind) (ltb-true (kind_place u.kind) 7 parts.0) refl in
     ap (λ (b : Bool). if b then u ∷ of_kind (Own number) lines else of_kind (Own number) lines) other ∙ none_own number lines parts.1
 
+-- so of one's own kinds the desk handed back the first that waits, since none does
 pub first_own : (number : ℕ) (back lines : List Urc) → list_all (λ (u : Urc). nat_lt (kind_place u.kind) 7) back ≡ true → list_all (λ (u : Urc). nat_lt (kind_place u.kind) 7) lines ≡ true
     → of_kind (Own number) back ≡ take 1 (of_kind (Own number) lines)
 first_own number back lines h k = none_own number back h ∙ sym (ap (take 1) (none_own number lines k))
@@ -65,11 +68,13 @@ one_taken false o = refl
 pub one_back : (o : Outcome) (c : ℕ) → caller_outcomes c (o ∷ []) ≡ take 1 (caller_outcomes c (o ∷ []))
 one_back o c = one_taken (o.caller == c) o
 
+-- where no outcome waits and none is handed back, it handed back the first of each caller
 pub no_outcomes_back : (still back : List Outcome) → still ≡ [] → back ≡ [] → (c : ℕ) → caller_outcomes c back ≡ take 1 (caller_outcomes c still)
 no_outcomes_back still back e h c = rw e (rw h refl)
 
 -- ## Backlogs
 
+-- no more lines pass a test than there are
 pub no_more : (test : Urc → Bool) (lines : List Urc) → length (filter test lines) ≤ length lines
 no_more test [] = omega arith
 no_more test (u ∷ lines) = by_test (test u) (no_more test lines)
@@ -82,6 +87,7 @@ last_or_below : (test : ℕ → Bool) (n d : ℕ) (b : Bool) → (d == n) ≡ b 
 last_or_below test n d true e here below small = subst (λ (m : ℕ). test m ≡ true) (sym (eqb-true d n e)) here
 last_or_below test n d false e here below small = let x : d ≢ n = eqb-false d n e in below (omega arith)
 
+-- what holds of all numbers below n holds of each
 pub holds_below : (test : ℕ → Bool) (n d : ℕ) → all_below test n ≡ true → d < n → test d ≡ true
 holds_below test zero d h small = let x : ⊥ = omega arith in absurd x
 holds_below test (suc n) d h small =
@@ -142,6 +148,7 @@ exchanged_side old t acts says = record {
   moved = says_moved says;
 }
 
+-- where both sides agree, all that had come was fed, and exchange and answer are right, it is a turn
 pub turn_by : (old new : SessionView) (t : Exchange) (past acts : List Act) (says : TurnAnswer) → after_side old new acts ≡ exchanged_side old t acts says
     → (list_all (may_act t.still_heard) acts && (nat_le (length new.unfed) (length old.unfed + length (octets_read t.read)) && nat_le (length (gots acts)) 1)) ≡ true
     → old.unfed ≡ [] → ReadHasRoom t.read → Offers t.write new.unwritten → HandsBack t → Means beginning new t past (after past acts) says → IsTurn beginning old new t past acts says

@@ -118,10 +118,12 @@ stands s (Sent f ∷ past) n l = by_kind (is_data_frame f) refl (stands s past n
     by_kind false e earlier =
         goes_on s past (Sent f) earlier (when_true (not (is_data_frame f)) (ap not e) l.lawful.0.controlled) (if_false (is_data_frame f) (owed s past) (drop 1 (owed s past)) e)
 
+-- so what keeps the laws the rules make, where a frame takes an octet at least
 pub made_by : (s : Setting) (past : List Act) → 1 ≤ s.n1 → KeepsLaws s past → Made s past
 unfolding Complete
 made_by s past n k = made s past (stands s past n (record { lawful = k.lawful; calls = k.calls; room = k.room; in_turn = k.in_turn })) k.complete
 
+-- and that is the law, of each setting and history
 pub lawful_is_made : (s : Setting) (past : List Act) → LawfulIsMade s past
 unfolding LawfulIsMade
 lawful_is_made s past n k = made_by s past n k

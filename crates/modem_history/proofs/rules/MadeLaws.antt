@@ -120,11 +120,13 @@ out_keeps s past _ n (fresh d none m) out next k = data_keeps s past d n none m 
 
 -- ## The law
 
+-- where the rules make a history, a frame takes an octet at least
 pub takes_octet : (s : Setting) (past : List Act) → Made s past → 1 ≤ s.n1
 takes_octet s _ (nothing n) = n
 takes_octet s _ (call past a m h) = takes_octet s past m
 takes_octet s _ (goes_out past o m h) = takes_octet s past m
 
+-- what the rules make keeps the laws
 pub keeps : (s : Setting) (past : List Act) → Made s past → KeepsLaws s past
 unfolding Lawful Complete
 keeps s _ (nothing n) = record { lawful = tt; complete = refl; calls = tt; room = tt; in_turn = tt }
@@ -133,9 +135,11 @@ keeps s _ (goes_out past o m h) =
     let out = leaves s past o h in
     out_keeps s past o (takes_octet s past m) out.next out h (keeps s past m)
 
+-- the same, where setting and history are plain from the rules
 pub laws_of : {s : Setting} {past : List Act} → Made s past → KeepsLaws s past
 laws_of {s} {past} m = keeps s past m
 
+-- and that is the law, of each setting and history
 pub made_keeps_laws : (s : Setting) (past : List Act) → MadeKeepsLaws s past
 unfolding MadeKeepsLaws
 made_keeps_laws s past m = keeps s past m

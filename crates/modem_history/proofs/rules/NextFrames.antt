@@ -89,6 +89,7 @@ pub record Leaves (s : Setting) (past : List Act) (o : Outgoing) : Type 0 where
   pub live : is_lost past ≡ false
   pub next : Next s past o
 
+-- what is next leaves so: a control frame that waits or else data, and the line is live
 pub leaves : (s : Setting) (past : List Act) (o : Outgoing) → next_out s past ≡ Some o → Leaves s past o
 leaves s past o h = by_loss (is_lost past) refl h
   where
@@ -102,6 +103,7 @@ more_than_none : (n : ℕ) → not (n == 0) ≡ true → 0 < n
 more_than_none zero h = absurd (let e : false ≡ true = h in cc)
 more_than_none (suc n) h = omega arith
 
+-- data of a connection that may send may be sent where no control frame waits and nothing is owed, and is a data frame
 pub data_allowed : (s : Setting) (past : List Act) (d : ℕ) → 1 ≤ s.n1 → is_lost past ≡ false → queue (wire past) ≡ [] → MaySend s past d → Lawful s past → Complete s past
     → (is_data_frame (data_of s past d) ≡ true) × (Allows s past (owed s past) (Sent (data_of s past d)))
 unfolding Complete
@@ -163,6 +165,7 @@ pub record WaitsFirst (s : Setting) (past : List Act) : Type 0 where
   pub frame : Frame
   pub goes : next_out s past ≡ Some (with_freshness false frame)
 
+-- in a lawful history some frame that waits is next, where one waits at all
 pub waits_first : (s : Setting) (past : List Act) → Lawful s past → some_wait (queue (wire past)) ≡ true → WaitsFirst s past
 waits_first s past l h = by_loss (is_lost past) refl
   where

@@ -35,6 +35,7 @@ pub record GoesOn (qs : List Request) (out chunk : List ℕ) (count : ℕ) : Typ
 abbrev pub left_of : List Request → (out : List ℕ) → (count : ℕ) → List ℕ
 left_of qs out count = drop (length out) (concat (texts (take count qs)))
 
+-- the first of these, however many, go on so with what left already, where some wait
 pub goes_on : (qs : List Request) (out : List ℕ) (count n : ℕ) → IsPrefixOf out (concat (texts qs)) → 0 < length (left_of qs out count) → GoesOn qs out (take n (left_of qs out count)) count
 goes_on qs out count n p some =
     let first = take count qs in

@@ -257,6 +257,7 @@ back_at past a h true false is holds really = cc
 back_at past a h false true is holds really = held_before past a h holds
 back_at past a h false false is holds really = cc
 
+-- what is open and stays so was open
 pub was_open : (a b : Bool) → (a && b) ≡ true → a ≡ true
 was_open true b is = refl
 was_open false b is = cc
@@ -313,12 +314,15 @@ lasts_called : (past : List Act) (c : station.Call) (h : Option ℕ) → lasts p
 lasts_called past c None = refl
 lasts_called past c (Some e) = refl
 
+-- a frame that is sent is such an act
 pub sent_still : (d : ℕ) (past : List Act) (f : Frame) → IsStill d past (station.Sent f)
 sent_still d past f = record { opens_none = refl; brings_none = λ rest. refl; ends_none = refl; lasts_on = lasts_sent past f; says_none = λ e o. refl; calls_none = λ e was. refl }
 
+-- so is one that is given on
 pub given_still : (d : ℕ) (past : List Act) → IsStill d past station.Given
 given_still d past = record { opens_none = refl; brings_none = λ rest. refl; ends_none = refl; lasts_on = lasts_given past; says_none = λ e o. refl; calls_none = λ e was. refl }
 
+-- and a call of the station
 pub called_still : (d : ℕ) (past : List Act) (c : station.Call) → IsStill d past (station.Called c)
 called_still d past c = record { opens_none = refl; brings_none = λ rest. refl; ends_none = refl; lasts_on = lasts_called past c; says_none = λ e o. refl; calls_none = λ e was. refl }
 
@@ -342,11 +346,13 @@ still_call was now true there is none same = cc
 still_call was now false true is none same = same
 still_call was now false false is none same = cc
 
+-- what was offered since d opened goes on by what such an act offers
 pub still_offered : (d : ℕ) (a : station.Act) (rest : List station.Act) (opens there : Bool) → (opens || there) ≡ true → opens ≡ false → joined_octets (octets_offered d) (since_after opens there a rest) ≡ joined_octets (octets_offered d) rest ++ octets_offered d a
 still_offered d a rest true there is none = cc
 still_offered d a rest false true is none = refl
 still_offered d a rest false false is none = cc
 
+-- what is open behind such an act was open before it
 pub still_there : (opens there : Bool) → (opens || there) ≡ true → opens ≡ false → there ≡ true
 still_there true there is none = cc
 still_there false there is none = is

@@ -38,6 +38,7 @@ none_joined : (done : List station.Act) → joined_octets (octets_sent 0) done �
 none_joined [] = refl
 none_joined (a ∷ done) = ap (λ xs. xs ++ octets_sent 0 a) (none_joined done) ∙ none_sent a
 
+-- no data left on 0
 pub none_given : (past : List station.Act) → data_out Responder 0 past ≡ []
 none_given past = none_joined (since Responder 0 past)
 
@@ -97,6 +98,7 @@ not_here : (o : Outbox) (more : Outbox) (here : Bool) → here ≡ false → Say
 not_here o more true is before = cc
 not_here o more false is before = before
 
+-- nothing is said on 0, nor held back
 pub says_none : (e : End) (past : List Act) → EachAllowed e past → SaysNone (outbox e 0 past)
 says_none e [] allowed = record { said = refl; held = refl }
 says_none e (Did (Announce x line) ∷ past) allowed =

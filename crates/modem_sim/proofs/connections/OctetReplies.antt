@@ -12,6 +12,7 @@ use Rattle.modem_sim.specs.Laws.{after_lines}
 use Rattle.modem_sim.specs.Pieces.{pieces_octets, reply, replies}
 use Rattle.modem_sim.proofs.law_proofs.Histories.{spelled-append}
 
+-- a modem that executes lines and then others executes all of them
 pub after_lines-append : (m : ModemState) (a b : List (List ℕ)) → after_lines m (a ++ b) ≡ after_lines (after_lines m a) b
 after_lines-append m [] b = refl
 after_lines-append m (line ∷ a) b = after_lines-append (step m line).state a b
@@ -26,6 +27,7 @@ or_assoc : (a b c : Bool) → ((a || b) || c) ≡ (a || (b || c))
 or_assoc true b c = refl
 or_assoc false b c = refl
 
+-- a flag stays as it is where nothing else sets it
 pub or_none : (a : Bool) → (a || false) ≡ a
 or_none true = refl
 or_none false = refl
@@ -57,6 +59,7 @@ pub record IsGoing (echo : Bool) (m0 : ModemState) (r0 octets out0 : List ℕ) (
   pub fits : kept_run r ≡ r
   pub few : count ≤ i
 
+-- so it is before the first octet
 pub begun : (echo : Bool) (m : ModemState) (r octets out : List ℕ) (c : Bool) → kept_run r ≡ r → IsGoing echo m r octets out c m r octets out c 0 0
 begun echo m r octets out c fits = record { counted = omega arith; state = refl; said = refl; calls = refl; kept = refl; fits = fits; few = omega arith }
 
@@ -97,6 +100,7 @@ pub record IsDone (echo : Bool) (m0 : ModemState) (r0 octets out0 : List ℕ) (c
   pub calls : c ≡ (c0 || any_call m0 (lines (r0 ++ octets)))
   pub kept : r ≡ kept_run (r0 ++ octets)
 
+-- where none is left all octets are done
 pub ends_so : (echo : Bool) (m0 : ModemState) (r0 octets out0 : List ℕ) (c0 : Bool) (m : ModemState) (r rest out : List ℕ) (c : Bool) (count i : ℕ) → rest ≡ [] → IsGoing echo m0 r0 octets out0 c0 m r rest out c count i → IsDone echo m0 r0 octets out0 c0 m r out c count
 ends_so echo m0 r0 octets out0 c0 m r rest out c count i over going =
     let nil : r ++ rest ≡ r = ap (λ x. r ++ x) over ∙ append-nil r in

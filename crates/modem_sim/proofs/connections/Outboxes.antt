@@ -15,6 +15,7 @@ use Rattle.modem_sim.specs.Pieces.{Piece, Echo, Answer, Announced, answers, echo
 use Rattle.modem_sim.specs.Outboxes.{Outbox, empty_box, outbox, say, said_after, dropped, replies_by, replies_after, hold_on, is_holding, replies_since}
 use Rattle.modem_sim.specs.Histories.{SaysReplies}
 
+-- what is asked for of two lists of pieces is that of both
 pub asked_for-append : (a b : List Piece) → asked_for (a ++ b) ≡ asked_for a ++ asked_for b
 asked_for-append [] b = refl
 asked_for-append (Echo line ∷ a) b = ap (λ x. Echo line ∷ x) (asked_for-append a b)

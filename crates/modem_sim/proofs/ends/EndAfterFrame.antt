@@ -40,31 +40,38 @@ use Rattle.modem_sim.specs.Histories.{EachAllowed, got, sent}
 use Rattle.modem_sim.specs.Cores.{Core, Wired, IsLater, Fits, EndGoesOn, Takes, box_at, brought, closes_in, closes_all, counted, kept_in, lines_in, octets_in, opens_in, wire_after, after_wire_act, nothing_wired, that_act}
 use Rattle.modem_sim.proofs.connections.BoxesAfterFrame.{IsBrought, box_goes_on, count_goes_on, modem_goes_on, texts_are, box_still, sent_still}
 
+-- the station's past goes on by the frames that are sent
 pub wire-sent_after : (fs : List Frame) (past : List Act) → wire (wire_after fs past) ≡ sending.sent_after fs (wire past)
 wire-sent_after [] past = refl
 wire-sent_after (f ∷ fs) past = wire-sent_after fs (Wire (station.Sent f) ∷ past)
 
+-- no line ends in them
 pub heard-sent_after : (fs : List Frame) (past : List Act) → heard (wire_after fs past) ≡ heard past
 heard-sent_after [] past = refl
 heard-sent_after (f ∷ fs) past = heard-sent_after fs (Wire (station.Sent f) ∷ past)
 
+-- behind an act of the station and them no call is owed
 pub owed-sent_after : (fs : List Frame) (a : station.Act) (past : List Act) → call_owed (wire_after fs (Wire a ∷ past)) ≡ None
 owed-sent_after [] a past = refl
 owed-sent_after (f ∷ fs) a past = owed-sent_after fs (station.Sent f) (Wire a ∷ past)
 
+-- where that act may follow each of them may
 pub allowed-sent_after : (e : End) (fs : List Frame) (a : station.Act) (past : List Act) → EachAllowed e (Wire a ∷ past) → EachAllowed e (wire_after fs (Wire a ∷ past))
 allowed-sent_after e [] a past each = each
 allowed-sent_after e (f ∷ fs) a past each =
     allowed-sent_after e fs (station.Sent f) (Wire a ∷ past) (refl, each)
 
+-- no step is done by them
 pub done-sent_after : (fs : List Frame) (past : List Act) → done (wire_after fs past) ≡ done past
 done-sent_after [] past = refl
 done-sent_after (f ∷ fs) past = done-sent_after fs (Wire (station.Sent f) ∷ past)
 
+-- they close nothing down
 pub closed-sent_after : (fs : List Frame) (past : List Act) → is_closed_down (wire_after fs past) ≡ is_closed_down past
 closed-sent_after [] past = refl
 closed-sent_after (f ∷ fs) past = closed-sent_after fs (Wire (station.Sent f) ∷ past)
 
+-- no frame comes by them
 pub got-sent_after : (fs : List Frame) (past : List Act) → got (wire_after fs past) ≡ got past
 got-sent_after [] past = refl
 got-sent_after (f ∷ fs) past = got-sent_after fs (Wire (station.Sent f) ∷ past)
@@ -80,6 +87,7 @@ later-sent_after (f ∷ fs) past =
     let more = later-sent_after fs (Wire (station.Sent f) ∷ past) in
     record { newer = more.newer ++ Wire (station.Sent f) ∷ []; joins = append_assoc more.newer (Wire (station.Sent f) ∷ []) past ∙ more.joins }
 
+-- the acts by which it goes on are of a kind, if frames sent are
 pub only_sent : (may : Act → Bool) → ((f : Frame) → may (Wire (station.Sent f)) ≡ true) → (fs : List Frame) (past : List Act) → list_all may (later-sent_after fs past).newer ≡ true
 unfolding later-sent_after
 only_sent may each [] past = refl
@@ -116,6 +124,7 @@ sent_queued e was now past a gone before after none same gone_are =
     ∙ ap (λ q. q ++ fs) (same ∙ before.queue_is) in
     sent-sent_after fs (Wire a ∷ past) ∙ ap (λ x. x ++ fs) (none ∙ gone_are) ∙ append_assoc gone was.queue fs ∙ ap (λ q. gone ++ q) (sym queue)
 
+-- what is kept of a connection fits behind them too
 pub box-sent_after : (e : End) (fs : List Frame) (past : List Act) (d : ℕ) (b : Box) → FitsOpen e d past b → FitsOpen e d (wire_after fs past) b
 box-sent_after e [] past d b fits = fits
 box-sent_after e (f ∷ fs) past d b fits =
@@ -195,6 +204,7 @@ opens_other past d f other = rw other (none (is_kind f.kind Sabm) _)
     none true b = refl
     none false b = refl
 
+-- where a box was put among others, it is found at its place, and each other one at its own
 pub box_here : (boxes : List Box) (d n : ℕ) (b : Box) (here : Bool) → (n == d) ≡ here → n < length boxes → slice_index_or (slice_set boxes n b) d fresh_box ≡ (if here then b else slice_index_or boxes d fresh_box)
 box_here boxes d n b true is inside =
     let same : n ≡ d = grind (arith, nat_tests) in
@@ -243,6 +253,7 @@ capped m n a is = omega arith
 closes_are : (e : End) (w : Wired) (c : Core) (past : List Act) (f : Frame) → Fits e w c past → closes_in c f ≡ (is_open_at_modem 0 past && brings_command cld f)
 closes_are e w c past f fits = ap (λ (o : Bool). o && brings_command cld f) (opened_is e w c past 0 (lit< tt) fits)
 
+-- in either order
 pub either_way : (a b : Bool) → (a || b) ≡ (b || a)
 either_way true true = refl
 either_way true false = refl
@@ -358,9 +369,11 @@ kept_takes old mid new f m reader said calls opens closes ended same handles ope
       closed_is = ap (λ (c : Core). c.closed) is ∙ ap (λ (c : Core). c.closed || closes) same ∙ ap (λ (b : Bool). old.closed || b) closed;
     }
 
+-- what is kept of a text is that, read anew
 pub kept_of : (reader text : List ℕ) → reader ≡ kept_run text → kept_run reader ≡ reader
 kept_of reader text is = ap kept_run is ∙ kept_again text ∙ sym is
 
+-- inside the boxes, what stands for one that isn't there doesn't matter
 pub any_default : (boxes : List Box) (i : ℕ) (a b : Box) → i < length boxes → slice_index_or boxes i a ≡ slice_index_or boxes i b
 any_default [] i a b inside = absurd (omega (arith, inside))
 any_default (x ∷ boxes) zero a b inside = refl
@@ -383,6 +396,7 @@ got_goes_on old mid new copy m' f b octets reader said calls opens closes ended 
     (called ∙ ap (λ x. any_call x (lines (b.run ++ octets))) copied ∙ ap (any_call old.modem) ls)
     keeps)
 
+-- what holds where a call went well holds, where it did
 pub is_handled : {A E : Type 0} (r : Result A E) (P : Type 0) → OnOk r P → is_ok r ≡ true → P
 is_handled (Ok a) P is ok = is
 is_handled (Err why) P is ok = cc

@@ -46,6 +46,7 @@ stays_open d past c there_open =
       leaves = sent_after_call d c rest opens there there_open refl;
     }
 
+-- the station of an end is the responder
 pub role_is : (e : End) (w : Wired) (c : Core) (past : List Act) → Fits e w c past → c.station.role ≡ Responder
 role_is e w c past fits = ap (λ (s : sending.StationSetting). s.role) fits.setting_is
 
@@ -57,6 +58,7 @@ ring_is e w c past d small opened fits =
 
 -- ## Another connection
 
+-- where all that was offered has left nothing waits
 pub same_ring : (xs ys zs : List ℕ) → zs ≡ xs ++ ys → zs ≡ xs → ys ≡ []
 same_ring xs ys zs is same = append_cancel_left xs ys [] (sym is ∙ same ∙ sym (append-nil xs))
 
@@ -133,13 +135,16 @@ offering_goes old new d offers e w past fits =
       fits = given.fits;
     }
 
+-- whether octets of d were handed on or nothing changed, the end goes on
 pub goes_either : (mid new : Core) (r : Bool) (d : ℕ) → (r ≡ true → Offering mid new d) → (r ≡ false → new ≡ mid) → Goes is_handing mid new
 goes_either mid new true d offers same = offering_goes mid new d (offers refl)
 goes_either mid new false d offers same = let At : Core → Type 0 = λ c. Goes is_handing mid c in subst At (sym (same refl)) (goes_none is_handing mid)
 
+-- letting a hold go leaves its connection open
 pub release_opened : (old new : Core) (d : ℕ) → new ≡ boxed old d (released (box_at old d)) → is_opened (stations.channel_at old.station d).state ≡ true → is_opened (stations.channel_at new.station d).state ≡ true
 release_opened old new d same opened = ap (λ (c : Core). is_opened (stations.channel_at c.station d).state) same ∙ opened
 
+-- behind that no hold is over there
 pub released_there : (old new : Core) (d : ℕ) → length old.boxes ≡ 62 → d < 62 → new ≡ boxed old d (released (box_at old d)) → is_released (box_at new d).hold ≡ false
 released_there old new d all small same =
     let inside : d < length old.boxes = omega (arith, all, small) in
@@ -148,6 +153,7 @@ released_there old new d all small same =
     ∙ ap (λ (b : Box). is_released b.hold) (box_here old.boxes d d (released (box_at old d)) true here inside)
     ∙ not_over (box_at old d)
 
+-- octets of an open connection without a hold that is over are handed on, if any, and then all of it is
 pub hands_one : (mid new : Core) (d : ℕ) (r : Bool) → d < 62 → is_opened (stations.channel_at mid.station d).state ≡ true → is_released (box_at mid d).hold ≡ false → (box_at new d).hold ≡ (box_at mid d).hold → (r ≡ true → Offering mid new d) → (r ≡ false → new ≡ mid) → (r ≡ false → (d == 0) ≡ false → (stations.channel_at mid.station d).waiting ≡ [] → (box_at mid d).unsent ≡ []) → (e : End) (w : Wired) (past : List Act) → Fits e w mid past → HandsOne e w past d new r
 hands_one mid new d true small opened ends hold offers same none e w past fits =
     let given = offers refl e w past fits in
@@ -175,6 +181,7 @@ offers_on old mid new d released_it r fewer same count stays_so hands = record {
     by_flag true is = let less = fewer is in omega (arith, less, count)
     by_flag false is = let equal = ap (λ (c : Core). holds_over c.boxes) (same is) in omega (arith, equal, count)
 
+-- where a connection isn't open nothing is handed on
 pub offers_shut : (c : Core) (d : ℕ) → is_opened (stations.channel_at c.station d).state ≡ false → OffersOn c c d false
 offers_shut c d shut = record {
   some = false;
@@ -219,6 +226,7 @@ unfolding from_then later_then
 then_brings e w past b c first second p q is is_too =
     any_both second.later.newer first.later.newer ∙ ap (λ (x : Bool). x || list_any is_handing first.later.newer) is_too ∙ ap (λ (x : Bool). q || x) is
 
+-- where no hold was let go, and no octets could be offered, all of it is handed on
 pub handed_on : (old mid : Core) (d : ℕ) (r : Bool) → r ≡ is_released (box_at old d).hold → mid ≡ old → r ≡ false → ((d == 0) ≡ false → (stations.channel_at mid.station d).waiting ≡ [] → (box_at mid d).unsent ≡ []) → IsHandedOn old d
 handed_on old mid d r is same none unsent opened =
     let At : Core → Type 0 = λ c. (d == 0) ≡ false → (stations.channel_at c.station d).waiting ≡ [] → (box_at c d).unsent ≡ [] in
@@ -242,6 +250,7 @@ pub record Hands (old new : Core) (moved : Bool) (n : ℕ) : Type 0 where
   pub steps : new.steps ≡ old.steps
   pub n1 : new.station.n1 ≡ old.station.n1
 
+-- before the first connection nothing is handed on
 pub hands_none : (c : Core) → Hands c c false 0
 unfolding stays
 hands_none c = record { goes = goes_none is_handing c; some = false; hands = none_below; lets_go = λ moved. cc; handed_none = λ still. refl; same = λ is. refl; none = λ is d small. absurd (omega arith); steps = refl; n1 = refl }
@@ -249,6 +258,7 @@ hands_none c = record { goes = goes_none is_handing c; some = false; hands = non
     none_below : (e : End) (w : Wired) (past : List Act) → Fits e w c past → HandsBelow e w past c 0 false
     none_below e w past fits = record { from = stays is_handing e w past c fits; brings = refl; all = λ d small. absurd (omega arith) }
 
+-- and then one connection more
 pub hands_more : (old mid new : Core) (moved offered : Bool) (n : ℕ) → n < 62 → Hands old mid moved n → Goes is_handing mid new → OffersOn mid new n offered → OthersStay mid new n → (offered ≡ false → new ≡ mid) → (offered ≡ false → IsHandedOn mid n) → new.steps ≡ mid.steps → new.station.n1 ≡ mid.station.n1 → Hands old new (moved || offered) (n + 1)
 hands_more old mid new moved offered n low before goes one others same none steps n1 = record {
   some = one.some || before.some;

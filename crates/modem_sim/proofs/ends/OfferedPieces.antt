@@ -91,6 +91,7 @@ same_held_at e d past b None is over fit =
 same_held_at e d past b (Some w) is over fit =
     fit.held_is (ap is_holding (fit.hold_is ∙ ap lasting is ∙ ap (λ (o : Bool). if o then None else Some w.dlci) over))
 
+-- while no hold is over, what is held back of a connection is what its box keeps apart
 pub same_held : (e : End) (d : ℕ) (past : List Act) (b : Box) → is_released b.hold ≡ false → BoxFits e d past b → pieces_octets (outbox e d past).held ≡ b.held
 same_held e d past b over fit = same_held_at e d past b b.hold refl over fit
 
@@ -174,15 +175,19 @@ boxes_fit e w old new past same boxes fits =
     } in
     subst At (sym same) whole
 
+-- an end goes on by no act from a past that it fits
 unfoldable pub stays : (may : Act → Bool) (e : End) (w : Wired) (past : List Act) (c : Core) → Fits e w c past → GoesFrom may e w past c
 stays may e w past c fits = record { now = past; later = record { newer = []; joins = refl }; only = refl; fits = fits }
 
+-- and from whatever past
 pub goes_none : (may : Act → Bool) (c : Core) → Goes may c c
 goes_none may c e w past fits = stays may e w past c fits
 
+-- a past that goes on and goes on again went on
 unfoldable pub later_then : (a b c : List Act) → IsLater a b → IsLater b c → IsLater a c
 later_then a b c p q = record { newer = q.newer ++ p.newer; joins = append_assoc q.newer p.newer a ∙ ap (λ x. q.newer ++ x) p.joins ∙ q.joins }
 
+-- where all of two lists pass, all of both together do
 pub both_all : {A : Type 0} (may : A → Bool) (xs ys : List A) → list_all may xs ≡ true → list_all may ys ≡ true → list_all may (xs ++ ys) ≡ true
 both_all may [] ys all all_too = all_too
 both_all may (x ∷ xs) ys all all_too =
@@ -199,6 +204,7 @@ from_then may e w past b c first second = record {
   fits = second.fits;
 }
 
+-- an end that goes on and goes on again goes on
 pub goes_then : (may : Act → Bool) (a b c : Core) → Goes may a b → Goes may b c → Goes may a c
 goes_then may a b c p q e w past fits =
     let first = p e w past fits in
@@ -242,6 +248,7 @@ pub record Stands (e : End) (w : Wired) (c : Core) (past : List Act) : Type 0 wh
   pub came_are : got past ≡ w.came
   pub gone_are : sent past ≡ w.gone ++ c.station.queue
 
+-- an end that fits stands so
 pub stands : (e : End) (w : Wired) (c : Core) (past : List Act) → Fits e w c past → Stands e w c past
 stands e w c past fits = record {
   setting_is = fits.setting_is;
@@ -264,6 +271,7 @@ pub record Calls (old new : Core) (call : station.Call) (boxes : List Box) (clos
   pub at_station : fitting.StationHandles old.station new.station (station.Called call)
   pub rest_is : new ≡ record old { station = new.station; boxes = boxes; closed = closes || old.closed }
 
+-- with a call that may be made, and all that it calls for, the end fits
 pub called_goes : (e : End) (w : Wired) (old new : Core) (past : List Act) (call : station.Call) (boxes : List Box) → Calls old new call boxes (closes_down past (station.Called call)) → Allows e past (Wire (station.Called call)) → ((d : ℕ) → d < 62 → FitsOpen e d (Wire (station.Called call) ∷ past) (slice_index_or boxes d fresh_box)) → Stands e w old past → Fits e w new (after_wire_act e past (station.Called call))
 called_goes e w old new past call boxes calls allowed fit stood =
     let a : station.Act = station.Called call in
@@ -327,6 +335,7 @@ none_called e past d octets =
     ap (λ fs. wire_after fs (Wire a ∷ past))
     (none_sent (list_any sending.is_loss (wire past)) (is_none (sending.refused (setting e) (sending.station_view (setting e) (wire past)) (station.Offer d octets))))
 
+-- the first of the octets that are unsent are handed to the station
 pub hands_goes : (old new : Core) (d most : ℕ) (b : Box) (octets : List ℕ) → length old.boxes ≡ 62 → d < 62 → is_opened (stations.channel_at old.station d).state ≡ true → b ≡ box_at old d → octets ≡ take most b.unsent → fitting.StationHandles old.station new.station (station.Called (station.Offer d octets)) → new ≡ record old { station = new.station; boxes = slice_set old.boxes d (record b { unsent = drop (length octets) b.unsent }) } → octets ≢ [] → Offering old new d
 hands_goes old new d most b octets all small opened here taken handles same some e w past fits =
     let rest = drop (length octets) b.unsent in
@@ -353,12 +362,15 @@ hands_goes old new d most b octets all small opened here taken handles same some
     one_connection : {m n : ℕ} → (m == n) ≡ true → m ≡ n
     one_connection {m} {n} is = grind (arith, nat_tests)
 
+-- where a hold that is over is let go the end fits the same past
 pub release_stays : (old new : Core) (d : ℕ) → length old.boxes ≡ 62 → d < 62 → new ≡ boxed old d (released (box_at old d)) → (e : End) (w : Wired) (past : List Act) → Fits e w old past → Fits e w new past
 release_stays old new d all small same = box_stays old new d (released (box_at old d)) all small same (λ e past fits. released_fits e d past (box_at old d) fits)
 
+-- so it goes on by no act
 pub release_goes : (old new : Core) (d : ℕ) → length old.boxes ≡ 62 → d < 62 → new ≡ boxed old d (released (box_at old d)) → Goes is_handing old new
 release_goes old new d all small same e w past fits = stays is_handing e w past new (release_stays old new d all small same e w past fits)
 
+-- where not one of two is so neither is
 pub neither : (a b : Bool) → (a || b) ≡ false → (a ≡ false) × (b ≡ false)
 neither true b is = cc
 neither false b is = (refl, is)
@@ -380,6 +392,7 @@ released_less b true is really =
     omega (arith, one)
 released_less b false is really = cc
 
+-- so fewer holds are over where a call says that it let one go
 pub fewer_released : {E : Type 0} (boxes : List Box) (d : ℕ) (b now : Box) (r : Result Bool E) → d < length boxes → b ≡ slice_index_or boxes d fresh_box → IfOk r (λ moved. moved ≡ is_released b.hold) → OnOk r (now ≡ released b) → IfOk r (λ moved. moved ≡ true → holds_over (slice_set boxes d now) < holds_over boxes)
 fewer_released boxes d b now (Ok moved) inside here ends is = λ really.
     let less : over (released b) < over b = released_less b (is_released b.hold) refl (sym ends ∙ really) in

@@ -86,6 +86,7 @@ by_kind n1 d channel own Ua = refl
 by_kind n1 d channel own Dm = refl
 by_kind n1 d channel own Uih = refl
 
+-- so all that a frame calls for fits, where its information is no longer than N1
 pub empty_fits : (n1 : ℕ) (state : ℕ → State) (f : Frame) → length f.info ≤ n1 → have_room n1 0 (by_frame Responder state f) ≡ true
 empty_fits n1 state f short = by_test (is_on Uih 0 f) refl
   where

@@ -38,6 +38,7 @@ not_over_at : (b : Box) (over : Bool) → is_released b.hold ≡ over → is_rel
 not_over_at b true is = refl
 not_over_at b false is = is
 
+-- a box that was let go has no hold that is over
 pub not_over : (b : Box) → is_released (released b).hold ≡ false
 not_over b = not_over_at b (is_released b.hold) refl
 
@@ -157,6 +158,7 @@ small_asked (Hold x y) = lit< tt
 small_asked (Disconnect x) = x.in_range
 small_asked CloseDown = lit< tt
 
+-- the call of a step is on a connection below 62
 pub calls_small : (act : StepAct) (call : station.Call) → call_of act ≡ Some call → fitting.call_dlci call < 62
 calls_small act call is = let Small : Option station.Call → Type 0 = λ o. dlci_asked o < 62 in subst Small is (small_asked act)
 
@@ -207,6 +209,7 @@ none_closes (Hold x y) is = refl
 none_closes (Disconnect x) is = refl
 none_closes CloseDown is = cc
 
+-- connections are open by what is kept of them where they are by the past
 pub they_are_open : (e : End) (w : Wired) (c : Core) (past : List Act) (ds : List ℕ) → list_all (λ d. nat_lt d 62) ds ≡ true → Fits e w c past → list_all (λ d. is_open_at_modem d past) ds ≡ list_all (λ d. is_opened (stations.channel_at c.station d).state) ds
 they_are_open e w c past [] small fits = refl
 they_are_open e w c past (d ∷ ds) small fits =
@@ -215,6 +218,7 @@ they_are_open e w c past (d ∷ ds) small fits =
     ap (λ (o : Bool). o && list_all (λ d. is_open_at_modem d past) ds) (sym (opened_is e w c past d low fits))
     ∙ ap (λ (o : Bool). is_opened (stations.channel_at c.station d).state && o) (they_are_open e w c past ds both.1 fits)
 
+-- a step names connections below 62
 pub all_small : (act : StepAct) → list_all (λ d. nat_lt d 62) (named_by act) ≡ true
 all_small (Announce x line) = let low = x.in_range in grind (arith, nat_tests)
 all_small (Flow x go) = let low = x.in_range in grind (arith, nat_tests)
@@ -231,6 +235,7 @@ are_free e w c past (Hold x y) fits there = refl
 are_free e w c past (Disconnect x) fits there = refl
 are_free e w c past CloseDown fits there = refl
 
+-- a step that isn't passed over is the first of those that aren't
 pub first_acts : (step : Step) (later : List Step) → acts step.act ≡ true → that_act (step ∷ later) ≡ step ∷ that_act later
 first_acts step later is = ap (λ (b : Bool). if b then step ∷ that_act later else that_act later) is
 
@@ -261,6 +266,7 @@ asked_only act (station.Probe octets) is = refl
 asked_only act station.Stop is = refl
 asked_only act (station.Flow d go) is = refl
 
+-- where a step may be done, and the station takes what it asks, the end goes on
 pub does_goes : (old new : Core) (step : Step) (later : List Step) → length old.boxes ≡ 62 → old.steps ≡ step ∷ later → acts step.act ≡ true → nat_le step.after old.come ≡ true → are_open_in old.station step.act ≡ true → are_free_in old.boxes step.act ≡ true → AtStation old.station new.station step.act → new ≡ record old { station = new.station; boxes = boxes_done step.act old.boxes; closed = closes_by step.act || old.closed; steps = later } → Goes is_step_act old new
 does_goes old new step later all steps acting come open_are free at_station same e w past fits =
     let act = step.act in
@@ -366,12 +372,15 @@ passes_goes old new step later steps passing same e w past fits =
       gone_are = fits.gone_are;
     }))
 
+-- no step was passed
 pub passed_none : (c : Core) → HasPassed c c
 passed_none c = record { passed = []; joins = refl }
 
+-- one was
 pub passed_one : (old new : Core) (step : Step) → old.steps ≡ step ∷ new.steps → HasPassed old new
 passed_one old new step is = record { passed = step ∷ []; joins = is }
 
+-- some were, and then others
 pub passed_then : (a b c : Core) → HasPassed a b → HasPassed b c → HasPassed a c
 passed_then a b c p q = record { passed = p.passed ++ q.passed; joins = p.joins ∙ ap (λ xs. p.passed ++ xs) q.joins ∙ sym (append_assoc p.passed q.passed c.steps) }
 
@@ -388,6 +397,7 @@ refused_so v act call (Err why) is refusal none = record { call = call; asked = 
     some : Some why ≡ None → ⊥
     some same = cc
 
+-- what holds anyway holds of a refusal
 pub refused_any : {T E : Type 0} {P : Type 0} (r : Result T E) → P → OnErr r P
 refused_any (Ok x) holds = tt
 refused_any (Err why) holds = holds

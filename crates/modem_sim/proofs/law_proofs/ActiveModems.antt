@@ -275,6 +275,7 @@ lines_there : (lines : List (List ℕ)) (s : ModemState) → Keeps s → Keeps (
 lines_there [] s kept = kept
 lines_there (line ∷ lines) s kept = lines_there lines (step s line).state (step_there s.words s line kept.words kept)
 
+-- after whatever lines each active context of a modem with words is defined, and the modem is attached
 pub keeps_active : KeepsActive
 keeps_active start echo own lines =
     (lines_there lines _ (record { words = refl; there = record { defined = λ cid is. cc; attached = λ cid is. cc } })).there

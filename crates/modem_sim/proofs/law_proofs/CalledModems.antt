@@ -45,6 +45,7 @@ call_over_at None r text cid ended is = rw (call_read r text cid is) (other_over
 call_over : (r : Ran) (text : List ℕ) (cid : ℕ) → IsCall text cid → IsOver (ran_next r text)
 call_over r text cid is = call_over_at r.ended r text cid refl is
 
+-- what stands behind a call in its line isn't done
 pub ends_at_calls : EndsAtCalls
 ends_at_calls r before behind text cid is =
     let front : Ran = fold ran_next r before in
@@ -79,6 +80,7 @@ called_alone false s cid none =
     ap (λ texts. with_late false (record { state = s; answer = line_of (dialled cid s) ∷ map line_of texts })) (none_announced (is_registered s.lock s.oper) s)
     ∙ none_late false (record { state = s; answer = line_of (dialled cid s) ∷ [] }) none
 
+-- a line of one call to a ready modem is answered by one result code, and leaves the modem as it was
 pub answers_calls : AnswersCalls
 answers_calls s w line text cid some ready short own none divided is =
     let by : Ran → Step = λ r. with_late (is_through r.ended) (answered_by (is_through r.ended) s r) in
@@ -89,6 +91,7 @@ answers_calls s w line text cid some ready short own none divided is =
 
 -- ## Behind a CONNECT
 
+-- nothing is said behind a CONNECT: reports, and lines that waited, come behind the next answer
 pub holds_behind_calls : HoldsBehindCalls
 holds_behind_calls s w line commands some short own divided through =
     let r : Ran = fold ran_next (nothing_ran s) commands in

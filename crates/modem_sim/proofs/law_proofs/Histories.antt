@@ -20,6 +20,7 @@ use Rattle.modem_sim.specs.Outboxes.{Outbox, empty_box, outbox, say, said_after,
 use Rattle.modem_sim.specs.Doing.{acts, done}
 use Rattle.modem_sim.specs.Histories.{SimLawful, Allows, EachAllowed, IsStationOffer, LeavesInPieces, DoesInOrder}
 
+-- the octets of two lists of pieces, one behind the other, are those of both
 pub spelled-append : (a b : List Piece) → pieces_octets (a ++ b) ≡ pieces_octets a ++ pieces_octets b
 spelled-append [] b = refl
 spelled-append (p ∷ a) b = ap (λ x. octets_of p ++ x) (spelled-append a b) ∙ sym (append_assoc (octets_of p) (pieces_octets a) (pieces_octets b))
@@ -128,5 +129,6 @@ does_in_order e (Did step ∷ past) may =
     ∙ sym (map-append (λ (s : Step). s.act) (take n steps) (due.next ∷ []))
     ∙ ap (map (λ (s : Step). s.act)) (sym (one_more steps n due.next due.later due.is_first) ∙ ap (λ m. take m steps) (sym size))
 
+-- a lawful simulated modem does its steps in order
 pub keeps_order : (e : End) (past : List Act) → SimLawful e past → DoesInOrder e past
 keeps_order e past lawful = does_in_order e past lawful.acts

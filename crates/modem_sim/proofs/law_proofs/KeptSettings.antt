@@ -42,6 +42,7 @@ carried_reports s AttachQuery other = refl
 carried_reports s (ErrorMode n) other = refl
 carried_reports s Multiplex other = refl
 
+-- how registration is reported, once set, is told until it is set again
 pub keeps_reports : (start : ModemStart) → IsStart start → KeepsReports start
 keeps_reports start is n s set =
     let w = was_set start (RegReport n) sets_reports s is set in
@@ -76,6 +77,7 @@ error_as (suc zero) is = refl
 error_as (suc (suc zero)) is = refl
 error_as (suc (suc (suc n))) is = absurd (grind (arith, nat_tests))
 
+-- how errors are told, once set, stays until it is set again
 pub keeps_errors : (start : ModemStart) → IsStart start → KeepsErrors start
 keeps_errors start is n s set line text =
     let w = was_set start (ErrorMode n) sets_errors s is set in
@@ -109,6 +111,7 @@ attach_ready : (s : ModemState) (on : Bool) → (if on then attach_error (lock_e
 attach_ready s true none = no_error s.lock (may_attach (lock_error s.lock) (is_registered s.lock s.oper) none)
 attach_ready s false none = no_error s.lock none
 
+-- attachment, once set, is told until it is set again
 pub keeps_attached : (start : ModemStart) → IsStart start → KeepsAttached start
 keeps_attached start is on s set =
     let w = was_set start (AttachSet on) sets_attached s is set in
@@ -146,6 +149,7 @@ found_told : (n : ℕ) (cs : List PdpContext) → find (λ (x : Context). x.cid 
 found_told n [] = refl
 found_told n (c ∷ cs) = found_told_at n c (context_of n cs) (find (λ (x : Context). x.cid == n) (map told_context cs)) (c.cid == n) (found_told n cs)
 
+-- a context, once set, is told until its number is set again
 pub keeps_context : (start : ModemStart) → IsStart start → KeepsContext start
 keeps_context start is cid pdp apn s set =
     let c = ContextSet cid pdp apn in
@@ -191,6 +195,7 @@ told_oper Automatic = refl
 told_oper Deregister = (refl, refl)
 told_oper (Manual oper) = (refl, (refl, refl))
 
+-- the choice of an operator, once made, is told until it is made again
 pub keeps_oper : (start : ModemStart) → IsStart start → KeepsOper start
 keeps_oper start is choice s set =
     let c = OperChoose choice in

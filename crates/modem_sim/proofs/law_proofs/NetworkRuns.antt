@@ -98,6 +98,7 @@ told_attached : (o : Option ℕ) (s : ModemState) → meant_unless o s AttachQue
 told_attached None s is = cc
 told_attached (Some number) s is = cc
 
+-- after whatever lines, registration, PIN, operator and attachment go together
 pub follows_network : (start : ModemStart) → IsStart start → FollowsNetworkAlways start
 follows_network start is lines reg pin oper attached attach asks =
     let s = reached start lines in

@@ -301,6 +301,7 @@ changes_nothing start pin is has lines line n c tries few text told ask asks =
     ∙ same_told (reached start lines) (reached bare []) c told (stays_fresh start pin lines n has tries) (record { oper = refl; contexts = refl; attached = refl }) refl
     ∙ sym (answered_is bare [] c ask bare_is asks)
 
+-- a modem with a PIN wants it, opens by it, is locked by three wrong tries, and changes nothing of the network before
 pub keeps_pin : (start : ModemStart) (pin : List ℕ) → IsStart start → start.pin ≡ Some pin → KeepsPin start pin
 keeps_pin start pin is has = record {
   wants = wants start pin is has;
@@ -310,6 +311,7 @@ keeps_pin start pin is has = record {
   changes_nothing = changes_nothing start pin is has;
 }
 
+-- a modem without a PIN is ready after whatever lines
 pub ready_always : (start : ModemStart) → IsStart start → start.pin ≡ None → IsReadyAlways start
 ready_always start is none lines =
     tells start lines PinQuery (λ r. r ≡ Ok (Pin state.Ready)) is

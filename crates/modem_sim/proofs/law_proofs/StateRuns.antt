@@ -40,6 +40,7 @@ by_line Holds s line none same does = subst (λ (t : Step). Holds t.state) (sym 
     at_attention true is = rw is same
     at_attention false is = rw is (by_read (command_of line) refl)
 
+-- lines behind others are executed by the modem that those leave
 pub after_append : (s : ModemState) (xs ys : List (List ℕ)) → after_lines s (xs ++ ys) ≡ after_lines (after_lines s xs) ys
 after_append s [] ys = refl
 after_append s (line ∷ xs) ys = after_append (step s line).state xs ys
@@ -51,6 +52,7 @@ by_lines Holds does s (line ∷ lines) none holds = by_lines Holds does (step s 
 
 -- ## What is kept
 
+-- a refusal leaves what the lock doesn't touch
 pub refused_keeps : {A : Type 0} (field : ModemState → A) → ((s : ModemState) (l : Lock) → field (record s { lock = l }) ≡ field s) → (s : ModemState) (c : Command) → field (after_refusal s c) ≡ field s
 refused_keeps field apart s (PinEnter pin) = apart s (after_wrong_pin s.lock)
 refused_keeps field apart s PinQuery = refl
@@ -108,9 +110,11 @@ obeyed_ready None s AttachQuery ready = ready
 obeyed_ready None s (ErrorMode n) ready = ready
 obeyed_ready None s Multiplex ready = ready
 
+-- also after lines
 pub stays_ready : (s : ModemState) (lines : List (List ℕ)) → s.words ≡ None → s.lock ≡ Ready → (after_lines s lines).lock ≡ Ready
 stays_ready s lines none ready = by_lines (λ t. t.lock ≡ Ready) (λ t c is. obeyed_ready (refusal_of t c) t c is) s lines none ready
 
+-- where the lock refuses nothing it is Ready
 pub no_error : (l : Lock) → lock_error l ≡ None → l ≡ Ready
 no_error Ready none = refl
 no_error (NeedPin pin tries) none = cc
@@ -118,10 +122,12 @@ no_error NeedPuk none = cc
 
 -- ## What is told
 
+-- what holds of the state's reply to a command holds of what each line with it is answered
 pub tells : (start : ModemStart) (lines : List (List ℕ)) (c : Command) (Holds : Answer → Type 0) → IsStart start → Holds (meant (reached start lines) c) → Tells (reached start lines) c Holds
 tells start lines c Holds is holds line text =
     subst Holds (sym (read_back (reached start lines) line c (reached_kept start lines is) text)) holds
 
+-- what a line with a command is answered is the reply that the state says
 pub answered_is : (start : ModemStart) (lines : List (List ℕ)) (c : Command) (line : List ℕ) → IsStart start → IsTextOf line c → answered (reached start lines) c line ≡ meant (reached start lines) c
 answered_is start lines c line is text = read_back (reached start lines) line c (reached_kept start lines is) text
 
@@ -140,6 +146,7 @@ pub record WasSet (start : ModemStart) (c : Command) (sets : Command → Bool) (
   pub is_reached : s ≡ reached start all
   pub state_is : s ≡ after_lines (after_command mid c) later
 
+-- so it is where a command set something, and no line set the same since
 pub was_set : (start : ModemStart) (c : Command) (sets : Command → Bool) (s : ModemState) → IsStart start → IsSet start c sets s → WasSet start c sets s
 was_set start c sets s is set =
     let mid = reached start set.before in
@@ -162,9 +169,11 @@ was_set start c sets s is set =
 pub set_so : {A : Type 0} (start : ModemStart) (c : Command) (sets : Command → Bool) (s : ModemState) (field : ModemState → A) (w : WasSet start c sets s) → ((s : ModemState) (l : Lock) → field (record s { lock = l }) ≡ field s) → ((s : ModemState) (c : Command) → sets c ≡ false → field (after_command s c) ≡ field s) → field s ≡ field (after_command w.mid c)
 set_so start c sets s field w apart carried = ap field w.state_is ∙ keeps field sets apart carried (after_command w.mid c) w.later (carried_words w.mid c ∙ w.bare) w.none_sets
 
+-- a modem that was ready when it was set is ready
 pub set_ready : (start : ModemStart) (c : Command) (sets : Command → Bool) (s : ModemState) (w : WasSet start c sets s) → (after_command w.mid c).lock ≡ Ready → s.lock ≡ Ready
 set_ready start c sets s w ready = ap (λ t. t.lock) w.state_is ∙ stays_ready (after_command w.mid c) w.later (carried_words w.mid c ∙ w.bare) ready
 
+-- what holds of the state's reply holds of what is told
 pub set_tells : (start : ModemStart) (c : Command) (sets : Command → Bool) (s : ModemState) (q : Command) (Holds : Answer → Type 0) → IsStart start → WasSet start c sets s → Holds (meant s q) → Tells s q Holds
 set_tells start c sets s q Holds is w holds =
     let There : ModemState → Type 0 = λ t. Holds (meant t q) in

@@ -247,5 +247,6 @@ by_command s w line (Some c) read is some two on short own none other =
       state = ap (λ (t : Step). bare t.state) with ∙ same.state ∙ ap (λ (t : Step). t.state) (sym without);
     }
 
+-- to a command of the first table but AT+CGDCONT? a modem with words answers as one without
 pub answers_as_standard : AnswersAsStandard
 answers_as_standard s w line some two on short own none other is = by_command s w line (command_of line) refl is some two on short own none other

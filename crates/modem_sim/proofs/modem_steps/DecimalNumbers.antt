@@ -83,5 +83,6 @@ last_number_param n small =
     ∙ divided-plain false (decimal n) [] (plain_decimal n small)
     ∙ put_text-ended (decimal n) []
 
+-- a number of one octet is written in digits
 pub decimal_digits : (n : ℕ) → n < 256 → list_all is_digit (decimal n) ≡ true
 decimal_digits n small = (spelt n (omega arith)).all

@@ -29,10 +29,12 @@ pub record IsContextKept (c : PdpContext) : Type 0 where
   pub apn : list_any is_quote c.apn ≡ false
   pub name : is_apn c.apn ≡ true
 
+-- so it is of each context
 abbrev pub AreContextsKept : List PdpContext → Type 0
 AreContextsKept [] = Unit {0}
 AreContextsKept (c ∷ contexts) = IsContextKept c × AreContextsKept contexts
 
+-- an operator chosen by hand is one, and holds no quote
 abbrev pub IsOperKept : OperChoice → Type 0
 IsOperKept Automatic = Unit {0}
 IsOperKept Deregister = Unit {0}
@@ -148,5 +150,6 @@ lines_kept : (s : ModemState) (lines : List (List ℕ)) → IsKept s → IsKept 
 lines_kept s [] kept = kept
 lines_kept s (line ∷ lines) kept = lines_kept (step s line).state lines (step_kept s line kept)
 
+-- so it is of each state that a modem reaches from such a start
 pub reached_kept : (start : ModemStart) (lines : List (List ℕ)) → IsStart start → IsKept (reached start lines)
 reached_kept start lines is = lines_kept (started start) lines (started_kept start is)

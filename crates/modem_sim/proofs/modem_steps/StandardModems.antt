@@ -13,6 +13,7 @@ use Rattle.modem_sim.specs.Reading.{is_attention, command_of}
 use Rattle.modem_sim.specs.Steps.{after_command, after_refusal, echoes_as, line_through, obeyed_unless, own_answer, own_said, own_step, refusal_of, repeats, standard_step, started, step, step_as, step_by, with_late, worded_step, Step}
 use Rattle.modem_sim.specs.Laws.{after_lines, reached}
 
+-- a command that is carried out leaves the words
 pub carried_words : (s : ModemState) (c : Command) → (after_command s c).words ≡ s.words
 carried_words s PinQuery = refl
 carried_words s (PinEnter pin) = refl
@@ -45,6 +46,7 @@ refused_words s AttachQuery = refl
 refused_words s (ErrorMode n) = refl
 refused_words s Multiplex = refl
 
+-- so does one that may be refused
 pub obeyed_words : (o : Option ℕ) (s : ModemState) (c : Command) → (obeyed_unless o s c).state.words ≡ s.words
 obeyed_words None s c = carried_words s c
 obeyed_words (Some number) s c = refused_words s c
@@ -69,9 +71,11 @@ step_standard s line none = ap (λ w. step_as w s line) none
 pub step_with_words : (s : ModemState) (line : List ℕ) (w : Words) → s.words ≡ Some w → step s line ≡ own_step (own_answer s line) s line
 step_with_words s line w some = ap (λ x. step_as x s line) some
 
+-- where it has an answer of its own it says that, and does nothing
 pub own_step_some : (own : Option (List OwnLine)) (s : ModemState) (line : List ℕ) (lines : List OwnLine) → own ≡ Some lines → own_step own s line ≡ own_said lines s
 own_step_some own s line lines some = ap (λ o. own_step o s line) some
 
+-- where it has none it does what both tables say, and lines that wait may come behind
 pub own_step_none : (own : Option (List OwnLine)) (s : ModemState) (line : List ℕ) → own ≡ None → own_step own s line ≡ with_late (line_through s line) (worded_step s line)
 own_step_none own s line none = ap (λ o. own_step o s line) none
 
@@ -79,13 +83,16 @@ own_step_none own s line none = ap (λ o. own_step o s line) none
 pub step_worded : (s : ModemState) (line : List ℕ) (w : Words) → s.words ≡ Some w → own_answer s line ≡ None → step s line ≡ with_late (line_through s line) (worded_step s line)
 step_worded s line w some none = step_with_words s line w some ∙ own_step_none (own_answer s line) s line none
 
+-- a modem without words has none after a line
 pub step_words : (s : ModemState) (line : List ℕ) → s.words ≡ None → (step s line).state.words ≡ None
 step_words s line none = ap (λ t. t.state.words) (step_standard s line none) ∙ standard_words s line ∙ none
 
+-- nor after lines
 pub lines_words : (s : ModemState) (lines : List (List ℕ)) → s.words ≡ None → (after_lines s lines).words ≡ None
 lines_words s [] none = none
 lines_words s (line ∷ lines) none = lines_words (step s line).state lines (step_words s line none)
 
+-- so one that started without has none ever
 pub no_words : (start : ModemStart) (lines : List (List ℕ)) → (reached start lines).words ≡ None
 no_words start lines = lines_words (started start) lines refl
 

@@ -180,5 +180,6 @@ answers_well s line kept = record {
   read_back = λ c is. read_back s line c kept is;
 }
 
+-- after whatever lines each answer ends once, has nothing unsolicited, and is read back as the state's reply
 pub reached_answers_well : (start : ModemStart) → IsStart start → AnswersWellAlways start
 reached_answers_well start is lines line = answers_well (reached start lines) line (reached_kept start lines is)

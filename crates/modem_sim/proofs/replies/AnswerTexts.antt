@@ -224,10 +224,12 @@ chosen_told : (at : Bool) (a b : Step) → list_all is_answer_line a.answer ≡ 
 chosen_told true a b first second = first
 chosen_told false a b first second = second
 
+-- each line of an answer is one line and no command line, in a state that a modem may reach
 pub kept_told : (s : ModemState) (line : List ℕ) → IsKept s → list_all is_answer_line (step s line).answer ≡ true
 kept_told s line kept =
     ap (λ (t : Step). list_all is_answer_line t.answer) (step_standard s line kept.words)
     ∙ chosen_told (is_attention line) (record { state = s; answer = good_answer [] }) (step_by s (command_of line)) refl (step_by_told s (command_of line) kept)
 
+-- so it is after whatever lines
 pub answers_in_lines : (start : ModemStart) → IsStart start → AnswersInLines start
 answers_in_lines start is before line = kept_told _ line (reached_kept start before is)

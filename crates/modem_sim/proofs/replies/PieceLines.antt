@@ -35,11 +35,13 @@ use Rattle.modem_sim.proofs.modem_steps.StandardModems.{repeats_standard}
 
 -- ## Pieces that are lines
 
+-- the piece is a line, and unsolicited if it is announced
 abbrev pub IsSound : Piece → Type 0
 IsSound (Echo line) = is_line line ≡ true
 IsSound (Answer line) = is_line line ≡ true
 IsSound (Announced line) = (is_line line ≡ true) × (is_solicited standard line ≡ false)
 
+-- so is each of these
 abbrev pub AreSound : List Piece → Type 0
 AreSound [] = Unit {0}
 AreSound (p ∷ pieces) = IsSound p × AreSound pieces
@@ -76,6 +78,7 @@ piece_before (Echo line) y is = line_before line y is
 piece_before (Answer line) y is = framed_before line y is
 piece_before (Announced line) y is = framed_before line y is.0
 
+-- the octets of such pieces are read as their lines, one for each
 pub lines_said : (pieces : List Piece) → AreSound pieces → lines (pieces_octets pieces) ≡ map text_of pieces
 lines_said [] are = refl
 lines_said (p ∷ pieces) are = piece_before p (pieces_octets pieces) are.0 ∙ ap (λ x. text_of p ∷ x) (lines_said pieces are.1)

@@ -98,6 +98,7 @@ attach_refusals P network (Some number) registered is = is
 attach_refusals P network None true is = tt
 attach_refusals P network None false is = network
 
+-- what holds of 3, 11, 12, 16 and 30 holds of the error with which a command is refused
 pub refusals_are : (P : ℕ → Type 0) → P 3 → P 11 → P 12 → P 16 → P 30 → (s : ModemState) (c : Command) → IfSome (refusal_of s c) P
 refusals_are P allowed pin puk wrong network s PinQuery = tt
 refusals_are P allowed pin puk wrong network s (PinEnter entered) = pin_refusals P allowed puk wrong s.lock entered
@@ -271,12 +272,14 @@ at_head Cgatt is = cc
 at_head Cmee is = cc
 at_head Cmux is = cc
 
+-- so a command's text isn't AT alone
 pub command_is_no_attention : (line : List ℕ) (c : Command) (at : Bool) → IsTextOf line c → is_attention line ≡ at → is_attention line ≡ false
 command_is_no_attention line c false is here = here
 command_is_no_attention line c true is here =
     let n = length (head (name_of c)) in
     absurd (at_head (name_of c) (ap (take n) (sym (same_octets (lowered line) (codes "at") here)) ∙ take-map to_ascii_lowercase n line ∙ is.begins))
 
+-- the command of a line is that whose text it is
 pub command_is : (line : List ℕ) (c : Command) → IsTextOf line c → command_of line ≡ Some c
 command_is line c is = read_command line (Some c) (record { is = is; only = λ d other. of_one line d c other is })
 

@@ -64,6 +64,7 @@ shut_first e d past a b old true there shut is = cc
 shut_first e d past a b old false true shut is = cc
 shut_first e d past a b old false false shut is = replies_more e d past a (asked_for b.said) old is
 
+-- what is said on d, without what is announced, is the beginning of the replies since d opened
 pub says_first : (e : End) (past : List Act) (d : ℕ) → IsFirstOf (asked_for (outbox e d past).said) (replies_since e d past)
 says_first e [] d = all_first []
 says_first e (Did (Announce x line) ∷ past) d = same_first _ (asked_for (outbox e d past).said) (replies_since e d past) (one_announced (x.number == d) line (outbox e d past)) (says_first e past d)
@@ -80,12 +81,14 @@ says_first e (Wire a ∷ past) d = by_open (is_open_at_modem d (Wire a ∷ past)
 
 -- ## The replies to all lines
 
+-- replies to lines behind others are those of the modem that those leave
 pub replied_on-append : (echo : Bool) (d : ℕ) (m : ModemState) (xs ys : List (ℕ × List ℕ)) → replied_on echo d m (xs ++ ys) ≡ replied_on echo d m xs ++ replied_on echo d (after_lines m (texts_of xs)) ys
 replied_on-append echo d m [] ys = refl
 replied_on-append echo d m (p ∷ xs) ys =
     ap (λ x. (if p.0 == d then written_for echo m p.1 ∷ [] else []) ++ x) (replied_on-append echo d (step m p.1).state xs ys)
     ∙ sym (append_assoc (if p.0 == d then written_for echo m p.1 ∷ [] else []) (replied_on echo d (step m p.1).state xs) (replied_on echo d (after_lines (step m p.1).state (texts_of xs)) ys))
 
+-- the lines of two lists of replies are those of both
 pub all-append : (xs ys : List (List (List ℕ))) → all_of (xs ++ ys) ≡ all_of xs ++ all_of ys
 all-append [] ys = refl
 all-append (x ∷ xs) ys = ap (λ z. x ++ z) (all-append xs ys) ∙ sym (append_assoc x (all_of xs) (all_of ys))
@@ -222,6 +225,7 @@ since_are e d (Wire station.Given ∷ past) once = since_are e d past once
 filtered_first : (xs later ys : List (List ℕ)) → xs ++ later ≡ ys → IsFirstOf (filter (is_solicited standard) xs) (filter (is_solicited standard) ys)
 filtered_first xs later ys joins = record { later = filter (is_solicited standard) later; joins = sym (filter-append (is_solicited standard) xs later) ∙ ap (filter (is_solicited standard)) joins }
 
+-- what left on a connection that was asked for once is, without unsolicited lines, the beginning of its replies
 pub sends_replies : (e : End) (past : List Act) → SendsReplies e past
 unfolding SendsReplies
 sends_replies e past lawful modem un d once =

@@ -10,6 +10,7 @@ use Rattle.modem_sim.specs.Reading.{command_of}
 use Rattle.modem_sim.specs.Steps.{line_commands}
 use Rattle.modem_sim.specs.Words.{word_of}
 
+-- no line is announced in a call, but one may be elsewhere, without a call and behind one
 pub calls_keep_quiet : CallsKeepQuiet
 unfolding command_of command_in numeral_in unquoted parameters digits commands_in line_commands word_of
 calls_keep_quiet = (refl, refl, refl, refl, refl)

@@ -53,6 +53,7 @@ with_data {s} {past} f data_is gated good = record {
   complete = rw data_is (good.complete);
 }
 
+-- the station's setting: the responder, with N1 31
 abbrev pub end : StationSetting
 end = record { role = Responder; n1 = 31 }
 
@@ -68,15 +69,19 @@ leaves {past} d info later data_is live there goes some fits next good =
 pub got : {past : List station.Act} (k : Kind) (d : ℕ) (info : List ℕ) → GoodThere end past → GoodThere end (after_act end past (station.Got (written Initiator k d info)))
 got k d info good = with_frames (station.Got (written Initiator k d info)) refl good
 
+-- a frame is given on
 pub given_on : {past : List station.Act} → GoodThere end past → GoodThere end (after_act end past station.Given)
 given_on good = with_frames station.Given refl good
 
+-- a call of the user
 pub called : {past : List station.Act} (c : station.Call) → GoodThere end past → GoodThere end (after_act end past (station.Called c))
 called c good = with_frames (station.Called c) refl good
 
+-- the call that hands on these octets
 abbrev pub offer : ℕ → List ℕ → station.Call
 offer d octets = station.Offer d octets
 
+-- once 0 and 1 are open the station's past is lawful and complete
 pub ready_one_there : (echo : Bool) (steps : List Step) → GoodThere end (wire (after [] ready_one))
 ready_one_there echo steps = given_on (given_on (got Sabm 1 [] (given_on (got Sabm 0 [] (nothing_yet end)))))
 
@@ -90,12 +95,14 @@ gave {f = f} {fs = fs} free waits = record { free = free; waits = λ none. some 
     some : (f : Frame) (fs : List Frame) → f ∷ fs ≡ [] → ⊥
     some f fs same = cc
 
+-- and each act may follow
 pub ready_one_allowed : (e : End) → EachAllowed e (after [] ready_one)
 ready_one_allowed e = (gave refl refl, (gave refl refl, (refl, (refl, (refl, (gave refl refl, (refl, (refl, tt))))))))
 
 ready_two_allowed : (e : End) → EachAllowed e (after [] ready_two)
 ready_two_allowed e = (gave refl refl, (gave refl refl, (refl, (refl, (refl, ready_one_allowed e)))))
 
+-- the octets that are handed on are the next of those said
 pub next_offer : {e : End} {past : List Act} {d x : ℕ} {octets : List ℕ} → call_owed past ≡ None → starts_with nat_eq (pieces_octets (outbox e d past).said) (offered Responder d (wire past) ++ x ∷ octets) ≡ true → IsStationOffer e past d (x ∷ octets)
 next_offer {x = x} {octets = octets} free next = record { free = free; some = some x octets; next = next }
   where
@@ -121,10 +128,12 @@ good_row e acts is there allowed free first second =
       out = (first, second);
     }
 
+-- a command is answered
 pub csq_good : IsGood plain csq
 unfolding command_of command_in numeral_in unquoted parameters digits
 csq_good = good_row plain csq refl csq_there csq_allowed refl refl refl
 
+-- a command is repeated, then answered
 pub repeated_good : IsGood (simulated true []) repeated
 unfolding command_of command_in numeral_in unquoted parameters digits
 repeated_good =
@@ -134,6 +143,7 @@ repeated_good =
     (refl, (next_offer refl refl, (refl, ready_one_allowed (simulated true []))))
     refl refl refl
 
+-- one modem answers on two connections
 pub two_good : IsGood plain two_connections
 unfolding command_of command_in numeral_in unquoted parameters digits
 two_good =
@@ -150,12 +160,14 @@ two_good =
     (refl, (refl, (refl, (next_offer refl refl, (next_offer refl refl, (refl, (refl, ready_two_allowed plain)))))))
     refl refl refl
 
+-- a step may be done that is the first left, and due
 pub due : {e : End} {past : List Act} {act : StepAct} (next : Step) (later : List Step) → call_owed past ≡ None → left e past ≡ next ∷ later → next.act ≡ act → nat_le next.after (length (heard past)) ≡ true → list_all (λ d. is_open_on d past) (named_by act) ≡ true → is_free e past act ≡ true → MayDo e past act
 due next later free is_first is_its come they_are_open none_in_calls = record {
   free = free;
   due = record { next = next; later = later; is_first = is_first; is_its = is_its; come = come; open_are = they_are_open; free = none_in_calls };
 }
 
+-- an answer on 1 waits for a command on 2, and a line of the modem's own doesn't
 pub held_good : IsGood holding held_back
 unfolding command_of command_in numeral_in unquoted parameters digits
 held_good =
@@ -197,6 +209,7 @@ held_good =
     )
     refl refl refl
 
+-- steps ask the station for flow control, for a close and for closing down
 pub asked_good : IsGood asking asked_of_station
 asked_good =
     good_row asking asked_of_station refl
@@ -241,5 +254,6 @@ asked_good =
     )
     refl refl refl
 
+-- all histories of a right one are lawful and complete, and all is out
 pub good_rows : GoodRows
 good_rows = (csq_good, repeated_good, two_good, held_good, asked_good)

@@ -67,6 +67,7 @@ stopped_refused : IsRefused plain answered_while_stopped
 unfolding LawfulThere Sends
 stopped_refused lawful = no lawful.at_station.0.goes
 
+-- no history of a simulated modem that answers wrongly is lawful
 pub wrong_answers : WrongAnswers
 wrong_answers = (
   twice_refused,
@@ -114,6 +115,7 @@ close_refused lawful = none_asked _ lawful.acts.0.owed
 without_asking_refused : IsRefused asking done_without_asking
 without_asking_refused lawful = some_asked _ lawful.acts.0
 
+-- nor is one of a modem that does its steps wrongly
 pub wrong_steps : WrongSteps
 wrong_steps = (early_step_refused, twice_done_refused, shut_refused, otherwise_refused, close_refused, without_asking_refused)
 
@@ -129,6 +131,7 @@ opening_refused : IsRefused plain refused_opening
 unfolding LawfulThere Sends
 opening_refused lawful = apart 1 2 (ap first_kind lawful.at_station.0.is_next) refl
 
+-- where a command isn't answered not all is out
 pub said_nothing : ¬ AllIsOut plain (after [] silent)
 unfolding command_of command_in numeral_in unquoted parameters digits
 said_nothing out = apart 0 6 (ap length (out 1 (lit< tt) refl refl refl)) refl
@@ -143,5 +146,6 @@ mark_refused lawful = lawful.acts.0.waits refl
 offer_refused : IsRefused plain offered_nothing
 offer_refused lawful = lawful.acts.0.some refl
 
+-- nor one with a tick, a refused opening, a mark for nothing or an empty offer; without an answer or an MSC not all is done
 pub wrong_otherwise : WrongOtherwise
 wrong_otherwise = (tick_refused, opening_refused, mark_refused, offer_refused, said_nothing, msc_missing)

@@ -36,6 +36,7 @@ rests k = at_rest (record {
 some_octet : (x : ℕ) (xs : List ℕ) → x ∷ xs ≡ [] → ⊥
 some_octet x xs same = cc
 
+-- no option is both None and Some
 pub none_some : {A : Type 0} (x : A) → None ≡ Some x → ⊥
 none_some x same = cc
 
@@ -51,6 +52,7 @@ held_up k waits = record {
   steps = no_steps;
 }
 
+-- a simulated modem is idle where nothing ever came and the line was read, and where the line took no octet that waits
 pub right_idle : RightIdle
 right_idle = (rests, held_up)
 
@@ -69,12 +71,14 @@ took_one k full = let same : 1 ≡ 0 = ap count_of full.took_none in absurd (ome
 unanswered : (came went : List ℕ) → ¬ IsAtRest plain came went only_read (after [] silent)
 unanswered came went rest = said_nothing rest.all_out
 
+-- the step that announces is due once 1 is open
 pub due_now : IsDue (announcing 0 one) (after [] ready_one) (Announce one (codes "RING"))
 due_now = record { next = step_at 0 (Announce one (codes "RING")); later = []; is_first = refl; is_its = refl; come = refl; open_are = refl; free = refl }
 
 not_done : (came went : List ℕ) → ¬ IsAtRest (announcing 0 one) came went only_read (after [] ready_one)
 not_done came went rest = none_some _ (rest.steps (Announce one (codes "RING")) due_now).asked
 
+-- it isn't where the line wasn't read or took the octet, a command wasn't answered, or a step is due
 pub wrong_idle : WrongIdle
 wrong_idle = (not_read, took_one, unanswered, not_done)
 
@@ -85,6 +89,7 @@ neither : (a b : Bool) → a ≡ false → b ≡ false → (a || b) ≡ false
 neither true b is is_too = cc
 neither false b is is_too = is_too
 
+-- nothing has changed where all is as it was
 pub stays : (s : SimState ℕ) → has_changed unseen s s ≡ false
 stays s =
     neither (is_fewer s.machine.unfed s.machine.unfed) _ (same_length (length s.machine.unfed))
@@ -92,6 +97,7 @@ stays s =
     (neither (is_fewer s.machine.out s.machine.out) _ (same_length (length s.machine.out))
     (same_length (holds_over s.machine.core.boxes))))
 
+-- a turn has moved where octets came, a frame was got or octets were handed on, and not where all stays
 pub moved_rows : MovedRows
 moved_rows = (λ k. refl, λ s f. refl, λ s octets. refl, stays, stays)
 
@@ -120,9 +126,11 @@ failing_before same = cc
 not_twice : (old new : SimState ℕ) → has_failed old ≡ true → ¬ ComesTo old new (Err why.Line)
 not_twice old new failed turn = failing_before (turn.failed.1 failed)
 
+-- Failed is answered just where the line had failed, and the line hasn't failed after Ok or NoMemory
 pub wrong_failures : WrongFailures
 wrong_failures = (not_before, not_after, not_by_memory, not_twice)
 
+-- what a poll gave is the end, but for want of memory
 pub end_rows : EndRows
 end_rows = (refl, refl, refl)
 
@@ -137,6 +145,7 @@ nothing_wants k still (step_is_due act due none) = none_left due.next due.later 
 nothing_wants k still (hold_is_over d there over) = not_both (is_released (box_at k.core d).hold) over (still.holds d)
 nothing_wants k still (frame_at_hand f hand) = none_some f (sym still.hand ∙ hand)
 
+-- memory is wanted for a step that announces and for a frame at hand, and not where there is nothing
 pub want_rows : WantRows
 want_rows = (step_wants, frame_wants, nothing_wants)
 
@@ -146,5 +155,6 @@ no_line s fails = let one = fails.one_failed in absurd (omega (arith, one))
 no_failed : (old new : SimState ℕ) → has_failed old ≡ false → ¬ Says (λ l. l) old new (Err why.Failed)
 no_failed old new sound had = not_both (has_failed old) had.before sound
 
+-- a poll gives no Line where no call failed, no Failed where none had, and neither Idle nor Moved nor BadN1
 pub wrong_givings : WrongGivings
 wrong_givings = (no_line, no_failed, λ old new is. is, λ old new is. is, λ old new is. is)

@@ -47,15 +47,18 @@ none_written old new says waits turn =
     let t = turn.exchange in
     waits (none_offered t.write old.machine.out (some_calls t.write t.read turn.exchanges.calls_are).0 turn.exchanges.offers)
 
+-- no turn leaves its line alone where it hasn't ended and nothing is to be fed, nor where octets wait for the line
 pub calls_nothing : CallsNothing
 calls_nothing = (none_read, none_written)
 
 apart : (m n : ℕ) → m ≡ n → (m == n) ≡ false → ⊥
 apart m n same other = grind (arith, nat_tests)
 
+-- a simulated modem isn't idle where its line counts no further empty read or stalled write
 pub wrong_counts : WrongCounts
 wrong_counts = (λ old new fed idle. apart 0 1 (idle.empty fed) refl, λ old new waits idle. apart 0 1 (idle.stalled waits) refl)
 
+-- no write offers nothing, and no read has no room
 pub wrong_calls : WrongCalls
 wrong_calls = (λ out offer. offer.some refl, λ room. let some = room.some in absurd (omega (arith, some)))
 
@@ -84,5 +87,6 @@ answer_left past hands = apart 6 0 (ap length (hands.all 1 (lit< tt) refl refl))
 frame_waits : ¬ NoneIsThere (after [] (comes Sabm 0 [] ∷ sends Ua 0 [] ∷ []))
 frame_waits none = apart 1 0 (ap length none.queue) refl
 
+-- no turn says Moved where nothing changed, or leaves undone a step, a frame at hand, an answer or a frame that waits
 pub wrong_turns : WrongTurns
 wrong_turns = (nothing_moved, step_left, frame_left, answer_left, frame_waits)

@@ -62,6 +62,7 @@ not_both : (b : Bool) → b ≡ true → b ≡ false → ⊥
 not_both true is isnt = cc
 not_both false is isnt = cc
 
+-- where an end has no step to do, none that is due by its past can be done
 pub none_can_be_done : (e : End) (w : Wired) (c : Core) (past : List Act) → HasNoneToDo c → Fits e w c past → NoneCanBeDone e past
 none_can_be_done e w c past (none_left none) fits act due = absurd (none_there due.next due.later (sym due.is_first ∙ fits.left_is ∙ ap that_act none))
 none_can_be_done e w c past (waits step later is acting why) fits act due = by_why why
@@ -102,6 +103,7 @@ hand_fits k f is hand = subst (λ (o : Option Frame). AtHand k.deframer.n1 k.def
 same_n1 : (e : End) (came went : List ℕ) (k : SimMachine) (past : List Act) → SimMachineFits e came went k past → k.core.station.n1 ≡ k.deframer.n1
 same_n1 e came went k past fits = ap (λ (s : sending.StationSetting). s.n1) fits.core_fits.setting_is ∙ sym fits.n1_is
 
+-- where its station refuses the frame at hand, what that calls for finds no room by the past
 pub no_room : (e : End) (came went : List ℕ) (k : SimMachine) (past : List Act) → HasNoneToTake k → SimMachineFits e came went k past → (f : Frame) → k.deframer.next ≡ Some f → has_room_for e past f ≡ false
 no_room e came went k past none fits f hand =
     let next = hand_fits k f hand fits.deframes.at_hand in
@@ -153,6 +155,7 @@ some_hand : (o : Option Frame) (e : End) (k : SimMachine) (past : List Act) → 
 some_hand None e k past is some = absurd (some is)
 some_hand (Some f) e k past is some = frame_at_hand f is
 
+-- what was left undone is left by the past
 pub is_left : (e : End) (came went : List ℕ) (k : SimMachine) (past : List Act) → LeavesUndone k → SimMachineFits e came went k past → IsLeft e k past
 is_left e came went k past (leaves_step s) fits =
     let core = fits.core_fits in
@@ -171,15 +174,18 @@ is_left e came went k past (leaves_octets h) fits =
     hold_is_over h.dlci (sym (opened_is e fits.wired k.core past h.dlci h.small fits.core_fits) ∙ h.opened) h.released
 is_left e came went k past (leaves_frame some) fits = some_hand k.deframer.next e k past refl some
 
+-- what follows where this refusal is NoMemory follows where the call was refused so
 pub refused_by : {P : Type 0} (r : Result SimTurn SimError) (e : SimError) → IsErrAnd r (λ y. y ≡ e) → IsErrOf r NoMemory → (IsErrOf {T = Bool} (Err e) NoMemory → P) → P
 refused_by (Ok turn) e is none there = cc
 refused_by (Err y) e is none there = let same : y ≡ NoMemory = cc in there (ap (λ (x : SimError). Err x) (sym is ∙ same))
 
+-- so memory is wanted in each past
 pub wants_memory : {X : Type 0} (received sent_by : X → List ℕ) (s : SimState X) → LeavesUndone s.machine → WantsMemory received sent_by s
 wants_memory received sent_by s left at e past fits = is_left e fits.came fits.went s.machine past left fits.machine_fits
 
 -- ## What goes out
 
+-- where no frame is next none waits in the control queue
 pub none_queued : (v : stations.Station) (q : List Frame) → next_given v q ≡ None → q ≡ []
 none_queued v [] is = refl
 none_queued v (f ∷ q) is = cc
@@ -277,6 +283,7 @@ rests e came went k t past written still fits =
 some_there_too : (x : ℕ) (xs : List ℕ) → x ∷ xs ≢ []
 some_there_too x xs same = cc
 
+-- a simulated modem that stood still is idle
 pub idle : (e : End) (came went : List ℕ) (k : SimMachine) (t : Exchange) (past : List Act) → StoodStill k t → SimMachineFits e came went k past → IsIdle e came went k t past
 idle e came went k t past still fits = by_out k.out refl
   where

@@ -67,6 +67,7 @@ hands_brings : (e : End) (w : Wired) (past : List Act) (c : Core) (some : Bool) 
 unfolding hands_on
 hands_brings e w past c some h = h.brings
 
+-- the next frame is put into the output, where all is written
 pub loads_frame : (old : SimMachine) (mid core : Core) (offered_any fresh : Bool) (g : Outgoing) (out : List ℕ) → old.out ≡ [] → (offers : OffersAll old.core mid offered_any) → Some g ≡ option_map (with_freshness fresh) (next_given mid.station mid.station.queue) → length g.frame.info ≤ 1024 → (length g.frame.info ≤ spelling.most_info 1024 g.frame.kind → out ≡ spelling.spelled g.frame) → GivesOut mid → core ≡ gone_on mid → Loads old (record old { core = core; out = out }) offers.some
 loads_frame old mid core offered_any fresh g out none offers some short writes gives is = puts offers.some none (λ e came went past fits.
     let h = offers.hands e fits.wired past fits.core_fits in
@@ -82,6 +83,7 @@ loads_frame old mid core offered_any fresh g out none offers some short writes g
       fits = gave.fits;
     })
 
+-- where none is next none is put there, and it says whether octets were handed on
 pub loads_no_frame : (old : SimMachine) (mid core : Core) (offered_any fresh : Bool) → old.out ≡ [] → (offers : OffersAll old.core mid offered_any) → None ≡ option_map (with_freshness fresh) (next_given mid.station mid.station.queue) → core ≡ gone_on mid → LoadsBy old (record old { core = core }) offered_any
 loads_no_frame old mid core offered_any fresh none offers no_frame is =
     let At : Core → Type 0 = λ c. LoadsBy old (record old { core = c }) offered_any in
@@ -111,6 +113,7 @@ given_later : (past now : List Act) (f : Frame) → IsGivenOn past f now → IsL
 given_later past now f (from_queue later is) = record { newer = Wire station.Given ∷ []; joins = refl }
 given_later past now f (sent_now is) = record { newer = Wire (station.Sent f) ∷ []; joins = refl }
 
+-- however it was loaded, the machine goes on
 pub loaded_goes : (old new : SimMachine) (some : Bool) → Loads old new some → SimMachineGoes any_act old new
 loaded_goes old new _ (some_wait some same) e came went past fits =
     let At : SimMachine → Type 0 = λ k. SimMachineFits e came went k past in

@@ -41,6 +41,7 @@ module _ {X : Type 0} (see : Sight X) (at : LineAt) (e : End) (past : List Act) 
         moves = moves_through n mid new before.now one.now before.moves one.turns;
       }
 
+-- whatever past a simulated modem fitted, the turns of a poll go on from it, each true of its part
 pub runs_in_histories : {X : Type 0} (see : Sight X) (old new : SimState X) (given : Option (Result SimTurn SimError)) → Runs see old new given → RunsInHistories see old new given
 runs_in_histories see old new _ (goes_on moves) at e past fits =
     let all = moved_to see at e past old new 64 moves fits in

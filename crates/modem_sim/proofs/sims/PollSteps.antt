@@ -28,6 +28,7 @@ machine_ending k end e came went past fits = record {
   };
 }
 
+-- so keeping what a poll gave changes nothing of how it goes on
 pub goes_given : {X : Type 0} (received sent : X → List ℕ) (old mid new : SimState X) (given : Option (Result SimTurn SimError)) → SimGoes received sent old mid → new ≡ with_given given mid → SimGoes received sent old new
 goes_given received sent old mid new None goes stays = subst (SimGoes received sent old) (sym stays) goes
 goes_given received sent old mid new (Some given) goes stays =

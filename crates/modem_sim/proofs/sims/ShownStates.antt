@@ -10,6 +10,7 @@ use Rattle.mux_station.specs.States.{state_of}
 use Rattle.modem_sim.specs.Acts.{Act, End, wire}
 use Rattle.modem_sim.specs.Sims.{FitsSim, LineAt, SimState, state_shown}
 
+-- the state of a connection that the station shows is the one after the past
 pub shown_is : {X : Type 0} (received sent : X → List ℕ) (s : SimState X) (d : ℕ) (shown : ChannelState) (at : LineAt) (e : End) (past : List Act) → ((past : List station.Act) → fitting.StationFits s.machine.core.station past → shown ≡ as_shown (state_of s.machine.core.station.role d past)) → FitsSim received sent at e s past → shown ≡ state_shown d past
 shown_is received sent s d shown at e past says fits =
     let core = fits.machine_fits.core_fits in

@@ -26,10 +26,12 @@ use Rattle.modem_sim.proofs.ends.OfferedPieces.{later_then}
 use Rattle.mux_station.proofs.law_proofs.PlainFrames.{plain_short}
 use Rattle.modem_sim.proofs.sims.WrittenFrames.{goes_out_plain}
 
+-- all acts are of any kind
 pub all_any : (acts : List Act) → list_all any_act acts ≡ true
 all_any [] = refl
 all_any (a ∷ acts) = all_any acts
 
+-- a machine goes on by no act
 pub machine_none : (may : Act → Bool) (k : SimMachine) → SimMachineGoes may k k
 machine_none may k e came went past fits = record { now = past; later = record { newer = []; joins = refl }; only = refl; fits = fits }
 
@@ -70,18 +72,22 @@ took_fits old core d f hand goes hands same e came went past fits = record {
   went_is = fits.went_is;
 }
 
+-- what is none is None
 pub none_so : {A : Type 0} (o : Option A) → is_none o ≡ true → o ≡ None
 none_so None is = refl
 none_so (Some x) is = cc
 
+-- so the frame at hand is taken, where what it calls for finds room
 pub takes_frame : (old : SimMachine) (core : Core) (d : Deframing) (f : Frame) → old.deframer.next ≡ Some f → EndGoesOn old.core core f → HandsOver old.deframer d → d.n1 ≡ old.deframer.n1 → got_refused (stations.setting_of old.core.station) (stations.seen_in old.core.station) f ≡ None → TakesFrame old (record old { core = core; deframer = d })
 takes_frame old core d f hand goes hands same room = record { frame = f; hand = hand; room = room; goes = took_fits old core d f hand goes hands same }
 
+-- a past goes on with an act of the station and all that it calls for
 unfoldable pub later_act : (e : End) (past : List Act) (a : station.Act) → IsLater past (after_wire_act e past a)
 later_act e past a =
     let begun = later-sent_after (sending.called_frames (setting e) (wire past) a) (Wire a ∷ past) in
     record { newer = begun.newer ++ Wire a ∷ []; joins = append_assoc begun.newer (Wire a ∷ []) past ∙ begun.joins }
 
+-- a machine goes on by the frame at hand
 pub machine_took : (old : SimMachine) (core : Core) (d : Deframing) (f : Frame) → old.deframer.next ≡ Some f → EndGoesOn old.core core f → HandsOver old.deframer d → d.n1 ≡ old.deframer.n1 → SimMachineGoes any_act old (record old { core = core; deframer = d })
 machine_took old core d f hand goes hands same e came went past fits =
     let later = later_act e past (station.Got f) in
@@ -99,6 +105,7 @@ pub record Gave (e : End) (came went : List ℕ) (past : List Act) (f : Frame) (
   pub written : k.out ≡ spelling.spelled f
   pub fits : SimMachineFits e came went k now
 
+-- the frame that its end gives on is written, where all before it is
 pub gave_fits : (old : SimMachine) (f : Frame) (out : List ℕ) → old.out ≡ [] → next_given old.core.station old.core.station.queue ≡ Some f → length f.info ≤ 1024 → (length f.info ≤ spelling.most_info 1024 f.kind → out ≡ spelling.spelled f) → GivesOut old.core → (e : End) (came went : List ℕ) (past : List Act) → SimMachineFits e came went old past → Gave e came went past f (record old { core = gone_on old.core; out = out })
 gave_fits old f out none next short writes gives e came went past fits =
     let went_on = gives f next e fits.wired past fits.core_fits in
@@ -133,6 +140,7 @@ fed_fits old d n takes same e came went past fits = record {
   went_is = fits.went_is;
 }
 
+-- so it goes on
 pub machine_fed : (old : SimMachine) (d : Deframing) (n : ℕ) → TakesIn old.deframer (take n old.unfed) d → d.n1 ≡ old.deframer.n1 → SimMachineGoes any_act old (record old { unfed = drop n old.unfed; deframer = d })
 machine_fed old d n takes same e came went past fits = record {
   now = past;
@@ -167,9 +175,11 @@ machine_wrote e came went past old n fits = record {
   went_is = append_assoc went (take n old.out) (drop n old.out) ∙ ap (λ x. went ++ x) (take-append-drop n old.out) ∙ fits.went_is;
 }
 
+-- a simulated modem goes on by nothing
 pub sim_none : {X : Type 0} (received sent : X → List ℕ) (s : SimState X) → SimGoes received sent s s
 sim_none received sent s at e past fits = record { now = past; later = record { newer = []; joins = refl }; fits = fits }
 
+-- and by one thing after another
 pub sim_then : {X : Type 0} (received sent : X → List ℕ) (a b c : SimState X) → SimGoes received sent a b → SimGoes received sent b c → SimGoes received sent a c
 sim_then received sent a b c p q at e past fits =
     let first = p at e past fits in
@@ -211,6 +221,7 @@ sim_line received sent s line came went at e past fits = record {
   fits = record { came = fits.came; went = fits.went; received_is = came ∙ fits.received_is; sent_is = went ∙ fits.sent_is; machine_fits = fits.machine_fits };
 }
 
+-- octets came, which wait for the deframer
 pub sim_read : {X : Type 0} (received sent : X → List ℕ) (s : SimState X) (line : X) (k : SimMachine) → Receives (received s.line) (received line) s.machine k → sent line ≡ sent s.line → SimGoes received sent s (record { line = line; machine = k })
 sim_read received sent s line k got went at e past fits =
     let At : SimMachine → Type 0 = λ x. SimMachineFits e (fits.came ++ got.fresh) fits.went x past in
@@ -226,6 +237,7 @@ sim_read received sent s line k got went at e past fits =
       };
     }
 
+-- the line took the first of the octets that wait for it
 pub sim_wrote : {X : Type 0} (received sent : X → List ℕ) (s : SimState X) (line : X) (k : SimMachine) (n : ℕ) → received line ≡ received s.line → sent line ≡ sent s.line ++ take n s.machine.out → k ≡ record s.machine { out = drop n s.machine.out } → SimGoes received sent s (record { line = line; machine = k })
 sim_wrote received sent s line k n came went is at e past fits =
     let At : SimMachine → Type 0 = λ x. SimMachineFits e fits.came (fits.went ++ take n s.machine.out) x past in
@@ -249,16 +261,19 @@ sim_failed received sent s line k came went is =
     subst At (sym is)
     (sim_then received sent s there (record { line = line; machine = record s.machine { failed = true } }) (sim_line received sent s line came went) (sim_machine_goes received sent there any_act (record s.machine { failed = true }) (machine_failed s.machine)))
 
+-- the line took some, or failed
 pub sim_wrote_by : {X E : Type 0} (received sent : X → List ℕ) (s : SimState X) (line : X) (k : SimMachine) (r : Result ℕ E) → IfOk r (λ n. sent line ≡ sent s.line ++ take n s.machine.out) → IfOk r (λ n. k ≡ record s.machine { out = drop n s.machine.out }) → OnErr r (sent line ≡ sent s.line) → OnErr r (k ≡ record s.machine { failed = true }) → received line ≡ received s.line → SimGoes received sent s (record { line = line; machine = k })
 sim_wrote_by received sent s line k (Ok n) went is none_went failed came = sim_wrote received sent s line k n came went is
 sim_wrote_by received sent s line k (Err why) went is none_went failed came = sim_failed received sent s line k came none_went failed
 
+-- octets came, or the line failed
 pub sim_read_by : {X A E : Type 0} (received sent : X → List ℕ) (s : SimState X) (line : X) (k : SimMachine) (r : Result A E) → OnOk r (Receives (received s.line) (received line) s.machine k) → OnErr r (received line ≡ received s.line) → OnErr r (k ≡ record s.machine { failed = true }) → sent line ≡ sent s.line → SimGoes received sent s (record { line = line; machine = k })
 sim_read_by received sent s line k (Ok n) came none_came failed went = sim_read received sent s line k came went
 sim_read_by received sent s line k (Err why) came none_came failed went = sim_failed received sent s line k none_came went failed
 
 -- ## The next frame
 
+-- where nothing comes of it there was none
 pub none_mapped : {A B : Type 0} (f : A → B) (o : Option A) → None ≡ option_map f o → o ≡ None
 none_mapped f None is = refl
 none_mapped f (Some x) is = cc

@@ -17,6 +17,7 @@ not_moved same = cc
 not_ended : Ended ≡ Idle → ⊥
 not_ended same = cc
 
+-- a turn in which something was done may answer Moved
 pub turn_moved : {X : Type 0} (see : Sight X) (old new : SimState X) (moved : Bool) → GoesOnce see old new moved → moved ≡ true → GoesTurn see old new Moved
 turn_moved see old new moved once really = record {
   exchange = once.exchange;
@@ -42,6 +43,7 @@ idle_at_line see old new t deals still = record {
   stalled = λ some. deals.stalled_are ∙ ap (λ w. stalled_after w (see.stalled_writes old.line)) (still.full some) ∙ some_stalled new.machine.out (see.stalled_writes old.line) some;
 }
 
+-- one in which nothing was may answer Idle
 pub turn_idle : {X : Type 0} (see : Sight X) (old new : SimState X) (moved : Bool) → GoesOnce see old new moved → moved ≡ false → GoesTurn see old new Idle
 turn_idle see old new moved once none =
     let still = once.still none in
@@ -61,6 +63,7 @@ turn_idle see old new moved once none =
           };
     }
 
+-- one after which the modem has closed down and written all may answer Ended
 pub turn_over : {X : Type 0} (see : Sight X) (old new : SimState X) (moved : Bool) → GoesOnce see old new moved → is_ended new.machine ≡ true → GoesTurn see old new Ended
 turn_over see old new moved once over = record {
   exchange = once.exchange;
@@ -82,6 +85,7 @@ not_both : {P : Type 0} (b : Bool) → b ≡ true → b ≡ false → P
 not_both true is other = cc
 not_both false is other = cc
 
+-- so may one that does nothing, where it had ended before
 pub turn_was_over : {X : Type 0} (see : Sight X) (s : SimState X) → is_ended s.machine ≡ true → GoesTurn see s s Ended
 turn_was_over see s over = record {
   exchange = record { write = None; read = None };

@@ -13,9 +13,11 @@ use Rattle.modem_sim.specs.Cores.{Core, IsHandedOn, gone_on}
 use Rattle.modem_sim.specs.Stills.{Feeds, FeedsNone, LoadsNone, ReadsOnce, Writes}
 use Rattle.modem_sim.proofs.sims.SimPasts.{fed_fits, fetched_nothing, none_mapped}
 
+-- a list of length 0 is empty
 pub none_of : {A : Type 0} (xs : List A) → (length xs == 0) ≡ true → xs ≡ []
 none_of xs is = let zero : length xs ≡ 0 = grind (arith, nat_tests) in nil_from_length xs zero
 
+-- a list of another length isn't
 pub some_of : {A : Type 0} (xs : List A) → (length xs == 0) ≡ false → xs ≢ []
 some_of [] is = cc
 some_of (x ∷ xs) is = λ none. cc
@@ -25,6 +27,7 @@ is_zero n is = grind (arith, nat_tests)
 
 -- ## Feeding
 
+-- where no octets wait for the deframer it takes none
 pub feeds_nothing : (k : SimMachine) → (length k.unfed == 0) ≡ true → FeedsNone k k
 feeds_nothing k empty = record {
   stays = λ e came went past fits. fits;
@@ -33,6 +36,7 @@ feeds_nothing k empty = record {
   none = λ none. none_of k.unfed empty;
 }
 
+-- nor where it takes none of those that wait, since a frame is at hand
 pub feeds_none : (old : SimMachine) (d : Deframing) (n : ℕ) → TakesIn old.deframer (take n old.unfed) d → d.n1 ≡ old.deframer.n1 → (old.deframer.next ≡ None → 0 < length old.unfed → 0 < n) → ((f : Frame) → old.deframer.next ≡ Some f → d.next ≡ Some f) → nat_lt 0 n ≡ false → (length old.unfed == 0) ≡ false → FeedsNone old (record old { unfed = drop n old.unfed; deframer = d })
 feeds_none old d n takes same some stays none waiting =
     let zero = is_zero n none in
@@ -55,6 +59,7 @@ some_length : (xs : List ℕ) → xs ≢ [] → 0 < length xs
 some_length [] some = absurd (some refl)
 some_length (x ∷ xs) some = omega arith
 
+-- where none wait none are fed
 pub feeds_empty : (k : SimMachine) → (length k.unfed == 0) ≡ true → Feeds k k
 feeds_empty k empty = record {
   stays = λ e came went past fits. fits;
@@ -68,6 +73,7 @@ first_taken zero xs some there = absurd (omega (arith, some))
 first_taken (suc n) [] some there = absurd (there refl)
 first_taken (suc n) (x ∷ xs) some there = λ none. cc
 
+-- the first of those that wait are fed
 pub feeds_some : (old : SimMachine) (d : Deframing) (n : ℕ) → TakesIn old.deframer (take n old.unfed) d → d.n1 ≡ old.deframer.n1 → (old.deframer.next ≡ None → 0 < length old.unfed → 0 < n) → ((f : Frame) → old.deframer.next ≡ Some f → d.next ≡ Some f) → Feeds old (record old { unfed = drop n old.unfed; deframer = d })
 feeds_some old d n takes same some stays = record {
   stays = fed_fits old d n takes same;
@@ -82,9 +88,11 @@ feeds_some old d n takes same some stays = record {
 
 -- ## Loading
 
+-- where none stood ready to be written and some do, more do
 pub more_ready : (before now : List ℕ) → before ≡ [] → now ≢ [] → length before < length now
 more_ready before now none some = let zero = ap length none in let long = some_length now some in omega (arith, zero, long)
 
+-- where all is handed on and no frame is next nothing is loaded
 pub loads_nothing : (old : SimMachine) (mid core : Core) (fresh : Bool) → mid ≡ old.core → None ≡ option_map (with_freshness fresh) (next_given mid.station mid.station.queue) → core ≡ gone_on mid → ((d : ℕ) → d < 62 → IsHandedOn old.core d) → LoadsNone old (record old { core = core })
 loads_nothing old mid core fresh same none is handed = record {
   same = ap (λ (c : Core). record old { core = c }) (fetched_nothing old.core mid core fresh same none is);
@@ -96,6 +104,7 @@ loads_nothing old mid core fresh same none is handed = record {
 
 -- ## The line
 
+-- where no octets wait the line is offered none
 pub writes_nothing : (k : SimMachine) (sent : List ℕ) (calls stalled : ℕ) → (length k.out == 0) ≡ true → Writes sent sent calls calls stalled stalled k k 0
 writes_nothing k sent calls stalled empty = record {
   write = None;
@@ -109,6 +118,7 @@ writes_nothing k sent calls stalled empty = record {
   none = λ some zero. absurd (some (none_of k.out empty));
 }
 
+-- where some wait it is offered all, and takes the first
 pub writes_some : (old new : SimMachine) (before sent : List ℕ) (calls_before calls stalled_before stalled n : ℕ) → (length old.out == 0) ≡ false → n ≤ length old.out → sent ≡ before ++ take n old.out → calls ≡ one_more calls_before → stalled ≡ counted_if_none (length old.out) n stalled_before → new ≡ record old { out = drop n old.out } → Writes before sent calls_before calls stalled_before stalled old new n
 writes_some old new before sent calls_before calls stalled_before stalled n some bound went counted stalls is = record {
   write = Some (record { offered = old.out; count = n });
@@ -122,6 +132,7 @@ writes_some old new before sent calls_before calls stalled_before stalled n some
   none = λ there zero. ap (λ m. Some (record { offered = old.out; count = m })) zero;
 }
 
+-- while octets wait for the deframer the line isn't read
 pub reads_nothing : (k : SimMachine) (received : List ℕ) (calls empty : ℕ) → (length k.unfed == 0) ≡ false → ReadsOnce received received calls calls empty empty k k false
 reads_nothing k received calls empties some = record {
   read = None;
@@ -136,6 +147,7 @@ reads_nothing k received calls empties some = record {
   none = λ empty none. absurd (some_of k.unfed some empty);
 }
 
+-- else it is read, with room for 512 octets
 pub reads_some : (old new : SimMachine) (before received octets : List ℕ) (calls_before calls empty_before empty_now n : ℕ) → (length old.unfed == 0) ≡ true → n ≤ 512 → n ≡ length octets → received ≡ before ++ octets → calls ≡ one_more calls_before → empty_now ≡ counted_if_none 512 n empty_before → new ≡ record old { unfed = octets } → ReadsOnce before received calls_before calls empty_before empty_now old new (nat_lt 0 n)
 reads_some old new before received octets calls_before calls empty_before empty_now n empty bound count came counted empties is = record {
   read = Some (record { room = 512; octets = octets });

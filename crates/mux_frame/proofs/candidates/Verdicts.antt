@@ -61,6 +61,7 @@ is_uih-true (Some Uih) e = refl
 uih_computed : agree_below (λ x. if bit_or x 0x10 == 0xFF then is_uih (kind_in x) else true) (λ _. true) 256 ≡ true
 uih_computed = refl
 
+-- an octet that is FF once its P/F is set is a control octet of UIH
 pub uih_octet : (x : ℕ) → x < 256 → bit_or x 0x10 ≡ 0xFF → Some Uih ≡ kind_in x
 uih_octet x h e =
     let r : (if bit_or x 0x10 == 0xFF then is_uih (kind_in x) else true) ≡ true = agree_below_at (λ y. if bit_or y 0x10 == 0xFF then is_uih (kind_in y) else true) (λ _. true) 256 x uih_computed h in
@@ -394,5 +395,6 @@ unfolding verdict_on by_header
 verdict_means n1 [] h = cut_none n1
 verdict_means n1 (x ∷ t) h = address_means n1 x t (x % 2 == 1) (nat_lt (x / 4) 62) refl refl (λ i. h (suc i))
 
+-- so does a verdict that is known to be the one on these octets
 pub means_from : (n1 : ℕ) (t : List ℕ) (v : Verdict) → ((i : ℕ) → slice_index t i < 256) → v ≡ verdict_on n1 t → Means n1 t v
 means_from n1 t v o e = subst (Means n1 t) (sym e) (verdict_means n1 t o)

@@ -23,6 +23,7 @@ from_flag-some-at : (b : Bool) (x : ℕ) (xs t : List ℕ) → (x == flag) ≡ b
 from_flag-some-at true x xs t e a h = let same = eqb-true x flag e in let k = some_same xs t a in cc
 from_flag-some-at false x xs t e a h = h a
 
+-- from the first flag on stand the flag and what comes after it
 pub from_flag-some : (xs t : List ℕ) → after_flag xs ≡ Some t → from_flag xs ≡ flag ∷ t
 from_flag-some [] t e = cc
 from_flag-some (x ∷ xs) t e = from_flag-some-at (x == flag) x xs t refl e (from_flag-some xs t)
@@ -31,6 +32,7 @@ from_flag-none-at : (b : Bool) (x : ℕ) (xs : List ℕ) → (if b then Some xs 
 from_flag-none-at true x xs a h = cc
 from_flag-none-at false x xs a h = h a
 
+-- and nothing, where there is no flag
 pub from_flag-none : (xs : List ℕ) → after_flag xs ≡ None → from_flag xs ≡ []
 from_flag-none [] e = refl
 from_flag-none (x ∷ xs) e = from_flag-none-at (x == flag) x xs e (from_flag-none xs)
@@ -94,6 +96,7 @@ refused_drop-at n1 x t false e v o = record {
 no_refused : unfinished ≡ refused → ⊥
 no_refused e = cc
 
+-- where octets are refused, the same is read without the first of them
 pub refused_drop : (n1 : ℕ) (u : List ℕ) → refused ≡ decision_on n1 u → AreOctets u → SameReading n1 u (drop 1 u)
 refused_drop n1 [] v o = absurd (no_refused (sym v))
 refused_drop n1 (x ∷ t) v o = refused_drop-at n1 x t (x == flag) refl (sym v) (λ i. o (suc i))
@@ -103,6 +106,7 @@ refused_long : (n1 : ℕ) (u : List ℕ) → refused ≡ decision_on n1 u → 1 
 refused_long n1 [] v = absurd (no_refused (sym v))
 refused_long n1 (x ∷ t) v = omega arith
 
+-- so where they are refused at a place, an octet stands there
 pub refused_some : (n1 start : ℕ) (s : List ℕ) → refused ≡ decision_on n1 (drop start s) → start + 1 ≤ length s
 refused_some n1 start s e = let k = refused_long n1 (drop start s) e in let i = length-drop start s in omega (arith, k, i)
 
@@ -110,27 +114,33 @@ refused_some n1 start s e = let k = refused_long n1 (drop start s) e in let i = 
 pub flag_reads : (n1 : ℕ) (t : List ℕ) → SameReading n1 t (from_flag t)
 flag_reads n1 t = record { reads = λ y gs rest r. same_after n1 (from_flag t ++ y) (t ++ y) gs rest (sym (after_from_flag t y)) r }
 
+-- octets but the first so many are octets
 pub octets-drop : (n : ℕ) (xs : List ℕ) → AreOctets xs → AreOctets (drop n xs)
 octets-drop zero xs o = o
 octets-drop (suc n) [] o = o
 octets-drop (suc n) (x ∷ xs) o = octets-drop n xs (λ i. o (suc i))
 
+-- and of joined octets the first are
 pub octets-front : (xs ys : List ℕ) → AreOctets (xs ++ ys) → AreOctets xs
 octets-front [] ys o i = omega arith
 octets-front (x ∷ xs) ys o zero = o zero
 octets-front (x ∷ xs) ys o (suc i) = octets-front xs ys (λ j. o (suc j)) i
 
+-- octets are read as themselves
 pub same_reading_none : (n1 : ℕ) (u : List ℕ) → SameReading n1 u u
 same_reading_none n1 u = record { reads = λ x gs rest r. r }
 
+-- where octets are read as others, and these as third ones, the first are read as the third
 pub same_reading_then : (n1 : ℕ) (u v w : List ℕ) → SameReading n1 u v → SameReading n1 v w → SameReading n1 u w
 same_reading_then n1 u v w h k = record { reads = λ x gs rest r. h.reads x gs rest (k.reads x gs rest r) }
 
 -- What begins no frame is passed.
 
+-- nothing is passed at first
 pub passed_none : (n1 : ℕ) (s : List ℕ) → IsPassed n1 s 0
 passed_none n1 s = record { within = omega arith; reads = same_reading_none n1 s; kept = λ h. refl }
 
+-- where octets are refused behind what is passed, their first is passed too
 pub passed_one : (n1 start : ℕ) (s : List ℕ) → AreOctets s → IsPassed n1 s start → refused ≡ decision_on n1 (drop start s) → IsPassed n1 s (start + 1)
 passed_one n1 start s o p e =
     let one : drop 1 (drop start s) ≡ drop (start + 1) s = drop-drop 1 start s in
@@ -189,6 +199,7 @@ passed_then n1 a b s p q =
 
 -- Candidates.
 
+-- of a candidate behind two flags the first flag is passed, of one behind a single flag none
 pub candidate_passed : (n1 start : ℕ) (s text : List ℕ) (b : Bool) → start ≡ bool_byte b → IsCandidate s b text → AreOctets s → IsPassed n1 s start
 candidate_passed n1 start s text true e h o = rw (e, h) (passed_one n1 0 (flag ∷ flag ∷ text) (subst AreOctets h o) (passed_none n1 (flag ∷ flag ∷ text)) (two_flags n1 text))
 candidate_passed n1 start s text false e h o = rw e (passed_none n1 s)
@@ -201,12 +212,14 @@ candidate_behind start s text false e h = rw (e, h) refl
 pub candidate_decision : (n1 start : ℕ) (s text : List ℕ) (b : Bool) (v : Verdict) → start ≡ bool_byte b → IsCandidate s b text → v ≡ verdict_on n1 text → v ≡ decision_on n1 (drop start s)
 candidate_decision n1 start s text b v e h k = decision_behind n1 flag (drop start s) text v (candidate_behind start s text b e h) refl k
 
+-- what is unfinished isn't refused
 pub unfinished_stays : (n1 : ℕ) (u : List ℕ) → unfinished ≡ decision_on n1 u → decision_on n1 u ≢ refused
 unfinished_stays n1 u e k = no_refused (e ∙ k)
 
 no_fitting : (h : Header) → fits h ≡ refused → ⊥
 no_fitting h e = cc
 
+-- nor is what fits
 pub fits_stays : (n1 : ℕ) (u : List ℕ) (h : Header) → fits h ≡ decision_on n1 u → decision_on n1 u ≢ refused
 fits_stays n1 u h e k = no_fitting h (e ∙ k)
 

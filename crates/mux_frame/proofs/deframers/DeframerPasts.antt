@@ -50,6 +50,7 @@ decided-verdict n1 b later f (fits h) s m =
     let u = one_spelling n1 n1 m.octets b (flag ∷ m.later) (flag ∷ later) (frame_at h (b ++ flag ∷ later)) f m.spells s (sym m.text) in
     (ap Some u.1, no_refusal h)
 
+-- so it is of every such text of octets
 pub decided_next : (n1 : ℕ) (u : List ℕ) (f : Frame) → AreOctets u → IsNext n1 u f → IsDecided n1 u f
 unfolding next_in
 decided_next n1 u f o k =
@@ -59,6 +60,7 @@ decided_next n1 u f o k =
     let d : IsDecided n1 w f = record { next = r.0; decided = r.1 } in
     subst (λ z. IsDecided n1 z f) (sym k.text) d
 
+-- and the frame is the next with more octets behind the text too
 pub is_next-append : (n1 : ℕ) (u x : List ℕ) (f : Frame) → IsNext n1 u f → IsNext n1 (u ++ x) f
 is_next-append n1 u x f k = record { octets = k.octets; later = k.later ++ x; text = ap (λ z. z ++ x) k.text ∙ append_assoc (flag ∷ k.octets) (flag ∷ k.later) x; spells = k.spells }
 
@@ -89,6 +91,7 @@ most_info_le n1 Dm = omega arith
 most_info_le n1 Disc = omega arith
 most_info_le n1 Uih = omega arith
 
+-- a frame without its flags has N1 + 5 octets at most
 pub spelling_short : (n1 : ℕ) (b : List ℕ) (f : Frame) → Spells n1 b f → length b ≤ n1 + 5
 spelling_short n1 b f s =
     let e = simp length-append at (ap length s.octets) in
@@ -132,10 +135,12 @@ front-at n1 x t h false e o d = absurd (no_refusal h d)
 no_unfinished : (h : Header) → fits h ≢ unfinished
 no_unfinished h e = cc
 
+-- octets that fit begin with a flag and the frame of their header
 pub front_is : (n1 : ℕ) (u : List ℕ) (h : Header) → AreOctets u → fits h ≡ decision_on n1 u → IsFront n1 u h
 front_is n1 [] h o d = absurd (no_unfinished h d)
 front_is n1 (x ∷ t) h o d = front-at n1 x t h (x == flag) refl (λ i. o (suc i)) d
 
+-- they are as many as that frame with both its flags has, or more
 pub front_long : (n1 : ℕ) (u : List ℕ) (h : Header) → IsFront n1 u h → h.size + h.info_len + 3 ≤ length u
 front_long n1 u h k =
     let a = ap length k.starts in
@@ -143,6 +148,7 @@ front_long n1 u h k =
     let l = k.whole.size in
     omega (arith, a, e, l)
 
+-- and that frame is the next one
 pub front_next : (n1 : ℕ) (u : List ℕ) (h : Header) → IsFront n1 u h → IsNext n1 u (frame_at h (drop 1 u))
 front_next n1 u h k = record { octets = k.whole.octets; later = k.whole.later; text = k.starts ∙ ap (λ z. flag ∷ z) k.whole.text; spells = k.whole.spells }
 
@@ -152,6 +158,7 @@ front_later n1 u h k =
     let n : h.size + h.info_len + 2 ≡ suc (h.size + h.info_len + 1) = omega arith in
     ap (λ z. drop (h.size + h.info_len + 2) z) k.starts ∙ ap (λ i. drop i (flag ∷ drop 1 u)) n ∙ whole_later n1 (drop 1 u) h k.whole
 
+-- the frame of a decision on octets is the one at hand in them
 pub next_of : (n1 : ℕ) (u : List ℕ) (v : Verdict) → v ≡ decision_on n1 u → frame_in u v ≡ next_in n1 u
 unfolding next_in
 next_of n1 u v e = ap (frame_in u) e
@@ -176,6 +183,7 @@ next_reads n1 u y f gs rest k r =
     let e : u ++ y ≡ flag ∷ (k.octets ++ flag ∷ (k.later ++ y)) = ap (λ z. z ++ y) k.text ∙ append_assoc (flag ∷ k.octets) (flag ∷ k.later) y in
     subst (λ z. Reads n1 z (f ∷ gs) rest) (sym e) (frame (flag ∷ (k.octets ++ flag ∷ (k.later ++ y))) k.octets (k.later ++ y) f gs rest refl k.spells r)
 
+-- so it is where what is kept is read as its closing flag and what follows are
 pub past_advanced : (n1 : ℕ) (taken u v : List ℕ) (handed : List Frame) (f : Frame) → Deframes taken handed (record { n1 = n1; undecided = u; next = Some f }) → (k : IsNext n1 u f) → SameReading n1 (flag ∷ k.later) v → AreOctets v → decision_on n1 v ≢ refused → Deframes taken (handed ++ f ∷ []) (record { n1 = n1; undecided = v; next = next_in n1 v })
 past_advanced n1 taken u v handed f p k s q d = record {
   reads = λ y gs rest r. subst (λ z. Reads n1 (taken ++ y) z rest) (sym (append_assoc handed (f ∷ []) gs)) (p.reads y (f ∷ gs) rest (next_reads n1 u y f gs rest k (s.reads y gs rest r)));
@@ -185,6 +193,7 @@ past_advanced n1 taken u v handed f p k s q d = record {
 
 -- Octets of octets.
 
+-- the first so many of octets are octets
 pub octets-take : (n : ℕ) (xs : List ℕ) → AreOctets xs → AreOctets (take n xs)
 octets-take zero xs o i = lit< tt
 octets-take (suc n) [] o i = lit< tt

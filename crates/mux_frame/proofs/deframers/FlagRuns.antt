@@ -16,6 +16,7 @@ others_at : (b : Bool) (r n : ℕ) → n ≤ r → nat_lt n r ≡ b → unwrap_o
 others_at true r n l e = refl
 others_at false r n l e = let k = ltb-false n r e in omega (arith, l, k)
 
+-- so its place, or the end where there is none, tells how many flags stand at the front
 pub flags_before : (s : List ℕ) (r : Option ℕ) (n : ℕ) → r ≡ position (λ x. not (x == flag)) s → n ≡ unwrap_or r (length s) → n ≡ flags_at_front s
 flags_before s r n e h =
     h ∙ ap (λ o. unwrap_or o (length s)) e ∙ others_at (nat_lt (flags_at_front s) (length s)) (length s) (flags_at_front s) (prefix_len-le-length (λ x. not (not (x == flag))) s) refl

@@ -44,6 +44,7 @@ reads_later n1 start s t l h = record {
 refused_finished : refused ≢ unfinished
 refused_finished e = cc
 
+-- what is passed is passed with other octets behind too
 pub passed_later : (n1 start : ℕ) (s t : List ℕ) → IsPassed n1 s start → IsPassed n1 (s ++ t) start
 passed_later n1 start s t p =
     let w = p.within in
@@ -67,10 +68,12 @@ searched_later n1 start place s t o q =
     let d : drop start s ++ t ≡ drop start (s ++ t) = sym (drop-append-le start s t q.passed.within) in
     searched_fits n1 start place (s ++ t) a.header o (passed_later n1 start s t q.passed) (e ∙ ap (decision_on n1) d) a.place_is
 
+-- without other octets behind, the search says the same
 pub searched_alone : (n1 start : ℕ) (s t : List ℕ) (o : Option ℕ) → true ≡ (length t == 0) → IsSearched n1 s start o → IsSearched n1 (s ++ t) start o
 searched_alone n1 start s [] o e q = subst (λ z. IsSearched n1 z start o) (sym (append-nil s)) q
 searched_alone n1 start s (x ∷ t) o e q = let z = eqb-true (length (x ∷ t)) 0 (sym e) in absurd (omega (arith, z))
 
+-- and with some it does where a frame was found
 pub some_found : (n1 start : ℕ) (s t : List ℕ) (o : Option ℕ) → AreOctets (s ++ t) → true ≡ is_some o → IsSearched n1 s start o → IsSearched n1 (s ++ t) start o
 some_found n1 start s t None a e q = cc
 some_found n1 start s t (Some place) a e q = searched_later n1 start place s t a q

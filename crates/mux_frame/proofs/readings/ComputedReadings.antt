@@ -38,6 +38,7 @@ after_shorter-at : (b : Bool) (xs t : List ℕ) → (if b then Some xs else afte
 after_shorter-at true xs t e h = let k = ap length (some_same xs t e) in omega (arith, k)
 after_shorter-at false xs t e h = let k = h e in omega (arith, k)
 
+-- what stands after the first flag is shorter than all
 pub after_shorter : (s t : List ℕ) → after_flag s ≡ Some t → length t < length s
 after_shorter [] t e = cc
 after_shorter (x ∷ xs) t e = let k = after_shorter-at (x == flag) xs t e (after_shorter xs t) in omega (arith, k)
@@ -49,19 +50,23 @@ after_octets-at : (b : Bool) (xs t : List ℕ) → (if b then Some xs else after
 after_octets-at true xs t e o h = subst AreOctets (some_same xs t e) o
 after_octets-at false xs t e o h = h e
 
+-- and of octets, where all is
 pub after_octets : (s t : List ℕ) → after_flag s ≡ Some t → AreOctets s → AreOctets t
 after_octets [] t e o = absurd (none_is_not t e)
 after_octets (x ∷ xs) t e o = after_octets-at (x == flag) xs t e (λ i. o (suc i)) (λ h. after_octets xs t h (λ i. o (suc i)))
 
+-- octets joined are octets
 pub octets_both : (xs ys : List ℕ) → AreOctets xs → AreOctets ys → AreOctets (xs ++ ys)
 octets_both [] ys o p i = p i
 octets_both (x ∷ xs) ys o p zero = o 0
 octets_both (x ∷ xs) ys o p (suc i) = octets_both xs ys (λ j. o (suc j)) p i
 
+-- of joined octets the second are octets
 pub octets_right : (xs ys : List ℕ) → AreOctets (xs ++ ys) → AreOctets ys
 octets_right [] ys o i = o i
 octets_right (x ∷ xs) ys o i = octets_right xs ys (λ j. o (suc j)) i
 
+-- and so are the first
 pub octets_left : (xs ys : List ℕ) → AreOctets (xs ++ ys) → AreOctets xs
 octets_left [] ys o i = lit< tt
 octets_left (x ∷ xs) ys o zero = o 0
@@ -74,6 +79,7 @@ drop_octets n t o i = let k = o (n + i) in rw (get_or-drop) k
 pub refused_frame : (n1 : ℕ) (t : List ℕ) → IsRefused n1 t → ¬ HasFrame n1 t
 refused_frame n1 t r h = r h.octets h.later [] h.frame h.spells (sym h.text ∙ sym (append-nil t))
 
+-- and is no proper beginning of one
 pub refused_cut : (n1 : ℕ) (t : List ℕ) → IsRefused n1 t → ¬ IsCutShort n1 t
 refused_cut n1 t r h = r h.octets [] h.missing h.frame h.spells h.text
 
@@ -87,6 +93,7 @@ refused_reads-at n1 x s t fs rest false e h r q = other s (x ∷ t) fs rest h (�
 no_fill : IsFill [] → ⊥
 no_fill f = let e = f.text in cc
 
+-- where the text after the first flag is refused, what is read in it is what is read in all
 pub refused_reads : (n1 : ℕ) (s t : List ℕ) (fs : List Frame) (rest : List ℕ) → after_flag s ≡ Some t → IsRefused n1 t → Reads n1 t fs rest → Reads n1 s fs rest
 refused_reads n1 s [] fs rest h r q = other s [] fs rest h no_fill (refused_frame n1 [] r) (refused_cut n1 [] r) q
 refused_reads n1 s (x ∷ t) fs rest h r q = refused_reads-at n1 x s t fs rest (x == flag) refl h r q
@@ -95,6 +102,7 @@ refused_reads n1 s (x ∷ t) fs rest h r q = refused_reads-at n1 x s t fs rest (
 pub whole_later : (n1 : ℕ) (t : List ℕ) (h : Header) (w : IsWhole n1 t h) → drop (h.size + h.info_len + 1) t ≡ flag ∷ w.later
 whole_later n1 t h w = rw (← w.size) (ap (drop (length w.octets)) w.text ∙ drop-append_seam w.octets (flag ∷ w.later))
 
+-- where one stands after the first flag, it is read before those that are read from its closing flag on
 pub whole_reads : (n1 : ℕ) (s t : List ℕ) (h : Header) (fs : List Frame) (rest : List ℕ) → after_flag s ≡ Some t → IsWhole n1 t h → Reads n1 (drop (h.size + h.info_len + 1) t) fs rest → Reads n1 s (frame_at h t ∷ fs) rest
 whole_reads n1 s t h fs rest e w q = frame s w.octets w.later (frame_at h t) fs rest (e ∙ ap Some w.text) w.spells (subst (λ z. Reads n1 z fs rest) (whole_later n1 t h w) q)
 
@@ -119,6 +127,7 @@ found_reads n1 zero [] l o = no_flag [] refl
 found_reads n1 zero (x ∷ s) l o = absurd (omega arith)
 found_reads n1 (suc n) s l o = found_after_reads n1 n s (after_flag s) refl l o (found_reads n1 n)
 
+-- all octets have a reading
 pub total_reading : (n1 : ℕ) (s : List ℕ) → AreOctets s → Reading n1 s
 total_reading n1 s o = record { frames = (found_in n1 (length s) s).frames; rest = (found_in n1 (length s) s).rest; reads = found_reads n1 (length s) s (omega arith) o }
 
@@ -126,20 +135,25 @@ total_reading n1 s o = record { frames = (found_in n1 (length s) s).frames; rest
 pub record ReadsSoFar (n1 : ℕ) (s : List ℕ) (fs : List Frame) (left : List ℕ) : Type 0 where
   pub going_on : (gs : List Frame) (rest : List ℕ) → Reads n1 left gs rest → Reads n1 s (fs ++ gs) rest
 
+-- at first no frame is read, and all is left
 pub so_far_none : (n1 : ℕ) (s : List ℕ) → ReadsSoFar n1 s [] s
 so_far_none n1 s = record { going_on = λ gs rest r. r }
 
+-- where the text after the first flag is refused, no frame is read, and the text is left
 pub so_far_refused : (n1 : ℕ) (s left t : List ℕ) (fs : List Frame) → ReadsSoFar n1 s fs left → after_flag left ≡ Some t → IsRefused n1 t → ReadsSoFar n1 s fs t
 so_far_refused n1 s left t fs h e r = record { going_on = λ gs rest q. h.going_on gs rest (refused_reads n1 left t gs rest e r q) }
 
+-- where it begins with a whole frame, that is read, and what is left begins with its closing flag
 pub so_far_whole : (n1 : ℕ) (s left t : List ℕ) (fs : List Frame) (h : Header) → ReadsSoFar n1 s fs left → after_flag left ≡ Some t → IsWhole n1 t h → ReadsSoFar n1 s (fs ++ frame_at h t ∷ []) (drop (h.size + h.info_len + 1) t)
 so_far_whole n1 s left t fs h k e w = record {
   going_on = λ gs rest q. rw (append_assoc fs (frame_at h t ∷ []) gs) (k.going_on (frame_at h t ∷ gs) rest (whole_reads n1 left t h gs rest e w q));
 }
 
+-- where no flag is left, these are all frames, and there is no rest
 pub so_far_end : (n1 : ℕ) (s left : List ℕ) (fs : List Frame) → ReadsSoFar n1 s fs left → after_flag left ≡ None → Reads n1 s fs []
 so_far_end n1 s left fs h e = subst (λ gs. Reads n1 s gs []) (append-nil fs) (h.going_on [] [] (no_flag left e))
 
+-- where the text after the first flag is a proper beginning of a frame, these are all, and the rest is flag and text
 pub so_far_cut : (n1 : ℕ) (s left t : List ℕ) (fs : List Frame) → ReadsSoFar n1 s fs left → after_flag left ≡ Some t → IsCutShort n1 t → Reads n1 s fs (flag ∷ t)
 so_far_cut n1 s left t fs h e c = subst (λ gs. Reads n1 s gs (flag ∷ t)) (append-nil fs) (h.going_on [] (flag ∷ t) (cut_short left t e c))
 

@@ -22,6 +22,7 @@ after_flag-none-at : (b : Bool) (xs ys : List ℕ) → (if b then Some xs else a
 after_flag-none-at true xs ys e h = cc
 after_flag-none-at false xs ys e h = h e
 
+-- where the first text has no flag, the first flag is that of the second
 pub after_flag-none : (xs ys : List ℕ) → after_flag xs ≡ None → after_flag (xs ++ ys) ≡ after_flag ys
 after_flag-none [] ys e = refl
 after_flag-none (x ∷ xs) ys e = after_flag-none-at (x == flag) xs ys e (after_flag-none xs ys)
@@ -30,6 +31,7 @@ after_flag-some-at : (b : Bool) (xs ys t : List ℕ) → (if b then Some xs else
 after_flag-some-at true xs ys t e h = ap (λ z. Some (z ++ ys)) (some_same xs t e)
 after_flag-some-at false xs ys t e h = h e
 
+-- and where it has one, what follows it goes on with the second
 pub after_flag-some : (xs ys t : List ℕ) → after_flag xs ≡ Some t → after_flag (xs ++ ys) ≡ Some (t ++ ys)
 after_flag-some [] ys t e = cc
 after_flag-some (x ∷ xs) ys t e = after_flag-some-at (x == flag) xs ys t e (after_flag-some xs ys t)
@@ -51,6 +53,7 @@ beginnings_next : (x y : ℕ) (t q : List ℕ) → x ≡ y → Longer t q ⊎ Sh
 beginnings_next x y t q e (inl l) = inl (record { later = l.later; text = let h = l.text in cc })
 beginnings_next x y t q e (inr s) = inr (record { missing = s.missing; text = let h = s.text in cc; proper = s.proper })
 
+-- so it is of all beginnings of one text
 pub beginnings : (t x q y : List ℕ) → t ++ x ≡ q ++ y → Longer t q ⊎ Shorter t q
 beginnings [] x [] y e = inl (record { later = []; text = refl })
 beginnings [] x (b ∷ q) y e = inr (record { missing = b ∷ q; text = refl; proper = no_nil b q })

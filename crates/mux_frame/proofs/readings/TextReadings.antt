@@ -5,6 +5,7 @@ use Rattle.mux_frame.specs.Spelling.{flag, Spells}
 use Rattle.mux_frame.specs.Reading.{after_flag, IsFill, HasFrame, IsCutShort, Reads, no_flag, fill, frame, cut_short, other}
 use Rattle.mux_frame.proofs.Spellings.{one_spelling, head_same, tail_same}
 
+-- given as the same, two texts are the same
 pub some_same : (xs ys : List ℕ) → Some xs ≡ Some ys → xs ≡ ys
 some_same xs ys e = cc
 
@@ -22,12 +23,15 @@ nil_right : (xs ys : List ℕ) → [] ≡ xs ++ ys → ys ≡ []
 nil_right [] ys e = sym e
 nil_right (x ∷ xs) ys e = cc
 
+-- a text that begins with a flag begins with no frame
 pub fill_frame : (n1 : ℕ) (t : List ℕ) → IsFill t → HasFrame n1 t → ⊥
 fill_frame n1 t h k = starts n1 k.octets (flag ∷ k.later) h.later k.frame k.spells (sym k.text ∙ h.text)
 
+-- nor is it a proper beginning of one
 pub fill_cut : (n1 : ℕ) (t : List ℕ) → IsFill t → IsCutShort n1 t → ⊥
 fill_cut n1 t h k = starts n1 k.octets (flag ∷ []) (h.later ++ k.missing) k.frame k.spells (k.text ∙ ap (λ z. z ++ k.missing) h.text)
 
+-- and no text that begins with a frame and its flag is a proper beginning of one
 pub frame_cut : (n1 : ℕ) (t : List ℕ) → HasFrame n1 t → IsCutShort n1 t → ⊥
 frame_cut n1 t h k =
     let e : k.octets ++ flag ∷ [] ≡ h.octets ++ (flag ∷ (h.later ++ k.missing)) = k.text ∙ ap (λ z. z ++ k.missing) h.text ∙ append_assoc h.octets (flag ∷ h.later) k.missing in

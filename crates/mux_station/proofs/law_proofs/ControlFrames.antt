@@ -20,13 +20,16 @@ pub record PassesControl (p : Frame → Bool) : Type 0 where
   pub mode : (r : Role) (k : Kind) (d : ℕ) → is_kind k Uih ≡ false → p (written r k d []) ≡ true
   pub message : (r : Role) (octet : ℕ) (value : List ℕ) → p (message_frame r octet value) ≡ true
 
+-- where all frames of two lists pass, all of both joined do
 pub all_both : (p : Frame → Bool) (fs gs : List Frame) → list_all p fs ≡ true → list_all p gs ≡ true → list_all p (fs ++ gs) ≡ true
 all_both p fs gs h k = list_all-append p fs gs ∙ and_from (list_all p fs) (list_all p gs) h k
 
+-- and so do all of the list that is chosen
 pub all_if : (p : Frame → Bool) (b : Bool) (fs gs : List Frame) → list_all p fs ≡ true → list_all p gs ≡ true → list_all p (if b then fs else gs) ≡ true
 all_if p true fs gs h k = h
 all_if p false fs gs h k = k
 
+-- with one more in front that passes, all do
 pub all_more : (p : Frame → Bool) (f : Frame) (fs : List Frame) → p f ≡ true → list_all p fs ≡ true → list_all p (f ∷ fs) ≡ true
 all_more p f fs h k = and_from (p f) (list_all p fs) h k
 
@@ -116,5 +119,6 @@ control_passes = record { mode = λ r k d e. ap (λ (b : Bool). not (b && not (d
 abbrev pub is_plain : Frame → Bool
 is_plain f = is_kind f.kind Uih || (length f.info == 0)
 
+-- each mode frame and each control message is so
 pub plain_passes : PassesControl is_plain
 plain_passes = record { mode = λ r k d e. ap (λ (b : Bool). b || true) e; message = λ r octet value. refl }

@@ -267,5 +267,6 @@ notes_by : (v : Station) (past : List Act) (f : Frame) (b : Bool) → is_on Uih 
 notes_by v past f true i h n l = message_notes v past f i h n l
 notes_by v past f false i h n l = table_notes v past f i h n l
 
+-- what is noted of a frame is what happens, in each past that the station fits
 pub noted_truly : (v : Station) (past : List Act) (f : Frame) → NotedTruly v past f
 noted_truly v past f h n l = notes_by v past f (is_on Uih 0 f) refl h n l

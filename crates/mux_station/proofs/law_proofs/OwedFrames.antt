@@ -16,6 +16,7 @@ use Rattle.mux_station.specs.Sending.{StationSetting, StationView, station_view,
 abbrev is_control : Frame → Bool
 is_control f = not (is_data_frame f)
 
+-- all of these are control frames
 abbrev pub Controls : List Frame → Type 0
 Controls fs = list_all is_control fs ≡ true
 
@@ -99,6 +100,7 @@ called_owes s past Given e o = ap (λ (v : List Frame). v ++ called_frames s pas
 done : (s : StationSetting) (past : List Act) (a : Act) → is_sent a ≡ false → StationLawful s past → owed_frames s past ≡ [] → Done s (after_act s past a)
 done s past a e l o = all_sent s (called_frames s past a) (a ∷ past) (calls_control s past a) (called_lawful s past a e l) (called_owes s past a e o)
 
+-- an act that is no frame sent, with all that it calls for, keeps a past lawful and complete
 pub answers_keep : (s : StationSetting) (past : List Act) (a : Act) → AnswersKeep s past a
 unfolding StationComplete
 answers_keep s past a = record {
@@ -142,6 +144,7 @@ none_sent s past f false h c =
     let none : owed_frames s past ≡ [] = lost_owes s past h in
     cc
 
+-- no lawful past goes on with a frame sent once the line is lost
 pub none_after_loss : (s : StationSetting) (past : List Act) → NoFrameAfterLoss s past
 unfolding StationLawful
 none_after_loss s past f h l = none_sent s past f (is_data_frame f) h l.0
@@ -210,5 +213,6 @@ begins : (s : StationSetting) (d : ℕ) (past : List Act) → StationLawful s pa
 begins s d [] l = ([], refl)
 begins s d (a ∷ past) l = begins_since s d past a (opens_now s.role d past a) (belongs s.role d past a) l (begins s d past (lawful_before s past a l))
 
+-- in a lawful past what was given on since d opened is the beginning of what was offered on it
 pub gives_beginning : (s : StationSetting) (d : ℕ) (past : List Act) → StationLawful s past → GivesBeginning s d past
 gives_beginning s d past l = let b = begins s d past l in record { rest = b.0; joins = b.1 }

@@ -25,6 +25,7 @@ called_states r d s x same = by_zero (d == 0) refl
     by_zero true e = ap (λ (v : State). record { zero = s.zero; own = v }) (sym (same e))
     by_zero false e = refl
 
+-- without the calls 0 and d have the same states
 pub same_states : (r : Role) (d : ℕ) (past : List Act) → states r d (without_calls past) ≡ states r d past
 same_states r d [] = refl
 same_states r d (Called x ∷ past) = same_states r d past ∙ sym (called_states r d (states r d past) x (own_zero (d == 0) refl))
@@ -64,6 +65,7 @@ called_standings r d s x =
     ap (λ (v : Standing). record { zero = v; own = standing_after r s.zero.is_open d s.own (Called x) }) (called_standing r s.zero.is_open 0 s.zero x)
     ∙ ap (λ (v : Standing). record { zero = s.zero; own = v }) (called_standing r s.zero.is_open d s.own x)
 
+-- and stand the same, open or asked for
 pub same_standings : (r : Role) (d : ℕ) (past : List Act) → standings r d (without_calls past) ≡ standings r d past
 same_standings r d [] = refl
 same_standings r d (Called x ∷ past) = same_standings r d past ∙ sym (called_standings r d (standings r d past) x)
@@ -112,6 +114,7 @@ more r d past a h before =
     ∙ (ap (since_at r d (standings r d past) a) before
     ∙ sym (kept_after (opens_now r d past a) (belongs r d past a) a (since r d past) h))
 
+-- of what follows its opening only the calls are missing
 pub same_since : (r : Role) (d : ℕ) (past : List Act) → since r d (without_calls past) ≡ without_calls (since r d past)
 same_since r d [] = refl
 same_since r d (Called x ∷ past) =
@@ -136,6 +139,7 @@ same_said say (Given ∷ acts) = same_said say acts
 same_last : (r : Role) (d : ℕ) (say : Message → Option Bool) (past : List Act) → last_said (got_says say) (since r d (without_calls past)) ≡ last_said (got_says say) (since r d past)
 same_last r d say past = ap (last_said (got_says say)) (same_since r d past) ∙ same_said say (since r d past)
 
+-- d is stopped, or not, as it was
 pub same_stopped : (r : Role) (d : ℕ) (past : List Act) → is_stopped r d (without_calls past) ≡ is_stopped r d past
 same_stopped r d past =
     let p = without_calls past in
@@ -148,6 +152,7 @@ same_stopped r d past =
 
 -- ## What is sent
 
+-- the same frames wait in the control queue
 pub same_queue : (past : List Act) → queue (without_calls past) ≡ queue past
 same_queue [] = refl
 same_queue (Called x ∷ past) = same_queue past
@@ -166,9 +171,11 @@ same_joined d (Tick ∷ acts) = ap (λ (v : List ℕ). v ++ []) (same_joined d a
 same_joined d (Lost ∷ acts) = ap (λ (v : List ℕ). v ++ []) (same_joined d acts)
 same_joined d (Given ∷ acts) = ap (λ (v : List ℕ). v ++ []) (same_joined d acts)
 
+-- and the same data was given on since d opened
 pub same_given : (r : Role) (d : ℕ) (past : List Act) → data_out r d (without_calls past) ≡ data_out r d past
 same_given r d past = ap (joined_octets (octets_sent d)) (same_since r d past) ∙ same_joined d (since r d past)
 
+-- so calls leave no trace of themselves
 pub leaves_no_trace : (r : Role) (d : ℕ) (past : List Act) → LeavesNoTrace r d past
 leaves_no_trace r d past = record {
   states_same = same_states r d past;

@@ -21,6 +21,7 @@ use Rattle.mux_station.specs.ControlOctets.{lead_len, info_len, front_len, front
 use Rattle.mux_station.proofs.queues.QueueRoom.{octets_both}
 use Rattle.mux_station.proofs.queues.FrameOctets.{Fronted, fronted, dropped}
 
+-- a frame that stands where there is none
 abbrev pub no_frame : Frame
 no_frame = record { dlci = 0; kind = Uih; cr = false; pf = false; info = [] }
 
@@ -30,6 +31,7 @@ unfolding read_frames
 frames_many zero octets = refl
 frames_many (suc n) octets = let rest : length (read_frames n (drop (front_len octets) octets)) ≡ n = frames_many n (drop (front_len octets) octets) in ap suc rest
 
+-- one more frame behind others adds its octets as written
 pub octets_more : (fs : List Frame) (f : Frame) → octets_of (fs ++ f ∷ []) ≡ octets_of fs + written_length f
 octets_more fs f = let both : octets_of (fs ++ f ∷ []) ≡ octets_of fs + (written_length f + 0) = octets_both fs (f ∷ []) in omega (arith, both)
 
@@ -40,6 +42,7 @@ one_read f octets later n e =
     let g = subst (λ (xs : List ℕ). Fronted f xs later) (sym e) (fronted f later) in
     ap (λ (x : Frame). x ∷ read_frames n (drop (front_len octets) octets)) g.is_frame ∙ ap (λ (xs : List ℕ). f ∷ read_frames n xs) g.leaves
 
+-- frames that are spelled one after the other are read as themselves, whatever follows
 pub frames_read : (fs : List Frame) (later : List ℕ) → read_frames (length fs) (flat_map spelled fs ++ later) ≡ fs
 unfolding read_frames
 frames_read [] later = refl
@@ -54,6 +57,7 @@ all_read fs octets n e l =
     ap (λ (m : ℕ). read_frames m octets) (sym l)
     ∙ (ap (read_frames (length fs)) (e ∙ sym (append-nil (flat_map spelled fs))) ∙ frames_read fs [])
 
+-- octets that spell so many control frames, and nothing else, are those of so many
 pub are_spelled : (fs : List Frame) (octets : List ℕ) (n : ℕ) → octets ≡ flat_map spelled fs → length fs ≡ n → All IsControlFrame fs → AreSpelled octets n
 are_spelled fs octets n e l each =
     let read = all_read fs octets n e l in
@@ -62,6 +66,7 @@ are_spelled fs octets n e l each =
       each = subst (All IsControlFrame) (sym read) each;
     }
 
+-- a frame is spelled in as many octets as it has as written
 pub spelled_long : (f : Frame) → length (spelled f) ≡ written_length f
 spelled_long f = let e = (fronted f []).all in omega (arith, e, length-append (spelled f) [])
 
@@ -87,11 +92,13 @@ one_each (f ∷ fs) =
 pub octets_counted : (octets : List ℕ) (count : ℕ) → AreSpelled octets count → length octets ≡ octets_of (read_frames count octets)
 octets_counted octets count s = ap length s.spelled_one_by_one ∙ all_long (read_frames count octets)
 
+-- and there are no more frames than octets
 pub count_small : (octets : List ℕ) (count : ℕ) → AreSpelled octets count → count ≤ length octets
 count_small octets count s = omega (arith, octets_counted octets count s, one_each (read_frames count octets), frames_many count octets)
 
 -- ## The queue as it is seen
 
+-- the queue with these frames and this room
 abbrev pub queue_with : List Frame → ℕ → ControlQueue
 queue_with fs room = record { frames = fs; room = room }
 
@@ -102,12 +109,14 @@ no_first : (fs : List Frame) → length fs ≡ 0 → fs ≡ drop 1 fs
 no_first [] e = refl
 no_first (f ∷ fs) e = absurd (omega (arith, e))
 
+-- empty buffers keep no frame
 pub none_kept : (octets : Buffer ℕ) (spelling : List ℕ) (capacity : ℕ) → octets ≡ buffer [] capacity → spelling ≡ [] → IsKeptAsOctets octets.items 0 spelling
 none_kept octets spelling capacity e h = record {
   spelled = are_spelled [] octets.items 0 (ap (λ (b : Buffer ℕ). b.items) e) refl (All-nil IsControlFrame);
   none_half = h;
 }
 
+-- and are seen as an empty queue, its room their capacity
 pub none_seen : (octets : Buffer ℕ) (capacity : ℕ) → octets ≡ buffer [] capacity → queue_with (read_frames 0 octets.items) octets.capacity ≡ queue_with [] capacity
 unfolding read_frames
 none_seen octets capacity e = queue_same _ _ _ _ refl (ap (λ (b : Buffer ℕ). b.capacity) e)
@@ -138,6 +147,7 @@ module _ (q : ControlQueue) (octets : List ℕ) (count room : ℕ) (e : queue_wi
   pub seen_none : count ≡ 0 → q ≡ record q { frames = drop 1 q.frames }
   seen_none none = ap (λ (fs : List Frame). let w : ControlQueue = record { frames = fs; room = q.room } in w) (no_first q.frames (sym seen_many ∙ none))
 
+-- more octets fit into the room that is left just where all together fit into the whole
 pub room_left : (more room octets : ℕ) → octets ≤ room → nat_le more (room - octets) ≡ nat_le (octets + more) room
 room_left more room octets l = grind (arith, nat_tests)
 
@@ -249,6 +259,7 @@ plain_fits Dm n h = h
 plain_fits Disc n h = h
 plain_fits Uih n h = omega (arith, h)
 
+-- and have no more information than 1024 octets
 pub plain_short : (k : Kind) (n : ℕ) → n ≤ most_info 129 k → n ≤ 1024
 plain_short Sabm n h = omega (arith, h)
 plain_short Ua n h = omega (arith, h)

@@ -47,6 +47,7 @@ kind_kept Disc false = refl
 kind_kept Uih true = refl
 kind_kept Uih false = refl
 
+-- the frame with this connection, kind, C/R, P/F and information
 abbrev pub frame_with : ℕ → Kind → Bool → Bool → List ℕ → Frame
 frame_with d k c p i = record { dlci = d; kind = k; cr = c; pf = p; info = i }
 
@@ -146,11 +147,13 @@ fronted_at : (f : Frame) (later : List ℕ) (b : Bool) → nat_lt (length f.info
 fronted_at f later true h = fronted_short f later h
 fronted_at f later false h = fronted_long f later h
 
+-- so it is of a spelled frame, whatever stands behind it
 pub fronted : (f : Frame) (later : List ℕ) → Fronted f (spelled f ++ later) later
 fronted f later = subst (λ (xs : List ℕ). Fronted f (xs ++ later) later) (sym (spelled_is f)) (fronted_at f later (nat_lt (length f.info) 128) refl)
 
 -- ## The octets of a frame in front, at a place
 
+-- a whole frame at a place ends within the octets
 pub front_fits : (items : List ℕ) (place : ℕ) → HasFront (drop place items) → place + (lead_len (drop place items) + info_len (drop place items) + 2) ≤ length items
 unfolding front_len
 front_fits items place h = omega (arith, h.whole, length-drop place items)
@@ -160,16 +163,19 @@ pub lead_odd : (octets : List ℕ) (first : ℕ) → slice_index octets 3 ≡ fi
 unfolding lead_len info_len
 lead_odd octets first e o = rw e (grind (arith, nat_tests), grind (arith, nat_tests))
 
+-- an even one has a second behind it, which tells the multiples of 128
 pub lead_even : (octets : List ℕ) (first : ℕ) → slice_index octets 3 ≡ first → first % 2 ≢ 1 → (lead_len octets ≡ 5) × (info_len octets ≡ first / 2 + 128 * slice_index octets 4)
 unfolding lead_len info_len
 lead_even octets first e o = rw e (grind (arith, nat_tests), grind (arith, nat_tests))
 
+-- four octets at least stand before the information
 pub lead_some : (octets : List ℕ) → 4 ≤ lead_len octets
 unfolding lead_len
 lead_some octets = grind (arith, nat_tests)
 
 -- ## The frame in front, built
 
+-- the control frame in front has 129 octets of information at most
 pub info_short : (octets : List ℕ) → HasFront octets → info_len octets ≤ 129
 unfolding front_frame front_len
 info_short octets h =
@@ -183,16 +189,19 @@ info_short octets h =
     at_most Disc = omega arith
     at_most Uih = omega arith
 
+-- and an address below connection 62
 pub front_number : (octets : List ℕ) (address : ℕ) → HasFront octets → slice_index octets 1 ≡ address → address / 4 < 62
 unfolding front_frame
 front_number octets address h e = subst (λ (n : ℕ). n / 4 < 62) e h.control.dlci_in_range
 
+-- and no more information than its kind may have
 pub front_plain : (octets info : List ℕ) (control : ℕ) (k : Kind) → HasFront octets → slice_index octets 2 ≡ control → k ≡ unwrap_or (kind_in control) Uih → info ≡ take (info_len octets) (drop (lead_len octets) octets) → length info ≤ most_info 129 k
 unfolding front_frame
 front_plain octets info control k h e kind is =
     let same : k ≡ (front_frame octets).kind = kind ∙ ap (λ (n : ℕ). unwrap_or (kind_in n) Uih) (sym e) in
     subst (λ (x : Kind). length info ≤ most_info 129 x) (sym same) (subst (λ (xs : List ℕ). length xs ≤ most_info 129 (front_frame octets).kind) (sym is) h.control.plain)
 
+-- it is what address, control octet and information make
 pub front_built : (octets info : List ℕ) (address control : ℕ) (k : Kind) → slice_index octets 1 ≡ address → slice_index octets 2 ≡ control → k ≡ unwrap_or (kind_in control) Uih → info ≡ take (info_len octets) (drop (lead_len octets) octets)
     → frame_with (address / 4) k (cr_in address) (pf_in control) info ≡ front_frame octets
 unfolding front_frame
@@ -204,9 +213,11 @@ front_built octets info address control k a c kind is =
     (ap pf_in (sym c))
     is
 
+-- to leave out so many octets and then more is to leave out all of them
 pub dropped : (items : List ℕ) (place more : ℕ) → drop (place + more) items ≡ drop more (drop place items)
 dropped items place more = sym (drop-drop more place items)
 
+-- its information may be taken from all the octets, behind its place
 pub part_of : (items info : List ℕ) (place start count : ℕ) (octets : List ℕ) → octets ≡ drop place items → start ≡ lead_len octets → count ≡ info_len octets → info ≡ take count (drop (place + start) items) → info ≡ take (info_len octets) (drop (lead_len octets) octets)
 part_of items info place start count octets o s c is =
     is ∙ (ap (take count) (dropped items place start) ∙ (ap (λ (xs : List ℕ). take count (drop start xs)) (sym o) ∙ (ap (λ (n : ℕ). take n (drop start octets)) c ∙ ap (λ (n : ℕ). take (info_len octets) (drop n octets)) s)))

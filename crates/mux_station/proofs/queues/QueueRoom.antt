@@ -6,6 +6,7 @@ use Rattle.mux_frame.specs.Frames.{Frame}
 use Rattle.mux_station.specs.Written.{written_length}
 use Rattle.mux_station.specs.Tables.{octets_of, has_room, have_room}
 
+-- joined frames have the octets of the first and of the second together
 pub octets_both : (fs gs : List Frame) → octets_of (fs ++ gs) ≡ octets_of fs + octets_of gs
 octets_both [] gs = omega arith
 octets_both (f ∷ fs) gs = let rest : octets_of (fs ++ gs) ≡ octets_of fs + octets_of gs = octets_both fs gs in omega (arith, rest)
@@ -25,6 +26,7 @@ room_parts n1 q (f ∷ fs) gs =
 pub room_before : (n1 : ℕ) (queue fs gs : List Frame) → have_room n1 (octets_of queue) (fs ++ gs) ≡ true → have_room n1 (octets_of queue) fs ≡ true
 room_before n1 queue fs gs h = (and_parts (have_room n1 (octets_of queue) fs) (have_room n1 (octets_of queue + octets_of fs) gs) (sym (room_parts n1 (octets_of queue) fs gs) ∙ h)).0
 
+-- and the others do behind them, once the first are queued
 pub room_behind : (n1 : ℕ) (queue fs gs : List Frame) → have_room n1 (octets_of queue) (fs ++ gs) ≡ true → have_room n1 (octets_of (queue ++ fs)) gs ≡ true
 room_behind n1 queue fs gs h =
     ap (λ (n : ℕ). have_room n1 n gs) (octets_both queue fs)
@@ -47,6 +49,7 @@ sum_behind n1 q a b = by_last (nat_le (q + (a + b)) (4096 + n1)) refl
         and_from (nat_le (q + a) (4096 + n1)) (nat_le (q + a + b) (4096 + n1)) (le-leb (q + a) (4096 + n1) (omega (arith, most))) (le-leb (q + a + b) (4096 + n1) (omega (arith, most)))
     by_last false h = ap (λ (c : Bool). nat_le (q + a) (4096 + n1) && c) (ap (λ (n : ℕ). nat_le n (4096 + n1)) same ∙ h) ∙ off (nat_le (q + a) (4096 + n1))
 
+-- a frame, and others behind it, fit just where the sum of their octets does
 pub room_sum : (n1 q : ℕ) (f : Frame) (fs : List Frame) → have_room n1 q (f ∷ fs) ≡ nat_le (q + octets_of (f ∷ fs)) (4096 + n1)
 room_sum n1 q f [] =
     let one : q + written_length f ≡ q + (written_length f + 0) = omega arith in

@@ -294,6 +294,7 @@ frame_handles : (old new : Station) (f : Frame) (b : Bool) → is_on Uih 0 f ≡
 frame_handles old new f true i l n t = message_handles old new f i l n (t.by_message i)
 frame_handles old new f false i l n t = table_handles old new f i l n (t.by_table i)
 
+-- a frame that isn't refused, read as a message or else by the tables, is handled in each past that the station fits
 pub got_handles : (r : Result Noted StationError) (old new : Station) (f : Frame) → f.dlci < 62 → length old.channels ≡ 62 → OnOk r (FrameTaken old new f) → OnOk r (StationHandles old new (Got f))
 got_handles (Ok n) old new f l c t = frame_handles old new f (is_on Uih 0 f) refl l c t
 got_handles (Err why) old new f l c t = tt
@@ -362,11 +363,13 @@ noted_seen v past f h l =
     ∙ (ap (λ (s : State). noted_by v.role (state_of v.role 0 past) s v.probe f) (seen_state v past f.dlci h l)
     ∙ ap (λ (w : Option Waiting). noted_by v.role (state_of v.role 0 past) (state_of v.role f.dlci past) w f) (sym h.probe_is))
 
+-- what is noted of a frame that isn't refused is what each past that the station fits says of it
 pub noted_in_past : (r : Result Noted StationError) (v : Station) (f : Frame) → f.dlci < 62 → IfOk r (λ n. n ≡ noted_of v.role (seen_in v) f)
     → (past : List Act) → StationFits v past → IfOk r (λ n. n ≡ noted_of v.role (station_view (setting_of v) past) f)
 noted_in_past (Ok n) v f l e past h = e ∙ noted_seen v past f h l
 noted_in_past (Err why) v f l e past h = tt
 
+-- a frame is refused by what a station keeps just as by each past that it fits
 pub sees_the_frame : (v : Station) (past : List Act) (f : Frame) → SeesTheFrame v past f
 sees_the_frame v past f h l =
     ap (without_room (setting_of v) (seen_in v)) (frames_seen v past f h l)

@@ -48,6 +48,7 @@ pub record OnZero (f : Frame) : Type 0 where
   pub commands : brings_command cld f ≡ octet_is (λ n. n) cld (message_of f.info)
   pub responds : brings_response cld f ≡ octet_is command_of cld (message_of f.info)
 
+-- a UIH on 0 brings what its information spells
 pub on_zero : (f : Frame) → is_on Uih 0 f ≡ true → OnZero f
 on_zero f h =
     let parts = and_parts (is_kind f.kind Uih) (f.dlci == 0) h in
@@ -89,6 +90,7 @@ other_told v f past e o h l k =
     ∙ (ap (λ (s : State). if is_opened s && brings_command cld f then IsShut else state_of v.role e past) (h.channels_are 0 (omega arith)).state_is
     ∙ ap (λ (s : State). if is_opened (channel_at v 0).state && brings_command cld f then IsShut else s) (h.channels_are e l).state_is))
 
+-- it opens no connection
 pub opens_none : (r : Role) (e : ℕ) (past : List Act) (f : Frame) → OnZero f → opens_now r e past (Got f) ≡ false
 opens_none Initiator e past f o = ap (λ (k : Kind). (is_kind k Ua && (f.dlci == e)) && (standings Initiator e past).own.is_asked) o.kind_is
 opens_none Responder e past f o = ap (λ (k : Kind). (is_kind k Sabm && (f.dlci == e)) && ((e == 0) || (standings Responder e past).zero.is_open)) o.kind_is
@@ -319,6 +321,7 @@ ended_fits v f m n past false c o e up h =
       silent = λ u. absurd (let g : false ≡ true = sym (ap is_opened up) ∙ u in cc);
     }) h
 
+-- in every state of 0 the station that took the message fits the past with its frame
 pub message_fits : (v : Station) (f : Frame) (past : List Act) → is_on Uih 0 f ≡ true → length v.channels ≡ 62 → StationFits v past → StationFits (message_taken v (channel_at v 0).state (message_of f.info)) (Got f ∷ past)
 message_fits v f past i n h = by_state (channel_at v 0).state (message_of f.info) refl refl
   where

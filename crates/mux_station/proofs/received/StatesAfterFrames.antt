@@ -30,6 +30,7 @@ stopping_by : (r : Role) (n : ℕ) (o : Option Message) → message_calls r (IsS
 stopping_by r n None = refl
 stopping_by r n (Some m) = refl
 
+-- what a message calls for is what its frame does
 pub called_by : (r : Role) (z : State) (f : Frame) → is_on Uih 0 f ≡ true → message_calls r z (message_of f.info) ≡ by_message r z f
 called_by r IsShut f h = refl
 called_by r (IsOpening n) f h = refl
@@ -39,6 +40,7 @@ called_by r (IsStopping n) f h =
     stopping_by r n (message_of f.info)
     ∙ ap (λ (b : Bool). if b && octet_is (λ x. x) cld (message_of f.info) then response_to r (if b then message_of f.info else None) else []) (sym h)
 
+-- and it lacks room just where its frame is refused
 pub refused_by : (v : Station) (f : Frame) → is_on Uih 0 f ≡ true → without_room (setting_of v) (seen_in v) (message_calls v.role (channel_at v 0).state (message_of f.info)) ≡ got_refused (setting_of v) (seen_in v) f
 refused_by v f h =
     let table = by_table v.role f.dlci (channel_at v 0).state (channel_at v f.dlci).state f.kind in
@@ -65,12 +67,14 @@ ends_none Uih z = and_off z
 elsewhere : (k : Kind) (d : ℕ) (f : Frame) → (f.dlci == d) ≡ false → is_on k d f ≡ false
 elsewhere k d f h = ap (λ (b : Bool). is_kind f.kind k && b) h ∙ and_off (is_kind f.kind k)
 
+-- what is no UIH on 0 brings no command
 pub no_command : (f : Frame) (octet : ℕ) → is_on Uih 0 f ≡ false → brings_command octet f ≡ false
 no_command f octet h = ap (λ (b : Bool). b && octet_is (λ x. x) octet (message_of f.info)) h
 
 no_response : (f : Frame) (octet : ℕ) → is_on Uih 0 f ≡ false → brings_response octet f ≡ false
 no_response f octet h = ap (λ (b : Bool). b && octet_is command_of octet (message_of f.info)) h
 
+-- without a close-down or its response each state stays
 pub stays_up : (s : State) → at_close_down false false s ≡ s
 stays_up IsShut = refl
 stays_up (IsOpening n) = refl
@@ -121,6 +125,7 @@ own_at r past f false e h =
     ∙ (ap (λ (b : Bool). if b then IsShut else (if f.dlci == f.dlci then got_by r z s f.kind else s)) none
     ∙ ap (λ (b : Bool). if b then got_by r z s f.kind else s) (eq-eqb f.dlci f.dlci refl))
 
+-- a frame that is no message brings its connection to the state that the table of the role says
 pub state_own : (r : Role) (past : List Act) (f : Frame) → is_on Uih 0 f ≡ false → state_of r f.dlci (Got f ∷ past) ≡ got_by r ((f.dlci == 0) || is_opened (state_of r 0 past)) (state_of r f.dlci past) f.kind
 state_own r past f h = own_at r past f (f.dlci == 0) refl h
 
@@ -136,6 +141,7 @@ other_at r e past f false z o k =
     ∙ (ap (λ (b : Bool). if b then IsShut else (if f.dlci == e then got_by r up s f.kind else s)) none
     ∙ ap (λ (b : Bool). if b then got_by r up s f.kind else s) k)
 
+-- such a frame leaves the state of every connection but its own, that of 0 too
 pub state_other : (r : Role) (e : ℕ) (past : List Act) (f : Frame) → (f.dlci == 0) ≡ false → (f.dlci == e) ≡ false → state_of r e (Got f ∷ past) ≡ state_of r e past
 state_other r e past f o k = other_at r e past f (e == 0) refl o k
 

@@ -45,6 +45,7 @@ abbrev pub kept : Bool → Option Message → Option Waiting → Option Waiting
 kept z m None = None
 kept z m (Some w) = if z && not (brings_probe_back w.data_octets m || refuses_probe m) then Some w else None
 
+-- a frame that comes leaves that of the probe, by the message that it brings
 pub got_kept : (s : StationSetting) (z : Bool) (o : Option Waiting) (f : Frame) → probe_after s z o (Got f) ≡ kept z (message_in f) o
 got_kept s z None f = refl
 got_kept s z (Some w) f = refl
@@ -54,6 +55,7 @@ kept_none z None h = refl
 kept_none true (Some w) h = refl
 kept_none false (Some w) h = absurd (let e : Some w ≡ None = h refl in cc)
 
+-- and nothing where 0 doesn't stay open
 pub kept_off : (m : Option Message) (o : Option Waiting) → kept false m o ≡ None
 kept_off m None = refl
 kept_off m (Some w) = refl
@@ -259,6 +261,7 @@ turn_apart t u h k e = let g : false ≡ true = sym h ∙ (ap is_stays e ∙ k) 
 turned_open : Turned Opens IsOpened
 turned_open = record { moves = turn_apart Opens Stays refl refl; to = λ own. refl; opens = refl; shut_or_opened = λ h. let g : true ≡ false = h in cc; opened_state = λ h. refl }
 
+-- a turn that shuts leads to Shut, from whatever state
 pub turned_closed : Turned Shuts IsShut
 turned_closed = record { moves = turn_apart Shuts Stays refl refl; to = λ own. refl; opens = refl; shut_or_opened = λ h. refl; opened_state = λ h. let g : false ≡ true = h in cc }
 
@@ -343,9 +346,11 @@ lane_fits v f t s past u w z =
 
 -- ### On 0
 
+-- where all are turned, 0 is in its new state and has everything afresh
 pub zero_place : (v : Station) (s : State) → channel_at (all_turned_in v s) 0 ≡ fresh s
 zero_place v s = get_or-set_same (replicate 62 shut_channel) 0 (fresh s) shut_channel (omega arith)
 
+-- and every other connection is shut
 pub zero_others : (v : Station) (s : State) (e : ℕ) → e < 62 → (e == 0) ≡ false → channel_at (all_turned_in v s) e ≡ shut_channel
 zero_others v s e l k =
     get_or-set_other (replicate 62 shut_channel) 0 e (fresh s) shut_channel (λ (g : e ≡ 0). eqb-false e 0 k g) ∙ get_or-replicate 62 e shut_channel shut_channel l
@@ -394,6 +399,7 @@ zero_gone v f t s past b o u w z =
     neither true = refl
     neither false = refl
 
+-- where such a frame is on 0 and turns it, the station with all turned fits the past with the frame
 pub zero_fits : (v : Station) (f : Frame) (t : Turn) (s : State) (past : List Act) → Turned t s → TableFrame v f t past → (f.dlci == 0) ≡ true → StationFits (all_turned_in v s) (Got f ∷ past)
 zero_fits v f t s past u w z = record {
   live = w.fits.live;
@@ -411,6 +417,7 @@ turned_at : (v : Station) (f : Frame) (t : Turn) (s : State) (past : List Act) (
 turned_at v f t s past true z u w = zero_fits v f t s past u w z
 turned_at v f t s past false z u w = lane_fits v f t s past u w z
 
+-- the station turned as the table says fits the past with the frame, at each turn
 pub table_fits : (v : Station) (f : Frame) (t : Turn) (past : List Act) → TableFrame v f t past → StationFits (turned_by v f.dlci t) (Got f ∷ past)
 table_fits v f Stays past w = stays_fits v f past w
 table_fits v f Opens past w = turned_at v f Opens IsOpened past (f.dlci == 0) refl turned_open w

@@ -59,6 +59,7 @@ stays_open r d opening older (a ∷ newer) o l =
     or_right (opens_now r d past a) (is_open r d past && not (ends (standings r d past).zero.is_open d a))
     (and_from (is_open r d past) (not (ends (standings r d past).zero.is_open d a)) (stays_open r d opening older newer o l.1) (not_false (ends (standings r d past).zero.is_open d a) here))
 
+-- a connection is open just where some act opened it and no later one ended it
 pub is_open_by_places : (r : Role) (d : ℕ) (past : List Act) → IsOpenByPlaces r d past
 is_open_by_places r d past = record {
   place = open_places r d past;

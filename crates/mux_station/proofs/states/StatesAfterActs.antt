@@ -13,6 +13,7 @@ use Rattle.mux_station.proofs.states.OpenedStates.{opened_is_open}
 
 -- ## States
 
+-- 0's own state is that of 0
 pub zero_own : (r : Role) (past : List Act) → (states r 0 past).own ≡ (states r 0 past).zero
 zero_own r [] = refl
 zero_own r (a ∷ past) = refl
@@ -21,6 +22,7 @@ zero_beside : (r : Role) (d : ℕ) (past : List Act) → (states r d past).zero 
 zero_beside r d [] = refl
 zero_beside r d (a ∷ past) = ap (λ (s : State). own_after r 0 true s a) (zero_beside r d past)
 
+-- and 0 has its own state beside every connection
 pub state_beside : (r : Role) (d : ℕ) (past : List Act) → (states r d past).zero ≡ state_of r 0 past
 state_beside r d past = zero_beside r d past ∙ sym (zero_own r past)
 
@@ -28,11 +30,13 @@ state_beside r d past = zero_beside r d past ∙ sym (zero_own r past)
 abbrev pub next_state : Role → ℕ → State → State → Act → State
 next_state r d z s a = (joined r d (record { zero = z; own = s }) (own_after r 0 true z a) a).own
 
+-- an act makes it so, of the state of 0 and its own before
 pub state_next : (r : Role) (d : ℕ) (past : List Act) (a : Act) → state_of r d (a ∷ past) ≡ next_state r d (state_of r 0 past) (state_of r d past) a
 state_next r d past a = ap (λ (z : State). next_state r d z (state_of r d past) a) (state_beside r d past)
 
 -- ## A connection
 
+-- a connection that is Opened is open
 pub opened_open : (r : Role) (d : ℕ) (past : List Act) (s : State) → state_of r d past ≡ s → is_opened s ≡ true → is_open r d past ≡ true
 opened_open r d past s e o = sym (opened_is_open r past d) ∙ (ap is_opened e ∙ o)
 
@@ -57,6 +61,7 @@ or_false : (b c : Bool) → b ≡ false → c ≡ false → (b || c) ≡ false
 or_false false c g h = h
 or_false true c g h = cc
 
+-- nothing follows the act that opens it
 pub since_opens : (r : Role) (d : ℕ) (past : List Act) (a : Act) → opens_now r d past a ≡ true → since r d (a ∷ past) ≡ []
 since_opens r d past a o = ap (λ (b : Bool). since_after b (belongs r d past a) a (since r d past)) o
 
@@ -77,6 +82,7 @@ stays_belongs : (o b : Bool) → (o || b) ≡ true → o ≡ false → b ≡ tru
 stays_belongs false b h k = h
 stays_belongs true b h k = cc
 
+-- an act that doesn't open a connection, which is open after it, follows its opening
 pub since_goes_on : (r : Role) (d : ℕ) (past : List Act) (a : Act) → opens_now r d past a ≡ false → is_open r d (a ∷ past) ≡ true → since r d (a ∷ past) ≡ a ∷ since r d past
 since_goes_on r d past a o h =
     let b : belongs r d past a ≡ true = stays_belongs (opens_now r d past a) (belongs r d past a) h o in
@@ -87,6 +93,7 @@ asked_stays false false x h k = refl
 asked_stays true e x h k = cc
 asked_stays b true x h k = cc
 
+-- where more joins what waits, and some leaves its front, all offered is still all given on and then what waits
 pub offered_more : (off sent waiting more less waiting2 : List ℕ) → off ≡ sent ++ waiting → waiting ++ more ≡ less ++ waiting2 → off ++ more ≡ sent ++ less ++ waiting2
 offered_more off sent waiting more less waiting2 h k =
     ap (λ (v : List ℕ). v ++ more) h ∙ (append_assoc sent waiting more ∙ (ap (λ (v : List ℕ). sent ++ v) k ∙ sym (append_assoc sent less waiting2)))

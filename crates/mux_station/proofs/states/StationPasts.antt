@@ -20,6 +20,7 @@ and_same false x y h = refl
 pub open_fits : (v : Station) (past : List Act) (d : ℕ) → StationFits v past → d < 62 → is_open v.role d past ≡ is_opened (channel_at v d).state
 open_fits v past d h l = sym (opened_is_open v.role past d) ∙ ap is_opened (h.channels_are d l).state_is
 
+-- and stopped where the station has it stopped
 pub stopped_fits : (v : Station) (past : List Act) (d : ℕ) → StationFits v past → d < 62 → stopped_in v d ≡ is_stopped v.role d past
 stopped_fits v past d h l =
     let own = last_said (got_says (msc_says d)) (since v.role d past) in
@@ -37,6 +38,7 @@ shut_fits r d = record { state_is = none r d; unasked = λ h. refl; stop_is = λ
     none : (r : Role) (d : ℕ) → state_of r d [] ≡ shut_channel.state
     none r d = refl
 
+-- as the definitions have it, a new station fits the empty past
 pub new_past : (r : Role) (n1 : ℕ) → StationFits (new_station r n1) []
 new_past r n1 = record {
   live = refl;

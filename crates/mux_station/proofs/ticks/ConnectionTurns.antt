@@ -88,16 +88,19 @@ up_next w d l =
     ap (given_up w.role w.n1 (states_in w) (octets_of w.queue) d) count
     ∙ ap (λ (rest : List Up). (if gives_up (states_in w d) (turn_frame w d) then UpChannel d ∷ [] else []) ++ rest) (up_after w d (62 - (d + 1)))
 
+-- behind the last connection none is given up
 pub up_end : (w : Station) (d : ℕ) → 62 ≤ d → given_up_in w d (62 - d) ≡ []
 unfolding given_up_in
 up_end w d l = let none : 62 - d ≡ 0 = omega (arith, l) in ap (given_up w.role w.n1 (states_in w) (octets_of w.queue) d) none
 
+-- a tick of the connections from d on is d's turn, and then a tick of those above
 pub ticked_next : (w new : Station) (d : ℕ) → d < 62 → new ≡ ticked_one w d → ticked_all w d (62 - d) ≡ ticked_all new (d + 1) (62 - (d + 1))
 unfolding ticked_all
 ticked_next w new d l e =
     let count : 62 - d ≡ suc (62 - (d + 1)) = omega (arith, l) in
     ap (ticked_all w d) count ∙ ap (λ (v : Station). ticked_all v (d + 1) (62 - (d + 1))) (sym e)
 
+-- behind the last connection it changes nothing
 pub ticked_end : (w : Station) (d : ℕ) → 62 ≤ d → ticked_all w d (62 - d) ≡ w
 unfolding ticked_all
 ticked_end w d l = let none : 62 - d ≡ 0 = omega (arith, l) in ap (ticked_all w d) none
@@ -112,6 +115,7 @@ up_pushed w new d kept now x all l e n u g h =
     ap (λ (v : Station). map up_of now ++ given_up_in v (d + 1) (62 - (d + 1))) e
     ∙ (ap (λ (ys : List Up). ys ++ rest) more ∙ (append_assoc (map up_of kept) (UpChannel d ∷ []) rest ∙ (ap (λ (ys : List Up). map up_of kept ++ ys) (sym here) ∙ h)))
 
+-- where it wasn't, those given up so far and those still to come are all as before
 pub up_passed : (w new : Station) (d : ℕ) (kept : List GivenUp) (all : List Up) → d < 62 → new ≡ ticked_one w d → gives_up (states_in w d) (turn_frame w d) ≡ false
     → map up_of kept ++ given_up_in w d (62 - d) ≡ all → map up_of kept ++ given_up_in new (d + 1) (62 - (d + 1)) ≡ all
 up_passed w new d kept all l e g h =
@@ -124,6 +128,7 @@ up_passed w new d kept all l e g h =
 setting_same : (w new : Station) → new.role ≡ w.role → new.n1 ≡ w.n1 → setting_of new ≡ setting_of w
 setting_same w new r n = ap (λ (x : Role). let s : StationSetting = record { role = x; n1 = new.n1 } in s) r ∙ ap (λ (x : ℕ). let s : StationSetting = record { role = w.role; n1 = x } in s) n
 
+-- a tick of connections leaves role and N1
 pub setting_all : (w : Station) (d count : ℕ) → setting_of (ticked_all w d count) ≡ setting_of w
 unfolding ticked_all
 setting_all w d zero = refl
@@ -159,15 +164,18 @@ unfolding ticked_all
 probe_all w d zero = refl
 probe_all w d (suc count) = probe_all (ticked_one w d) (d + 1) count ∙ probe_by w d (states_in w d)
 
+-- the station after the turns of all, with its probe ticked, is that after the tick
 pub tick_new : (v m new : Station) → m ≡ ticked_all v 0 62 → new ≡ record m { probe = ticked_probe m.probe } → new ≡ ticked_in v
 tick_new v m new e h =
     h ∙ (ap (λ (w : Station). let x : Station = record w { probe = ticked_probe w.probe } in x) e
     ∙ ap (λ (p : Option Waiting). let x : Station = record (ticked_all v 0 62) { probe = ticked_probe p } in x) (probe_all v 0 62))
 
+-- the connections given up in all turns, and then the probe, are what the tick gives up
 pub tick_up : (v m : Station) (ups : List Up) (last : List Up) → m ≡ ticked_all v 0 62 → ups ≡ given_up_in v 0 62 → probe_up m.probe ≡ last → ups ++ last ≡ noticed v
 tick_up v m ups last e h k =
     let kept : m.probe ≡ v.probe = ap (λ (w : Station). w.probe) e ∙ probe_all v 0 62 in
     ap (λ (us : List Up). us ++ last) h ∙ ap (λ (us : List Up). given_up_in v 0 62 ++ us) (sym k ∙ ap probe_up kept)
 
+-- one more that is given up stands behind the others
 pub pushed_up : (kept now : List GivenUp) (x : GivenUp) → now ≡ kept ++ x ∷ [] → map up_of now ≡ map up_of kept ++ up_of x ∷ []
 pushed_up kept now x h = ap (map up_of) h ∙ map-append up_of kept (x ∷ [])

@@ -150,6 +150,7 @@ channels_noticed v past h =
     ups_are v.role v.n1 (λ d. (channel_at v d).state) (octets_of v.queue) 0 62
     ∙ (ap (λ (fs : List Frame). ups_by (λ d. (channel_at v d).state) fs 0 62) (tick_calls v past h) ∙ ups_fit v past 62 (omega arith) (called_frames (setting_of v) past Tick) h)
 
+-- what a station gives up at a tick is what each past that it fits says
 pub sees_the_tick : (v : Station) (past : List Act) → SeesTheTick v past
 unfolding SeesTheTick
 sees_the_tick v past h =

@@ -440,6 +440,7 @@ tick_calls v past h =
     ∙ (ticked_same v.role v.n1 (λ d. state_of v.role d past) (states_in v) (octets_of (queue past)) 0 62 (λ e k x. (h.channels_are e (omega (arith, x))).state_is)
     ∙ ap (λ (q : ℕ). ticked v.role v.n1 (states_in v) q 0 62) (sym (seen_queued v past h)))
 
+-- a tick, with all that it calls for, is handled in each past that the station fits
 pub tick_handles : (v new : Station) → length v.channels ≡ 62 → new ≡ ticked_in v → StationHandles v new Tick
 tick_handles v new n e =
     subst (λ (w : Station). StationHandles v w Tick) (sym e) (record {

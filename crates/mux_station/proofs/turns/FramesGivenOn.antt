@@ -65,6 +65,7 @@ first_is_ready v d (suc count) e h l n = by_test (is_ready v d) refl h (λ k. fi
     by_test true r h f = subst (λ (m : ℕ). Ready v m) (some_same d e h) (ready_parts v d r (omega (arith, l)) (ne_eqb d 0 (λ (z : d ≡ 0). omega (arith, z, n))))
     by_test false r h f = f h
 
+-- the connection whose turn it is is ready so
 pub turn_is_ready : (v : Station) (d : ℕ) → v.last < 62 → next_turn v ≡ Some d → Ready v d
 turn_is_ready v d l h = by_first (ready_from v (v.last + 1)) refl h
   where
@@ -121,6 +122,7 @@ data_fits v d past n r h =
       last_is = ap (λ (b : Bool). if b then d else last_sender past) data_is;
     }
 
+-- a length but 0 is one at least
 pub some_long : (n : ℕ) → (n == 0) ≡ false → 1 ≤ n
 some_long zero h = absurd (let e : true ≡ false = h in cc)
 some_long (suc n) h = omega arith
@@ -206,6 +208,7 @@ given_next v [] past e all low last =
     let g = given_data v (next_turn v) past refl all low last in
     record { fits = g.fits; lawful = g.lawful; complete = g.complete }
 
+-- a station gives its next frame on in each past that it fits, and a lawful and complete one stays so
 pub gives_on : (v : Station) → length v.channels ≡ 62 → 31 ≤ v.n1 → v.last < 62 → GivesOn v
 unfolding StationComplete
 gives_on v all low last = record {

@@ -42,6 +42,7 @@ ring_counted v past d h l o =
     let opened : is_opened (channel_at v d).state ≡ true = sym (open_fits v past d h l) ∙ o in
     sym (ap length ((h.channels_are d l).ring_is opened) ∙ length-append (data_out v.role d past) (channel_at v d).waiting)
 
+-- as many octets wait in d's ring as were offered and not given on, in each past that the station fits
 pub waits_in : (v : Station) (past : List Act) (d n : ℕ) → d < 62 → n ≡ length (channel_at v d).waiting → StationFits v past → Waits v.role d past n
 unfolding Waits
 waits_in v past d n l e h o = ap (λ (m : ℕ). length (data_out v.role d past) + m) e ∙ ring_counted v past d h l o
@@ -64,6 +65,7 @@ by_queue : (v : Station) (past : List Act) (d : ℕ) (fs : List Frame) → v.que
 by_queue v past d [] q l h e = sender_is v past d (h.queue_is ∙ q) (turn_is_ready v d l e) h
 by_queue v past d (f ∷ fs) q l h e = absurd (let g : None ≡ Some d = e in cc)
 
+-- data that is next at a station may leave next, in each past that it fits
 pub sends_next : (v : Station) (past : List Act) (o : Option Dlci) → v.last < 62 → StationFits v past → option_map dlci_of o ≡ next_sender v v.queue → IfSome o (λ d. SendsNext v.role d.number past)
 sends_next v past None l h e = tt
 sends_next v past (Some d) l h e = by_queue v past d.number v.queue refl l h (sym e)

@@ -43,6 +43,7 @@ ready_never v d l a =
     let c = channel_at v d in
     none_at (d == 0) (is_opened c.state) c.is_stopped (all_stopped_in v) (not (length c.waiting == 0)) (no_zero d l) a
 
+-- the first that is ready is the first to pass a test, where the test says of each whether it is ready
 pub first_is_found : (v : Station) (p : ℕ → Bool) (d count : ℕ) → ((e : ℕ) → d ≤ e → e < d + count → is_ready v e ≡ p e) → first_ready v d count ≡ find p (range_with_len d count)
 first_is_found v p d zero h = refl
 first_is_found v p d (suc count) h =
@@ -53,6 +54,7 @@ first_is_found v p d (suc count) h =
 pub first_ready_alone : (v : Station) (d : ℕ) → 1 ≤ d → all_stopped_in v ≡ false → first_ready v d (62 - d) ≡ first_sender v.channels d
 first_ready_alone v d l a = first_is_found v (λ e. may_send (channel_at v e)) d (62 - d) (λ e k x. ready_alone v e (omega (arith, k, l)) a)
 
+-- under the stop of all there is none
 pub first_ready_never : (v : Station) (d : ℕ) → 1 ≤ d → all_stopped_in v ≡ true → first_ready v d (62 - d) ≡ None
 first_ready_never v d l a =
     first_is_found v (λ e. false) d (62 - d) (λ e k x. ready_never v e (omega (arith, k, l)) a)
@@ -68,6 +70,7 @@ next_data v (f ∷ fs) h = absurd (none_long (length fs) h)
     none_long : (n : ℕ) → (suc n == 0) ≡ true → ⊥
     none_long n h = let e : suc n ≡ 0 = eqb-true (suc n) 0 h in omega (arith, e)
 
+-- and then the station is that after data was given on
 pub after_data : (v : Station) (fs : List Frame) → (length fs == 0) ≡ true → station_after v fs ≡ data_given v (next_turn v)
 after_data v [] h = refl
 after_data v (f ∷ fs) h = absurd (none_long (length fs) h)
@@ -75,10 +78,12 @@ after_data v (f ∷ fs) h = absurd (none_long (length fs) h)
     none_long : (n : ℕ) → (suc n == 0) ≡ true → ⊥
     none_long n h = let e : suc n ≡ 0 = eqb-true (suc n) 0 h in omega (arith, e)
 
+-- else the first control frame is next
 pub next_control : (v : Station) (fs : List Frame) → (length fs == 0) ≡ false → next_given v fs ≡ slice_get fs 0
 next_control v [] h = cc
 next_control v (f ∷ fs) h = refl
 
+-- and then the station has the others
 pub after_control : (v : Station) (fs : List Frame) → (length fs == 0) ≡ false → station_after v fs ≡ record v { queue = drop 1 fs }
 after_control v [] h = cc
 after_control v (f ∷ fs) h = refl

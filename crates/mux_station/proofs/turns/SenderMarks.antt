@@ -13,12 +13,14 @@ use Rattle.mux_station.specs.Marks.{may_send, bit_of, AreMarked, first_sender}
 
 -- ## The first in a range
 
+-- in a range where none passes the test, none is found
 pub find_none : (p : ℕ → Bool) (d count : ℕ) → ((e : ℕ) → d ≤ e → e < d + count → p e ≡ false) → find p (range_with_len d count) ≡ None
 find_none p d zero h = refl
 find_none p d (suc count) h =
     ap (λ (b : Bool). if b then Some d else find p (range_with_len (d + 1) count)) (h d (omega arith) (omega arith))
     ∙ find_none p (d + 1) count (λ e k x. h e (omega (arith, k)) (omega (arith, x)))
 
+-- in a range one that passes is found, where none below it does
 pub find_first : (p : ℕ → Bool) (d count k : ℕ) → d ≤ k → k < d + count → p k ≡ true → ((e : ℕ) → d ≤ e → e < k → p e ≡ false) → find p (range_with_len d count) ≡ Some k
 find_first p d zero k l x y h = absurd (omega (arith, l, x))
 find_first p d (suc count) k l x y h =
@@ -47,12 +49,14 @@ pub record OneSet (old new d bit : ℕ) : Type 0 where
 apart : (e d : ℕ) → (e == d) ≡ false → e ≢ d
 apart e d h is = grind (arith, nat_tests)
 
+-- the bit of d is set, and no other changes
 pub set_alone : (old d k : ℕ) → d < 62 → k ≡ d → OneSet old (bit_or old (1 * 2 ^ k % 2 ^ 64)) d 1
 set_alone old d k l e = rw e (record {
   same = bit_at_set_same w64 old d (omega (arith, l));
   others = λ x a. bit_at_set_other w64 old d (omega (arith, l)) x (apart x d a);
 })
 
+-- the bit of d is cleared, and no other changes
 pub cleared_alone : (old d k : ℕ) → old < 2 ^ 64 → d < 62 → k ≡ d → OneSet old (bit_and old (bit_not w64 (1 * 2 ^ k % 2 ^ 64))) d 0
 cleared_alone old d k fits l e = rw e (record {
   same = bit_at_clear_same w64 old d (omega (arith, l));
@@ -79,12 +83,15 @@ marks_none cs e = record { all = ap length e ∙ length-replicate 62 shut_channe
 
 -- ## The first that may send
 
+-- all bits moved up to a connection mask the marks from it on
 pub masked : (marks from : ℕ) → from ≤ 62 → bit_and marks ((2 ^ 64 - 1) * 2 ^ from % 2 ^ 64) ≡ bit_and marks (2 ^ 64 - 2 ^ from)
 masked marks from l = ap (bit_and marks) (ones_shl 64 from (omega (arith, l)))
 
+-- marks that are left are more than 0
 pub some_left : (n : ℕ) → n ≢ 0 → 0 < n
 some_left n h = omega arith
 
+-- and fit into 64 bits
 pub left_small : (marks from : ℕ) → bit_and marks ((2 ^ 64 - 1) * 2 ^ from % 2 ^ 64) < 2 ^ 64
 left_small marks from = omega (arith, and_le_r marks ((2 ^ 64 - 1) * 2 ^ from % 2 ^ 64))
 

@@ -65,6 +65,7 @@ by_queue : (v : Station) (fs : List Frame) (turn : Option ℕ) → next_turn v �
 by_queue v [] turn e = e
 by_queue v (f ∷ fs) turn e = refl
 
+-- the connection whose data is next at a station is what each past that it fits says
 pub sees_the_turn : (v : Station) (past : List Act) → SeesTheTurn v past
 unfolding SeesTheTurn
 sees_the_turn v past h = by_queue v v.queue (turn_of v.role past) (turn_fits v past h) ∙ ap (λ (fs : List Frame). where_none_waits fs (turn_of v.role past)) (sym h.queue_is)

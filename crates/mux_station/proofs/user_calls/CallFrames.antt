@@ -34,9 +34,11 @@ same_by r d past a false e ends own =
     ∙ (ap (λ (b : Bool). if b then own_after r 0 true z a else (if ends_itself (is_opened z) 0 a then IsShut else own_after r d (is_opened z) s a)) e
     ∙ (ap (λ (b : Bool). if b then IsShut else own_after r d (is_opened z) s a) (ends (is_opened z)) ∙ own d (is_opened z) s))
 
+-- a call changes no state
 pub state_called : (r : Role) (d : ℕ) (past : List Act) (x : Call) → state_of r d (Called x ∷ past) ≡ state_of r d past
 state_called r d past x = same_by r d past (Called x) (d == 0) refl (λ z. refl) (λ e z s. refl)
 
+-- nor does a frame given on
 pub state_given : (r : Role) (d : ℕ) (past : List Act) → state_of r d (Given ∷ past) ≡ state_of r d past
 state_given r d past = same_by r d past Given (d == 0) refl (λ z. refl) (λ e z s. refl)
 
@@ -48,6 +50,7 @@ and_off false = refl
 abbrev pub on_sent : ℕ → Frame → State → State
 on_sent d f s = if f.dlci == d then at_sent s f.kind else s
 
+-- that is what such a frame makes of a connection by itself
 pub own_sent : (r : Role) (d : ℕ) (z : Bool) (s : State) (f : Frame) → brings_command cld f ≡ false → own_after r d z s (Sent f) ≡ on_sent d f s
 own_sent r d z s f h = ap (λ (b : Bool). if b then IsStopping 0 else on_sent d f s) (ap (λ (b : Bool). (d == 0) && b) h ∙ and_off (d == 0))
 
@@ -63,6 +66,7 @@ sent_by r d past f false e c h =
     ∙ (ap (λ (b : Bool). if b then own_after r 0 true z (Sent f) else (if ends_itself (is_opened z) 0 (Sent f) then IsShut else own_after r d (is_opened z) s (Sent f))) e
     ∙ (ap (λ (b : Bool). if b then IsShut else own_after r d (is_opened z) s (Sent f)) ends ∙ own_sent r d (is_opened z) s f c))
 
+-- and the state that it comes to, where the frame is no DISC on 0 either
 pub state_sent : (r : Role) (d : ℕ) (past : List Act) (f : Frame) → brings_command cld f ≡ false → is_on Disc 0 f ≡ false → state_of r d (Sent f ∷ past) ≡ on_sent d f (state_of r d past)
 state_sent r d past f c h = sent_by r d past f (d == 0) refl c h
 
@@ -78,6 +82,7 @@ if_same : (b : Bool) (s t : State) → t ≡ s → (if b then t else s) ≡ s
 if_same true s t h = h
 if_same false s t h = refl
 
+-- so a UIH that is no close-down leaves the state of every connection
 pub state_sent_uih : (r : Role) (d : ℕ) (past : List Act) (f : Frame) → f.kind ≡ Uih → brings_command cld f ≡ false → is_on Disc 0 f ≡ false → state_of r d (Sent f ∷ past) ≡ state_of r d past
 state_sent_uih r d past f k c h =
     let s = state_of r d past in
@@ -85,14 +90,17 @@ state_sent_uih r d past f k c h =
 
 -- ## Connections
 
+-- a frame sent opens no connection
 pub opens_sent : (r : Role) (d : ℕ) (past : List Act) (f : Frame) → opens_now r d past (Sent f) ≡ false
 opens_sent Initiator d past f = refl
 opens_sent Responder d past f = refl
 
+-- nor does a call
 pub opens_called : (r : Role) (d : ℕ) (past : List Act) (x : Call) → opens_now r d past (Called x) ≡ false
 opens_called Initiator d past x = refl
 opens_called Responder d past x = refl
 
+-- nor does a frame given on
 pub opens_given : (r : Role) (d : ℕ) (past : List Act) → opens_now r d past Given ≡ false
 opens_given Initiator d past = refl
 opens_given Responder d past = refl
@@ -105,9 +113,11 @@ pub fits_sent : (r : Role) (d : ℕ) (past : List Act) (f : Frame) (c : Channel)
     → ChannelFits r d (Sent f ∷ past) c
 fits_sent r d past f c h n k e = untouched r d past (Sent f) c h (e ∙ h.state_is) (opens_sent r d past f) k refl refl (none_sent d f n)
 
+-- a call comes that offers nothing on it
 pub fits_called : (r : Role) (d : ℕ) (past : List Act) (x : Call) (c : Channel) → ChannelFits r d past c → octets_offered d (Called x) ≡ [] → ChannelFits r d (Called x ∷ past) c
 fits_called r d past x c h o = untouched r d past (Called x) c h (state_called r d past x ∙ h.state_is) (opens_called r d past x) refl refl o refl
 
+-- a frame is given on
 pub fits_given : (r : Role) (d : ℕ) (past : List Act) (c : Channel) → ChannelFits r d past c → ChannelFits r d (Given ∷ past) c
 fits_given r d past c h = untouched r d past Given c h (state_given r d past ∙ h.state_is) (opens_given r d past) refl refl refl refl
 
@@ -124,12 +134,15 @@ all_untouched r past a b h e n m t =
     let before : is_opened (state_of r 0 past) ≡ true = ap is_opened (sym e) ∙ t in
     ap (last_said (got_says flow_says)) on ∙ (ap (λ (w : Option Bool). unwrap_or w (last_said (got_says flow_says) (since r 0 past))) m ∙ h before)
 
+-- so it is of a frame sent that leaves 0 as it is
 pub all_sent : (r : Role) (past : List Act) (f : Frame) (b : Bool) → AllStopped r past b → state_of r 0 (Sent f ∷ past) ≡ state_of r 0 past → AllStopped r (Sent f ∷ past) b
 all_sent r past f b h e = all_untouched r past (Sent f) b h e (opens_sent r 0 past f) refl
 
+-- of each call
 pub all_called : (r : Role) (past : List Act) (x : Call) (b : Bool) → AllStopped r past b → AllStopped r (Called x ∷ past) b
 all_called r past x b h = all_untouched r past (Called x) b h (state_called r 0 past x) (opens_called r 0 past x) refl
 
+-- and of a frame given on
 pub all_given : (r : Role) (past : List Act) (b : Bool) → AllStopped r past b → AllStopped r (Given ∷ past) b
 all_given r past b h = all_untouched r past Given b h (state_given r 0 past) (opens_given r 0 past) refl
 
@@ -176,6 +189,7 @@ abbrev pub is_probe : Call → Bool
 is_probe (Probe octets) = true
 is_probe _ = false
 
+-- so what waits stays by a call that is no probe, be it refused or not
 pub begun_other : (refusal : Option StationError) (x : Call) (o : Option Waiting) → is_probe x ≡ false → probe_begun refusal (Called x) o ≡ o
 begun_other (Some e) x o h = refl
 begun_other None (Open d) o h = refl
@@ -218,6 +232,7 @@ stays_as s past a n e =
     let b = is_opened (state_of s.role 0 (a ∷ past)) in
     ap is_opened (sym e) ∙ (sym (stays_if b) ∙ ap (λ (o : Bool). b && not o) (sym n))
 
+-- no probe waits where 0 isn't Opened
 pub probe_needs : (s : StationSetting) (past : List Act) → is_opened (state_of s.role 0 past) ≡ false → probe_of s past ≡ None
 probe_needs s [] h = refl
 probe_needs s (Got f ∷ past) h = ap (λ (z : Bool). probe_after s z (probe_of s past) (Got f)) (stays_off s past (Got f) h) ∙ got_off s (probe_of s past) f
@@ -260,10 +275,12 @@ pub probe_sent : (s : StationSetting) (past : List Act) (f : Frame) → state_of
 probe_sent s past f e =
     after_sent s (zero_stays s past (Sent f)) (probe_of s past) f ∙ kept_same s past (zero_stays s past (Sent f)) (stays_as s past (Sent f) (opens_sent s.role 0 past f) e)
 
+-- a frame given on leaves the probe as it is
 pub probe_given : (s : StationSetting) (past : List Act) → probe_of s (Given ∷ past) ≡ probe_of s past
 probe_given s past =
     after_given s (zero_stays s past Given) (probe_of s past) ∙ kept_same s past (zero_stays s past Given) (stays_as s past Given (opens_given s.role 0 past) (state_given s.role 0 past))
 
+-- and so does a call that is no probe
 pub probe_called : (s : StationSetting) (past : List Act) (x : Call) → is_probe x ≡ false → probe_of s (Called x ∷ past) ≡ probe_of s past
 probe_called s past x n =
     begun_other (refused s (station_view s past) x) x (probe_after s (zero_stays s past (Called x)) (probe_of s past) (Called x)) n
@@ -273,6 +290,7 @@ probe_called s past x n =
 pub probe_none : (s : StationSetting) (past : List Act) (f : Frame) → probe_of s past ≡ None → probe_of s (Sent f ∷ past) ≡ None
 probe_none s past f h = ap (λ (o : Option Waiting). probe_after s (zero_stays s past (Sent f)) o (Sent f)) h
 
+-- a probe that isn't refused waits, and no tick came since
 pub probe_taken_on : (s : StationSetting) (past : List Act) (octets : List ℕ) → refused s (station_view s past) (Probe octets) ≡ None → probe_of s (Called (Probe octets) ∷ past) ≡ Some (record { data_octets = octets; ticks = 0 })
 probe_taken_on s past octets h =
     ap (λ (e : Option StationError). probe_begun e (Called (Probe octets)) (probe_after s (zero_stays s past (Called (Probe octets))) (probe_of s past) (Called (Probe octets)))) h

@@ -24,6 +24,7 @@ use Rattle.mux_station.proofs.user_calls.CallFrames.{is_probe, state_called, sta
 
 -- ## What a call calls for
 
+-- while the line is live, a call that isn't refused calls for the frames that it asks for
 pub calls_asked : (s : StationSetting) (past : List Act) (x : Call) → list_any is_loss past ≡ false → refused s (station_view s past) x ≡ None → called_frames s past (Called x) ≡ frames_asked s.role x
 calls_asked s past x live h =
     ap (λ (b : Bool). if b then [] else frames_seeing s (station_view s past) (Called x)) live
@@ -49,6 +50,7 @@ pub record OneCall (v : Station) (channels : List Channel) (probe : Option Waiti
   pub all : is_opened (slice_index_or channels 0 shut_channel).state ≡ true → last_said (got_says flow_says) (since v.role 0 (Sent f ∷ Called x ∷ past)) ≡ v.all_stopped
   pub probes : probe_of (setting_of v) (Sent f ∷ Called x ∷ past) ≡ probe
 
+-- so the station with this frame queued fits the past after the call and its frame
 pub one_call : (v : Station) (channels : List Channel) (probe : Option Waiting) (x : Call) (f : Frame) (past : List Act) → StationFits v past → OneCall v channels probe x f past
     → StationFits (record v { channels = channels; probe = probe; queue = v.queue ++ f ∷ [] }) (after_act (setting_of v) past (Called x))
 one_call v channels probe x f past h o =
@@ -70,6 +72,7 @@ one_call v channels probe x f past h o =
 pub seen_state : (v : Station) (past : List Act) (d : ℕ) → StationFits v past → d < 62 → (channel_at v d).state ≡ (station_view (setting_of v) past).state d
 seen_state v past d h l = sym (h.channels_are d l).state_is
 
+-- and as many octets wait in its control queue
 pub seen_queued : (v : Station) (past : List Act) → StationFits v past → octets_of v.queue ≡ octets_of (queue past)
 seen_queued v past h = sym (ap octets_of h.queue_is)
 
@@ -83,6 +86,7 @@ open_refused s d z o q =
     let v : StationView = record { state = λ e. if e == 0 then z else o; queued = q; probe = None } in
     or_else (if not (d == 0) && not (is_opened z) then Some NotOpen else if is_opened o then Some AlreadyOpen else if not (is_shut o) then Some Busy else None) (if_no_room s v (Open d))
 
+-- an opening is refused by what a station keeps just as by each past that it fits
 pub open_seen : (v : Station) (past : List Act) (d : ℕ) → StationFits v past → d < 62 → refused (setting_of v) (seen_in v) (Open d) ≡ refused (setting_of v) (station_view (setting_of v) past) (Open d)
 unfolding open_refused
 open_seen v past d h l =
@@ -95,10 +99,12 @@ open_seen v past d h l =
 
 -- ## Opening
 
+-- and where a test that refuses comes before another refusal, it fails, and that is none
 pub if_then_none : (b : Bool) (e : StationError) (o : Option StationError) → (if b then Some e else o) ≡ None → (b ≡ false) × (o ≡ None)
 if_then_none true e o h = absurd (let g : Some e ≡ None = h in cc)
 if_then_none false e o h = (refl, h)
 
+-- a test whose contrary fails passes
 pub not_false : (b : Bool) → not b ≡ false → b ≡ true
 not_false true h = refl
 not_false false h = cc
@@ -247,6 +253,7 @@ turned_call v d x f t past u a r h =
 
 -- ## Opening and closing
 
+-- an opening that isn't refused is handled in each past that the station fits: d is Opening, its SABM queued
 pub open_handles : (v new : Station) (d : ℕ) → d < 62 → length v.channels ≡ 62 → refused (setting_of v) (seen_in v) (Open d) ≡ None → new ≡ asked_in v d (IsOpening 0) (written v.role Sabm d []) → StationHandles v new (Called (Open d))
 open_handles v new d l n h e =
     let shut : (channel_at v d).state ≡ IsShut = open_shut (setting_of v) (seen_in v) d h in
@@ -274,12 +281,14 @@ close_refused s d o q =
     let v : StationView = record { state = λ e. o; queued = q; probe = None } in
     or_else (if d == 0 then Some ControlChannel else if is_shut o then Some NotOpen else if not (is_opened o) then Some Busy else None) (if_no_room s v (Close d))
 
+-- a close is refused by what a station keeps just as by each past that it fits
 pub close_seen : (v : Station) (past : List Act) (d : ℕ) → StationFits v past → d < 62 → refused (setting_of v) (seen_in v) (Close d) ≡ refused (setting_of v) (station_view (setting_of v) past) (Close d)
 unfolding close_refused
 close_seen v past d h l =
     ap (λ (w : State). close_refused (setting_of v) d w (octets_of v.queue)) (seen_state v past d h l)
     ∙ ap (λ (n : ℕ). close_refused (setting_of v) d (state_of v.role d past) n) (seen_queued v past h)
 
+-- a state that is Opened is no other
 pub is_opened_state : (s : State) → is_opened s ≡ true → s ≡ IsOpened
 is_opened_state IsShut h = cc
 is_opened_state (IsOpening n) h = cc
@@ -317,6 +326,7 @@ close_turns v d past l n o z h = record {
   zero_opened = λ k. opened_zero v d past (is_opened (channel_at v 0).state) refl h l z o;
 }
 
+-- a close that isn't refused is handled in each past that the station fits: d is Closing, its DISC queued
 pub close_handles : (v new : Station) (d : ℕ) → d < 62 → length v.channels ≡ 62 → refused (setting_of v) (seen_in v) (Close d) ≡ None → new ≡ asked_in v d (IsClosing 0) (written v.role Disc d []) → StationHandles v new (Called (Close d))
 close_handles v new d l n h e =
     let o = close_opened (setting_of v) (seen_in v) d h in

@@ -81,6 +81,7 @@ probe_seen v past octets h =
     ∙ (ap (λ (p : Option Waiting). probe_refused (setting_of v) octets (state_of v.role 0 past) p (octets_of v.queue)) (sym h.probe_is)
     ∙ ap (λ (n : ℕ). probe_refused (setting_of v) octets (state_of v.role 0 past) (probe_of (setting_of v) past) n) (seen_queued v past h))
 
+-- a probe that isn't refused is handled in each past that the station fits: it waits, its Test command queued
 pub probe_handles : (v new : Station) (octets : List ℕ) → refused (setting_of v) (seen_in v) (Probe octets) ≡ None → new ≡ probed_in v octets → StationHandles v new (Called (Probe octets))
 probe_handles v new octets n e =
     subst (λ (w : Station). StationHandles v w (Called (Probe octets))) (sym e) (record {
@@ -126,6 +127,7 @@ flow_no_cld true true = refl
 flow_no_cld true false = refl
 flow_no_cld false go = refl
 
+-- so is a flow that isn't refused: its FCon, FCoff or MSC is queued
 pub flow_handles : (v new : Station) (d : ℕ) (go : Bool) → d < 62 → refused (setting_of v) (seen_in v) (Flow d go) ≡ None → new ≡ record v { queue = v.queue ++ frames_asked v.role (Flow d go) } → StationHandles v new (Called (Flow d go))
 flow_handles v new d go l n e =
     let octet = flow_octet (d == 0) go in
@@ -185,6 +187,7 @@ stop_probe : (s : StationSetting) (past : List Act) (o : Option Waiting) (b : Bo
 stop_probe s past None b h = refl
 stop_probe s past (Some w) b h = ap (λ (z : Bool). if z then Some w else None) h
 
+-- a stop that isn't refused: 0 is Stopping, all others Shut, and a CLD command is queued
 pub stop_handles : (v new : Station) → refused (setting_of v) (seen_in v) Stop ≡ None → new ≡ stopping_in v → StationHandles v new (Called Stop)
 stop_handles v new n e =
     subst (λ (w : Station). StationHandles v w (Called Stop)) (sym e) (record {
@@ -258,6 +261,7 @@ offer_fits v d octets past l n o h =
       last_is = h.last_is;
     }
 
+-- and an offer that isn't refused: its octets wait in d's send ring
 pub offer_handles : (v new : Station) (d : ℕ) (octets : List ℕ) → d < 62 → length v.channels ≡ 62 → offer_refused v d octets ≡ None → new ≡ offered_in v d octets → StationHandles v new (Called (Offer d octets))
 offer_handles v new d octets l n h e =
     subst (λ (w : Station). StationHandles v w (Called (Offer d octets))) (sym e) (record {
@@ -278,6 +282,7 @@ offer_seen v past d octets h l =
     ap (λ (w : State). offer_by_state (setting_of v) d octets w (octets_of v.queue)) (seen_state v past d h l)
     ∙ ap (λ (n : ℕ). offer_by_state (setting_of v) d octets (state_of v.role d past) n) (seen_queued v past h)
 
+-- each call is refused by what a station keeps just as by each past that it fits
 pub sees_the_past : (v : Station) (past : List Act) (c : Call) → SeesThePast v past c
 sees_the_past v past (Open d) h l = open_seen v past d h l
 sees_the_past v past (Close d) h l = close_seen v past d h l

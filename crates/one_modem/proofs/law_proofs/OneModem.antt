@@ -39,6 +39,7 @@ use Rattle.one_modem.proofs.two_ends.ReplyPlaces.{answered_before, last_begun, t
 
 -- ## What the modem reads
 
+-- the lines that the modem reads are commands that the driver was given, in the order in which they were wholly sent
 pub reads_commands : (s : Setting) (e : End) (line : List EndAct) → ReadsCommands s e line
 unfolding ReadsCommands ReadsInOrder
 reads_commands s e line p =
@@ -134,6 +135,7 @@ gives s e line f before c count w ans codes p come begun last ended is =
 
 -- ## The law
 
+-- each command told Done was read, and is told what the modem answered to it there
 pub tells_modem : (s : Setting) (e : End) (line : List EndAct) → TellsModem s e line
 unfolding TellsModem TellsOwn
 tells_modem s e line p newer older o ans joins done =

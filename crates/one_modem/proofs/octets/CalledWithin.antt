@@ -28,12 +28,15 @@ info_free n1 Dm = le-leb 0 n1 (omega arith)
 info_free n1 Disc = le-leb 0 n1 (omega arith)
 info_free n1 Uih = le-leb 0 n1 (omega arith)
 
+-- a frame without information on a connection below 62 is such
 pub mode_within : (n1 d : ℕ) (r : Role) (k : Kind) → d < 62 → is_within n1 (written r k d []) ≡ true
 mode_within n1 d r k h = and_from (nat_lt d 62) ((is_kind k Uih || true) && nat_le 0 n1) (lt-ltb d 62 h) (info_free n1 k)
 
+-- so is one with a message, whose value is two octets shorter than N1 at least
 pub message_within : (n1 : ℕ) (r : Role) (octet : ℕ) (value : List ℕ) → length value + 2 ≤ n1 → is_within n1 (message_frame r octet value) ≡ true
 message_within n1 r octet value h = le-leb (length (octet ∷ (2 * length value + 1) ∷ value)) n1 (omega (arith, h))
 
+-- and an MSC, where N1 is 31 at least
 pub msc_within : (n1 : ℕ) (r : Role) (d signals : ℕ) → 31 ≤ n1 → is_within n1 (msc_frame r d signals) ≡ true
 msc_within n1 r d signals low = message_within n1 r msc ((4 * d + 3) ∷ signals ∷ []) (omega (arith, low))
 
@@ -109,6 +112,7 @@ messaged n1 r IsShut f low h = refl
 messaged n1 r (IsOpening n) f low h = refl
 messaged n1 r (IsClosing n) f low h = refl
 
+-- where a frame that comes is such, those that it calls for are
 pub frame_within : (n1 : ℕ) (r : Role) (state : ℕ → State) (f : Frame) → 31 ≤ n1 → is_within n1 f ≡ true → Within n1 (by_frame r state f)
 frame_within n1 r state f low h =
     let p = and_parts (nat_lt f.dlci 62) (is_plain f && nat_le (length f.info) n1) h in
@@ -137,6 +141,7 @@ roomed n1 n2 r queued d (IsClosing n) h = closing (n == 3)
     closing true = refl
     closing false = fitting n1 n2 queued (written r Disc d []) (mode_within n1 d r Disc h)
 
+-- so are those of a tick over connections below 62
 pub tick_within : (n1 n2 : ℕ) (r : Role) (state : ℕ → State) (queued d count : ℕ) → d + count ≤ 62 → Within n1 (ticked r n2 state queued d count)
 tick_within n1 n2 r state queued d zero h = refl
 tick_within n1 n2 r state queued d (suc count) h =
@@ -144,6 +149,7 @@ tick_within n1 n2 r state queued d (suc count) h =
     all_both (is_within n1) here (ticked r n2 state (queued + octets_of here) (d + 1) count) (roomed n1 n2 r queued d (state d) (omega (arith, h)))
     (tick_within n1 n2 r state (queued + octets_of here) (d + 1) count (omega (arith, h)))
 
+-- and the MSC of a connection that is held or freed
 pub flow_within : (n1 : ℕ) (r : Role) (state : ℕ → State) (d signals : ℕ) → 31 ≤ n1 → Within n1 (by_flow r state d signals)
 flow_within n1 r state d signals low = all_if (is_within n1) (is_opened (state d)) (msc_frame r d signals ∷ []) [] (one n1 (msc_frame r d signals) (msc_within n1 r d signals low)) refl
 

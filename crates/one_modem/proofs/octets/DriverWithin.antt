@@ -29,6 +29,7 @@ abbrev pub IsShortAsk : Ask → Type 0
 IsShortAsk (Probe octets) = length octets ≤ 16
 IsShortAsk _ = Unit {0}
 
+-- each probe that was taken is such
 abbrev pub TakesShort : List Act → Type 0
 TakesShort [] = Unit {0}
 TakesShort (Took q ∷ past) = IsShortAsk q.ask × TakesShort past
@@ -148,6 +149,7 @@ sent_by : (s : Setting) (past : List Act) (f : Frame) (b : Bool) → Within s.n1
 sent_by s past f true w o g n = data_within s.n1 s.role (wire past) f (wire_within s.n1 past w) g.is_open g.as_written g.fits
 sent_by s past f false w o g n = (and_parts (is_within s.n1 f) (list_all (sends_within s.n1) n.later) (sym (ap (list_all (sends_within s.n1)) n.is_next) ∙ o)).0
 
+-- a lawful driver that got such frames as its N1 reads, and took short probes, sent such alone
 pub sents_within : (s : Setting) (past : List Act) → 31 ≤ s.n1 → Lawful s past → Within s.n1 (gots past) → TakesShort past → Within s.n1 (sents past)
 unfolding Lawful
 sents_within s [] low l w t = refl

@@ -103,6 +103,7 @@ in_place fs gs hs e g = record { later = g.later; frames = g.frames ∙ ap (λ (
 
 -- ## What the modem got
 
+-- where the octets that came at the modem are the first that the driver sent, so are the frames
 pub modem_gets : (b : Beginning) (v : SessionView) (past : List driver.Act) (e : End) (came went behind : List ℕ) (k : SimMachine) (far : List modem.Act) → SessionFits b v past → SimMachineFits e came went k far
     → 31 ≤ b.n1 → b.n1 ≤ 32767 → e.n1 ≡ b.n1 → TakesShort past → b.line.sent ≡ [] → came ++ behind ≡ v.line.sent → AreOctets v.line.sent → AreOctets v.unwritten
     → ComesInOrder (driver.wire past) (modem.wire far)
@@ -119,6 +120,7 @@ modem_gets b v past e came went behind k far f g low high same short fresh joins
 
 -- ## What the driver got
 
+-- and so at the driver, of those that the modem sent
 pub driver_gets : (b : Beginning) (v : SessionView) (past : List driver.Act) (e : End) (came went behind : List ℕ) (k : SimMachine) (far : List modem.Act) → SessionFits b v past → SimMachineFits e came went k far
     → 31 ≤ b.n1 → b.n1 ≤ 32767 → e.n1 ≡ b.n1 → b.line.received ≡ [] → v.line.received ++ behind ≡ went → AreOctets went → AreOctets k.out
     → ComesInOrder (modem.wire far) (driver.wire past)

@@ -78,6 +78,7 @@ got_fewer : (sender receiver newer : List station.Act) → IsBehind (frames_got 
 got_fewer sender receiver newer k c =
     record { later = c.later ++ k.newer; sent_are = c.sent_are ∙ (ap (λ (fs : List Frame). c.later ++ fs) k.joins ∙ sym (append_assoc c.later k.newer (frames_got receiver))) }
 
+-- what came at each end of one line are the first frames that the other sent
 pub both_ways : (line : List EndAct) → IsOneLine line → ComesBothWays line
 both_ways [] one = record { at_modem = record { later = []; sent_are = refl }; at_driver = record { later = []; sent_are = refl } }
 both_ways (a ∷ line) one = one.0

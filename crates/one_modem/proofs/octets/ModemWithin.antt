@@ -117,6 +117,7 @@ unfolding Sends
 sent_by e past f true w o g = data_within e.n1 (setting e).role (wire past) f (wire_within e.n1 past w) g.is_open g.as_written g.fits
 sent_by e past f false w o g = (and_parts (is_within e.n1 f) (list_all (is_within e.n1) g.later) (sym (ap (list_all (is_within e.n1)) g.is_next) ∙ o)).0
 
+-- a lawful simulated modem that got such frames as its N1 reads sent such alone
 pub sent_within : (e : End) (past : List Act) → 31 ≤ e.n1 → StationLawful (setting e) (wire past) → EachAllowed e past → Within e.n1 (got past) → Within e.n1 (sent past)
 unfolding StationLawful
 sent_within e [] low l k w = refl

@@ -23,6 +23,7 @@ reads_within n1 s _ _ (frame _ b x f fs rest e k q) =
 reads_within n1 s _ _ (cut_short _ t e c) = refl
 reads_within n1 s _ _ (other _ t fs rest e nf nh nc q) = reads_within n1 t fs rest q
 
+-- and so are the first of such frames
 pub first_within : (n1 : ℕ) (fs gs : List Frame) → Within n1 (fs ++ gs) → Within n1 fs
 first_within n1 [] gs h = refl
 first_within n1 (f ∷ fs) gs h =

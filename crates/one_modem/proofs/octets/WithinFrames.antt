@@ -12,9 +12,11 @@ use Rattle.mux_frame.proofs.Spellings.{spells_body}
 use Rattle.mux_station.specs.Written.{is_kind}
 use Rattle.mux_station.proofs.law_proofs.ControlFrames.{is_plain}
 
+-- the frame is such
 abbrev pub is_within : ℕ → Frame → Bool
 is_within n1 f = nat_lt f.dlci 62 && (is_plain f && nat_le (length f.info) n1)
 
+-- each of these is
 abbrev pub Within : ℕ → List Frame → Type 0
 Within n1 fs = list_all (is_within n1) fs ≡ true
 
@@ -28,6 +30,7 @@ room_in n1 Ua xs h few = none_in xs h
 room_in n1 Dm xs h few = none_in xs h
 room_in n1 Disc xs h few = none_in xs h
 
+-- such a frame has a spelling
 pub within_spelled : (n1 : ℕ) (f : Frame) → n1 ≤ 32767 → is_within n1 f ≡ true → HasSpelling n1 f
 within_spelled n1 f high h =
     let p = and_parts (nat_lt f.dlci 62) (is_plain f && nat_le (length f.info) n1) h in
@@ -46,6 +49,7 @@ plain_by n1 Ua (x ∷ xs) few = absurd (omega (arith, few))
 plain_by n1 Dm (x ∷ xs) few = absurd (omega (arith, few))
 plain_by n1 Disc (x ∷ xs) few = absurd (omega (arith, few))
 
+-- and one that has a spelling is such
 pub spelled_within : (n1 : ℕ) (f : Frame) → HasSpelling n1 f → is_within n1 f ≡ true
 spelled_within n1 f h =
     and_from (nat_lt f.dlci 62) (is_plain f && nat_le (length f.info) n1) (lt-ltb f.dlci 62 h.spells.dlci) (plain_by n1 f.kind f.info h.spells.room)

@@ -170,6 +170,7 @@ allowed =
 
 -- ## The premise
 
+-- on the worked line the driver, the modem and the line between them keep their laws
 pub right_line : RightLine
 unfolding driver_acts calls_test is_none
 right_line = record {
@@ -186,6 +187,7 @@ right_line = record {
   once = asks_once;
 }
 
+-- the second command on 1 is answered with the number of its error
 pub right_answer : RightAnswer
 unfolding command_of command_in numeral_in unquoted parameters digits
 right_answer = record { before = (1, set_mode) ∷ []; later = []; joins = refl; place_is = refl; answer_is = refl }
@@ -238,6 +240,7 @@ wrong_place before later joins e =
     let none : ◌≡◌ {A = ℕ} 1 0 = ap (λ z. length (lines_on 1 z)) (sym first) ∙ e in
     cc
 
+-- it isn't as by a modem to which no mode was set, nor at the first place, nor on another connection
 pub wrong_answers : WrongAnswers
 wrong_answers = (
   λ h. wrong_answer h.before h.later h.joins h.answer_is,
@@ -263,5 +266,6 @@ second_lost first second third (x ∷ y ∷ later) u m e =
     longer [] h = let k : [] ≡ first ∷ [] = cc in cc
     longer (z ∷ zs) h = too_long zs third (first ∷ []) (let k : [] ≡ zs ++ third ∷ first ∷ [] = cc in k)
 
+-- no line has a frame that comes before it was sent, or passes one over
 pub wrong_lines : WrongLines
 wrong_lines = (λ h. none_sent _ h.1.1.1.1.0.at_driver.later h.1.1.1.1.0.at_driver.sent_are, λ h. second_lost _ _ _ h.0.at_driver.later refl refl h.0.at_driver.sent_are)

@@ -20,9 +20,11 @@ use Rattle.modem_sim.specs.Replied.{IsFirstOf, all_of}
 
 -- ## How many there are
 
+-- how many of these lines are final codes
 abbrev pub finals : List (List ℕ) → ℕ
 finals ls = length (filter is_final ls)
 
+-- in two lists they add up
 pub finals-append : (xs ys : List (List ℕ)) → finals (xs ++ ys) ≡ finals xs + finals ys
 finals-append xs ys = ap length (filter-append is_final xs ys) ∙ length-append (filter is_final xs) (filter is_final ys)
 
@@ -49,6 +51,7 @@ fewer_parts past (Line l ∷ ms) =
     head_part l (unsolicited_of l) (solicited_in standard (open_window standard past) l) (lines_of ms) (filter (is_solicited standard) (lines_of ms)) (seen_from standard (past ++ Line l ∷ []) ms) (fewer_parts (past ++ Line l ∷ []) ms)
 fewer_parts past (Begun c ∷ ms) = fewer_parts (past ++ Begun c ∷ []) ms
 
+-- where some line is a final code one is counted at least
 pub some_final : (ls : List (List ℕ)) → list_any is_final ls ≡ true → 1 ≤ finals ls
 some_final [] is = cc
 some_final (l ∷ ls) is = by_final (is_final l) refl (some_final ls)
@@ -86,6 +89,7 @@ pub record Ends (ls : List (List ℕ)) : Type 0 where
   pub before : list_any is_final front ≡ false
   pub last : is_final code ≡ true
 
+-- so does each of these lists
 abbrev pub AllEnd : List (List (List ℕ)) → Type 0
 AllEnd [] = Unit {0}
 AllEnd (r ∷ rs) = Ends r × AllEnd rs
@@ -98,6 +102,7 @@ none_final (l ∷ ls) is = by_final (is_final l) refl (none_final ls)
     by_final true e rest = let same : list_any is_final (l ∷ ls) ≡ true = rw e refl in let g : true ≡ false = sym same ∙ is in cc
     by_final false e rest = rest (let same : list_any is_final (l ∷ ls) ≡ list_any is_final ls = rw e refl in sym same ∙ is)
 
+-- such a list has one final code
 pub one_final : (r : List (List ℕ)) → Ends r → finals r ≡ 1
 one_final r e =
     let size = finals-append e.front (e.code ∷ []) in
@@ -105,6 +110,7 @@ one_final r e =
     let last : finals (e.code ∷ []) ≡ 1 = ap (λ (b : Bool). length (if b then e.code ∷ [] else [])) e.last in
     ap finals e.parts ∙ omega arith
 
+-- such lists have one each
 pub all_finals : (rs : List (List (List ℕ))) → AllEnd rs → finals (all_of rs) ≡ length rs
 all_finals [] end = refl
 all_finals (r ∷ rs) end =
@@ -180,6 +186,7 @@ up_to_code (x ∷ front) code none last =
     let split = or_parts (is_final x) (list_any is_final front) none in
     ap (λ (b : Bool). if b then x ∷ [] else x ∷ up_to_final standard (front ++ code ∷ [])) split.0 ∙ ap (λ z. x ∷ z) (up_to_code front code split.1 last)
 
+-- up to its final code such a list is whole
 pub ended_whole : (ls : List (List ℕ)) → Ends ls → up_to_final standard ls ≡ ls
 ended_whole ls e = ap (up_to_final standard) e.parts ∙ up_to_code e.front e.code e.before e.last ∙ sym e.parts
 

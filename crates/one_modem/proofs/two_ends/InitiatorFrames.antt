@@ -28,11 +28,13 @@ pub data Both : Type 0 where
   Near : Act → Both
   Far : Act → Both
 
+-- the past of the initiator
 abbrev pub near : List Both → List Act
 near [] = []
 near (Near a ∷ line) = a ∷ near line
 near (Far a ∷ line) = near line
 
+-- the past of the responder
 abbrev pub far : List Both → List Act
 far [] = []
 far (Near a ∷ line) = far line
@@ -47,10 +49,12 @@ pub record Point (n1 : ℕ) (line : List Both) : Type 0 where
   pub timeless : IsTimeless (far line)
   pub lawful : StationLawful (answering n1) (far line)
 
+-- so it is at each point of the line
 abbrev pub Points : ℕ → List Both → Type 0
 Points n1 [] = Point n1 []
 Points n1 (x ∷ line) = Point n1 (x ∷ line) × Points n1 line
 
+-- and so at this one
 pub point : (n1 : ℕ) (line : List Both) → Points n1 line → Point n1 line
 point n1 [] p = p
 point n1 (x ∷ line) p = p.0
@@ -146,12 +150,15 @@ was_open true i e g h = cc
 was_open false true e g h = refl
 was_open false false e g h = cc
 
+-- the same as a beginning is a beginning of the same as the whole
 pub same_prefix : (xs ys us vs : List ℕ) → xs ≡ us → ys ≡ vs → IsPrefixOf us vs → IsPrefixOf xs ys
 same_prefix xs ys us vs e g h = record { rest = h.rest; joins = ap (λ z. z ++ h.rest) e ∙ (h.joins ∙ sym g) }
 
+-- the whole is a beginning of the same octets
 pub whole_prefix : (xs ys : List ℕ) → xs ≡ ys → IsPrefixOf xs ys
 whole_prefix xs ys e = record { rest = []; joins = append-nil xs ∙ e }
 
+-- a beginning is one of what goes on
 pub prefix_more : (xs ys zs : List ℕ) → IsPrefixOf xs ys → IsPrefixOf xs (ys ++ zs)
 prefix_more xs ys zs h = record { rest = h.rest ++ zs; joins = sym (append_assoc xs h.rest zs) ∙ ap (λ z. z ++ zs) h.joins }
 
@@ -264,10 +271,12 @@ sent_all n1 d (Given ∷ past) timeless lawful one = sent_still Responder d past
 sent_all n1 d (Tick ∷ past) timeless lawful one = absurd timeless
 sent_all n1 d (Lost ∷ past) timeless lawful one = absurd timeless
 
+-- the information of older frames is the beginning of that of all
 pub info_later : (d : ℕ) (later older : List Frame) → IsPrefixOf (info_in d older) (info_in d (later ++ older))
 info_later d [] older = whole_prefix (info_in d older) (info_in d older) refl
 info_later d (f ∷ later) older = prefix_more (info_in d older) (info_in d (later ++ older)) (info_of d f) (info_later d later older)
 
+-- a beginning of a beginning is one of the whole
 pub prefix_then : (xs ys zs : List ℕ) → IsPrefixOf xs ys → IsPrefixOf ys zs → IsPrefixOf xs zs
 prefix_then xs ys zs h g = record { rest = h.rest ++ g.rest; joins = sym (append_assoc xs h.rest g.rest) ∙ (ap (λ z. z ++ g.rest) h.joins ∙ g.joins) }
 

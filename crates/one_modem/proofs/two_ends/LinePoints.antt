@@ -117,6 +117,7 @@ pub record Along (s : Setting) (e : End) (line : List EndAct) : Type 0 where
   pub one_line : IsOneLine line
   pub once : AsksOnce (driver_wire line)
 
+-- so it is of the whole line of a driver and a modem
 pub along : (s : Setting) (e : End) (line : List EndAct) → IsOneModem s e line → Along s e line
 along s e line p = record {
   role = p.is_initiator;
@@ -154,6 +155,7 @@ fewer_asked (Held d) past h = h
 fewer_asked (Freed d) past h = h
 fewer_asked Given past h = h
 
+-- and before the driver's newest act
 pub driver_earlier : (s : Setting) (e : End) (a : driver.Act) (line : List EndAct) → Along s e (AtDriver a ∷ line) → Along s e line
 unfolding driver_laws.Lawful
 driver_earlier s e a line p = record {
@@ -186,6 +188,7 @@ lawful_before n1 (Wire station.Tick) past h = h
 lawful_before n1 (Wire station.Lost) past h = h
 lawful_before n1 (Wire station.Given) past h = h
 
+-- and before the modem's
 pub modem_earlier : (s : Setting) (e : End) (a : modem.Act) (line : List EndAct) → Along s e (AtModem a ∷ line) → Along s e line
 modem_earlier s e a line p = record {
   role = p.role;
@@ -199,6 +202,7 @@ modem_earlier s e a line p = record {
   once = p.once;
 }
 
+-- a simulated modem has no ticks, and loses no line
 pub timeless : (e : End) (past : List modem.Act) → EachAllowed e past → IsTimeless (modem.wire past)
 timeless e [] may = tt
 timeless e (Did step ∷ past) may = timeless e past may.1
@@ -209,6 +213,7 @@ timeless e (Wire station.Given ∷ past) may = timeless e past may.1
 timeless e (Wire station.Tick ∷ past) may = absurd may.0
 timeless e (Wire station.Lost ∷ past) may = absurd may.0
 
+-- what came at each end of one line are the first frames that the other sent
 pub both_ways : (line : List EndAct) → IsOneLine line → ComesBothWays line
 both_ways [] h = record { at_modem = record { later = []; sent_are = refl }; at_driver = record { later = []; sent_are = refl } }
 both_ways (a ∷ line) h = h.0
@@ -301,17 +306,21 @@ points s e (AtModem (Did step) ∷ line) p = points s e line (modem_earlier s e 
 
 -- ## What was read and what came back
 
+-- the marks of d at the driver
 abbrev pub marks_at : Setting → ℕ → List EndAct → List Mark
 marks_at s d line = marks s.role d (driver_past line)
 
+-- the modem's replies to the lines on d
 abbrev pub replies_at : End → ℕ → List EndAct → List (List (List ℕ))
 replies_at e d line = replied_on e.echo d e.modem (heard (modem_past line))
 
+-- at the modem each connection was asked for once at most
 pub once_there : (s : Setting) (e : End) (line : List EndAct) → Along s e line → (d : ℕ) → AsksOne d (frames_got (modem_wire line))
 once_there s e line p d =
     let ways = both_ways line p.one_line in
     asks_older d ways.at_modem.later (frames_got (modem_wire line)) (subst (AsksOne d) ways.at_modem.sent_are (p.once d))
 
+-- and information came on it behind its SABM alone
 pub behind_there : (s : Setting) (e : End) (line : List EndAct) → Along s e line → (d : ℕ) → ComesBehind d (frames_got (modem_wire line))
 behind_there s e line p d =
     let ways = both_ways line p.one_line in
@@ -321,9 +330,11 @@ behind_there s e line p d =
 lines_first : (x y : List ℕ) → IsPrefixOf x y → IsFirstOf (lines x) (lines y)
 lines_first x y h = record { later = lines (kept_run x ++ h.rest); joins = sym (reads_on x h.rest).reads_kept ∙ ap lines h.joins }
 
+-- the same as a beginning is a beginning of the same as the whole
 pub first_same : {A : Type 0} (xs us ys vs : List A) → xs ≡ us → ys ≡ vs → IsFirstOf us vs → IsFirstOf xs ys
 first_same xs us ys vs e g h = record { later = h.later; joins = ap (λ z. z ++ h.later) e ∙ (h.joins ∙ sym g) }
 
+-- a beginning of a beginning is one of the whole
 pub first_then : {A : Type 0} (xs ys zs : List A) → IsFirstOf xs ys → IsFirstOf ys zs → IsFirstOf xs zs
 first_then xs ys zs h g = record { later = h.later ++ g.later; joins = sym (append_assoc xs h.later g.later) ∙ (ap (λ z. z ++ g.later) h.joins ∙ g.joins) }
 

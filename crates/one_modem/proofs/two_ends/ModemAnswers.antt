@@ -47,6 +47,7 @@ pub record Before (s : Setting) (e : End) (d : ℕ) (line : List EndAct) (ms : L
   first : IsFirstOf (filter (is_solicited standard) (lines_of ms)) (filter (is_solicited standard) (all_of replies))
   few : length replies ≤ length (begun_in ms)
 
+-- a list is the beginning of itself
 pub self_first : {A : Type 0} (xs : List A) → IsFirstOf xs xs
 self_first xs = record { later = []; joins = append-nil xs }
 
@@ -160,6 +161,7 @@ by_got s e d line false true ls ms rest c joins before = by_place (place (marks_
     by_place (in_new h) = absurd (no_command ls h.mid h.rest c h.joins)
 by_got s e d line false false ls ms rest c joins before = before rest joins
 
+-- so it is of each command that began, at each point of the line behind that
 pub before_begun : (s : Setting) (e : End) (d : ℕ) (line : List EndAct) → Along s e line → (ms rest : List Mark) (c : List ℕ) → marks_at s d line ≡ ms ++ Begun c ∷ rest → Before s e d line ms
 unfolding begun_marks
 before_begun s e d [] p [] rest c joins = cc
@@ -254,6 +256,7 @@ pub record Ended (c : List ℕ) (after : List (List ℕ)) (ans : List AnswerLine
 some_same : {A : Type 0} (a b : A) → Some a ≡ Some b → a ≡ b
 some_same a b e = cc
 
+-- where the window of the last command is answered, its answer ends in the lines behind that command
 pub ended_by : (ms : List Mark) (c : List ℕ) (behind more : List (List ℕ)) (w : Window) (ans : List AnswerLine) (all : List Mark) → all ≡ ms ++ Begun c ∷ map Line behind
     → last_window (all ++ map Line more) ≡ Some w → is_answered standard w ≡ true → ans ≡ answer_lines (answer_of standard w) → Ended c (behind ++ more) ans
 ended_by ms c behind more w ans all joins last ended is =

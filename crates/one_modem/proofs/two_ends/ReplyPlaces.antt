@@ -49,6 +49,7 @@ only_lines [] e = refl
 only_lines (Line l ∷ ms) e = ap (λ z. Line l ∷ z) (only_lines ms e)
 only_lines (Begun c ∷ ms) e = cc
 
+-- so it is where the command began last
 pub last_begun : (ms : List Mark) (earlier : List (List ℕ)) (c : List ℕ) → begun_in ms ≡ earlier ++ c ∷ [] → LastBegun ms c earlier
 last_begun [] [] c e = cc
 last_begun [] (x ∷ xs) c e = cc
@@ -80,6 +81,7 @@ window_at o (Begun b ∷ ms) c ls = window_at (Some (record { command = b; after
 pub last_at : (ms : List Mark) (c : List ℕ) (ls : List (List ℕ)) → last_window (ms ++ Begun c ∷ map Line ls) ≡ Some (record { command = c; after = ls })
 last_at ms c ls = window_at None ms c ls
 
+-- where all marks are in turn the first of them are
 pub turn_before : (ms more : List Mark) → IsInTurn standard (ms ++ more) → IsInTurn standard ms
 turn_before ms more t before after c e = t before (after ++ more) c (ap (λ z. z ++ more) e ∙ append_assoc before (Begun c ∷ after) more)
 
@@ -104,6 +106,7 @@ answered_before ms c more t =
 
 -- ## Command lines
 
+-- each of these lines begins with AT
 abbrev pub AllAt : List (List ℕ) → Type 0
 AllAt [] = Unit {0}
 AllAt (l ∷ ls) = (has_at l ≡ true) × AllAt ls
@@ -117,12 +120,14 @@ either_way : (a b : Bool) → (a || b) ≡ true → (P : Type 0) → (a ≡ true
 either_way true b is P first second = first refl
 either_way false b is P first second = second is
 
+-- so it is of a line that begins with AT
 pub plain_command : (line : List ℕ) → has_at line ≡ true → IsPlainCommand line
 plain_command line at =
     either_way (starts_with nat_eq line (codes "AT")) (starts_with nat_eq line (codes "at")) at (IsPlainCommand line)
     (λ big. subst (λ z. IsPlainCommand z) (sym (started line (codes "AT") big)) (record { solicited = refl; no_final = refl }))
     (λ small. subst (λ z. IsPlainCommand z) (sym (started line (codes "at") small)) (record { solicited = refl; no_final = refl }))
 
+-- a command line begins with AT
 pub at_of : (text : List ℕ) → refusal_of text ≡ None → has_at text ≡ true
 at_of text is = by_at (has_at text) _ is
   where
@@ -132,6 +137,7 @@ at_of text is = by_at (has_at text) _ is
 
 -- ## A reply
 
+-- the texts of the lines of an answer
 abbrev pub texts_in : List AnswerLine → List (List ℕ)
 texts_in ls = map (λ (l : AnswerLine). l.text) ls
 
@@ -234,17 +240,21 @@ reply_answer start is before echo line at =
 
 -- ## All replies
 
+-- each reply without its unsolicited lines
 abbrev pub solicited_in : List (List (List ℕ)) → List (List (List ℕ))
 solicited_in rs = map (λ (r : List (List ℕ)). filter (is_solicited standard) r) rs
 
+-- all replies without unsolicited lines are each one without, joined
 pub all_solicited_in : (rs : List (List (List ℕ))) → filter (is_solicited standard) (all_of rs) ≡ all_of (solicited_in rs)
 all_solicited_in [] = refl
 all_solicited_in (r ∷ rs) = filter-append (is_solicited standard) r (all_of rs) ∙ ap (λ z. filter (is_solicited standard) r ++ z) (all_solicited_in rs)
 
+-- a line stands among those on d where it came on d
 pub line_on : (d : ℕ) (p : ℕ × List ℕ) (ls : List (ℕ × List ℕ)) (b : Bool) → (p.0 == d) ≡ b → lines_on d (p ∷ ls) ≡ (if b then p.1 ∷ lines_on d ls else lines_on d ls)
 line_on d p ls true e = rw e refl
 line_on d p ls false e = rw e refl
 
+-- the replies to lines on d that begin with AT each end with their only final code
 pub all_end : (start : ModemStart) → IsStart start → (echo : Bool) (d : ℕ) (before : List (List ℕ)) (m : ModemState) (ls : List (ℕ × List ℕ)) → m ≡ reached start before → AllAt (lines_on d ls) → AllEnd (solicited_in (replied_on echo d m ls))
 all_end start is echo d before m [] same at = tt
 all_end start is echo d before m (p ∷ ls) same at =
@@ -277,6 +287,7 @@ pub record RepliesAt (echo : Bool) (d : ℕ) (m : ModemState) (ls : List (ℕ ×
   pub place_is : length (lines_on d before) ≡ place
   pub is : r ≡ written_for echo (after_lines m (texts_of before)) line
 
+-- the reply behind so many is that to the line behind as many on d
 pub replies_at_place : (echo : Bool) (d : ℕ) (m : ModemState) (ls : List (ℕ × List ℕ)) (rs : List (List (List ℕ))) (r : List (List ℕ)) (more : List (List (List ℕ))) → replied_on echo d m ls ≡ rs ++ r ∷ more → RepliesAt echo d m ls (length rs) r
 replies_at_place echo d m [] [] r more e = cc
 replies_at_place echo d m [] (x ∷ rs) r more e = cc

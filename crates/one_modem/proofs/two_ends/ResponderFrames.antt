@@ -22,12 +22,15 @@ use Rattle.modem_history.specs.TwoEnds.{frames_got, frames_sent}
 use Rattle.modem_history.proofs.commands.FramesOnLine.{info_in, info_none}
 use Rattle.modem_history.proofs.connections.InformationGrowth.{is_got, opens_none}
 
+-- a UA on d is among these frames
 abbrev pub uas : ℕ → List Frame → Bool
 uas d fs = list_any (is_on Ua d) fs
 
+-- a SABM on d is
 abbrev pub sabms : ℕ → List Frame → Bool
 sabms d fs = list_any (is_on Sabm d) fs
 
+-- the setting of a responder with this N1
 abbrev pub answering : ℕ → StationSetting
 answering n1 = record { role = Responder; n1 = n1 }
 
@@ -234,6 +237,7 @@ comes n1 d past f timeless h =
         absurd (let g : true ≡ false = sym some ∙ none in cc)
     by_opens false is none was = still_shut (is_on Sabm d f && ((d == 0) || zero_open d past)) (is_open Responder d past) (ends (zero_open d past) d (Got f)) is was
 
+-- so they stand in each past that keeps the responder's tables, without ticks and losses
 pub stands : (n1 d : ℕ) (past : List Act) → IsTimeless past → StationLawful (answering n1) past → Stands n1 d past
 unfolding StationLawful Sends
 stands n1 d [] timeless lawful = record { shut = λ e. refl; sent_none = λ e. refl; owed_none = λ e. refl; unopened = λ e g. refl }
@@ -259,10 +263,12 @@ abbrev pub ComesBehindUa : ℕ → List Frame → Type 0
 ComesBehindUa d [] = Unit {0}
 ComesBehindUa d (f ∷ older) = (uas d (f ∷ older) ≡ false → info_in d (f ∷ older) ≡ []) × ComesBehindUa d older
 
+-- while no UA on d is among such frames there is no information on d
 pub first_behind_ua : (d : ℕ) (fs : List Frame) → ComesBehindUa d fs → uas d fs ≡ false → info_in d fs ≡ []
 first_behind_ua d [] h e = refl
 first_behind_ua d (f ∷ fs) h e = h.0 e
 
+-- and so it is of the older ones of them
 pub older_behind_ua : (d : ℕ) (later older : List Frame) → ComesBehindUa d (later ++ older) → ComesBehindUa d older
 older_behind_ua d [] older h = h
 older_behind_ua d (f ∷ later) older h = older_behind_ua d later older h.1
@@ -282,6 +288,7 @@ data_while_open n1 d past f lawful e =
     let gated = rw there.0 at lawful.0 in
     (ap (λ n. is_open Responder n past) (sym there.1) ∙ gated.is_open, gated.behind)
 
+-- so it is of the frames that such a responder sent
 pub behind_ua : (n1 d : ℕ) (past : List Act) → IsTimeless past → StationLawful (answering n1) past → ComesBehindUa d (frames_sent past)
 unfolding StationLawful
 behind_ua n1 d [] timeless lawful = tt

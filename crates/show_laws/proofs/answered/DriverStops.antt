@@ -68,6 +68,7 @@ response_quiet : (r : Role) (o : Option Message) → many commands (response_to 
 response_quiet r None = omega arith
 response_quiet r (Some m) = responds_quiet r m (is_supported m.octet) (is_command m && not (m.octet == nsc)) refl
 
+-- a message that comes calls for no control command that asks
 pub message_quiet : (r : Role) (s : State) (f : Frame) → many commands (by_message r s f) ≤ 0
 message_quiet r IsOpened f = response_quiet r (message_in f)
 message_quiet r (IsStopping n) f = few_if commands 0 (brings_command cld f) (response_to r (message_in f)) [] (response_quiet r (message_in f)) (omega arith)
@@ -75,6 +76,7 @@ message_quiet r IsShut f = omega arith
 message_quiet r (IsOpening n) f = omega arith
 message_quiet r (IsClosing n) f = omega arith
 
+-- nor is a UA or DM one
 pub mode_quiet : (r : Role) (d : ℕ) (b : Bool) → many commands (ua_or_dm r d b ∷ []) ≤ 0
 mode_quiet r d true = omega arith
 mode_quiet r d false = omega arith
@@ -96,6 +98,7 @@ by_frame_quiet r state f is h =
     subst (λ (q : Role). many commands (by_frame q state f) ≤ 0) (sym is)
     (few_if commands 0 (is_on Uih 0 f) (by_message Initiator (state 0) f) (by_table Initiator f.dlci (state 0) (state f.dlci) f.kind) (message_quiet Initiator (state 0) f) (table_quiet f.dlci (state 0) (state f.dlci) f.kind h))
 
+-- while 0 isn't Opened a request calls for none
 pub asked_quiet : (s : Setting) (v : HistoryView) (q : Request) (b : Bool) → is_none (at_once s v q) ≡ b → (ask : Ask) → q.ask ≡ ask → is_opened (v.state 0) ≡ false → many commands (if b then asking s.role ask else []) ≤ 0
 asked_quiet s v q false e ask is shut = omega arith
 asked_quiet s v q true e (OpenChannel c) is shut = omega arith
@@ -126,6 +129,7 @@ response_alone r (Some m) =
     few_if every 1 (is_supported m.octet) (message_frame r (response_of m.octet) m.value ∷ []) (if is_command m && not (m.octet == nsc) then message_frame r (response_of nsc) (m.octet ∷ []) ∷ [] else [])
     (omega arith) (one_if (is_command m && not (m.octet == nsc)) (message_frame r (response_of nsc) (m.octet ∷ [])))
 
+-- a message calls for one frame at most
 pub message_alone : (r : Role) (s : State) (f : Frame) → many every (by_message r s f) ≤ 1
 message_alone r IsOpened f = response_alone r (message_in f)
 message_alone r (IsStopping n) f = few_if every 1 (brings_command cld f) (response_to r (message_in f)) [] (response_alone r (message_in f)) (omega arith)
@@ -342,9 +346,11 @@ calls s n1 a line prompt quiet alone k =
       λ some. let few = first_owes s past a closes prompt in more_alone s past a prompt (alone (omega (arith, some, few))),
     )
 
+-- while 0 isn't open a frame that comes to a lawful initiator calls for no control command that asks
 pub shut_frame : (s : Setting) (past : List driver.Act) (f : Frame) → s.role ≡ Initiator → Lawful s past → open_at 0 (wire past) ≡ false → many commands (by_frame s.role (seen_behind s past (owed s past)).state f) ≤ 0
 shut_frame s past f is l shut = by_frame_quiet s.role (seen_behind s past (owed s past)).state f is (λ apart. opening_state s f.dlci past is (below_unasked s f.dlci past is l shut apart))
 
+-- nor does a connection that is held or freed
 pub shut_flow : (s : Setting) (past : List driver.Act) (e signals : ℕ) → s.role ≡ Initiator → Lawful s past → open_at 0 (wire past) ≡ false → many commands (by_flow s.role (seen_behind s past (owed s past)).state e signals) ≤ 0
 shut_flow s past e signals is l shut =
     let o = opened_state s e past is (below_shut s e past is l shut) in
@@ -444,5 +450,6 @@ stops s n1 stamps (AtDriver (driver.Freed e) ∷ line) h =
 no_time : ℕ → Stamp
 no_time n = record { seconds = 0; micros = 0 }
 
+-- on a lawful line whose driver asks for each connection once it sends no control command behind a CLD or its response
 pub driver_stops : (s : Setting) (n1 : ℕ) (line : List LineAct) → IsOnceLine s n1 line → StopsAsking (frames_sent (wire (driver_past line)))
 driver_stops s n1 line h = (stops s n1 no_time line h).so_far

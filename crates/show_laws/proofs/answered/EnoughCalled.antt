@@ -44,6 +44,7 @@ message_sound f m h = by_on (is_on Uih 0 f) h
     by_on true e = by_info f.info e
     by_on false e = cc
 
+-- a message of an odd type, and good if it is an MSC, is read as it was spelled
 pub read_back : (r : Role) (octet : ℕ) (value : List ℕ) → (octet % 2 == 1) ≡ true → (is_msc octet && not (is_good_msc value)) ≡ false → message_in (message_frame r octet value) ≡ Some (record { octet = octet; value = value })
 read_back r octet value odd good =
     let n = (2 * length value + 1) / 2 in
@@ -66,6 +67,7 @@ one_more : (u : Frame → Bool) (f : Frame) (fs : List Frame) (b : Bool) → u f
 one_more u f fs true h = let e : unit (u f) ≡ 1 = ap unit h in omega (arith, e)
 one_more u f fs false h = omega arith
 
+-- the response to a supported command has no type of a command
 pub not_command : (o : ℕ) → is_supported o ≡ true → is_command_octet (response_of o) ≡ false
 not_command o s = supported_by (λ n. is_command_octet (response_of n) ≡ false) o s refl refl refl refl refl
 
@@ -181,6 +183,7 @@ down_frame : (r : Role) (octet : ℕ) (value : List ℕ) → octet ≡ cld → b
 down_frame r octet value e =
     ap (λ n. brings_response cld (message_frame r (response_of n) value)) e ∙ ap (octet_is command_of cld) (read_back r (response_of cld) value refl refl)
 
+-- a CLD that comes is answered by its response, if it comes while 0 is Opened or Stopping
 pub clds_enough : (r : Role) (state : ℕ → State) (f : Frame) → (brings_command cld f ≡ true → (is_opened (state 0) || is_stopping (state 0)) ≡ true) → unit (brings_command cld f) ≤ many (brings_response cld) (by_frame r state f)
 clds_enough r state f h = by_cld (brings_command cld f) refl
   where

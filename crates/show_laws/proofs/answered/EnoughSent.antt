@@ -56,6 +56,7 @@ told_on s t u past a n none k =
     let d : sends u (drop 1 (owed s past)) ≡ sends u n.later = ap (λ (xs : List Act). sends u (drop 1 xs)) n.is_next in
     omega (arith, e, parts, none, d, k)
 
+-- where each frame of the first test called for one of the second, a driver whose line isn't lost has sent or owes as many
 pub driver_enough : (s : Setting) (t u : Frame → Bool) (past : List Act) → Lawful s past → is_lost past ≡ false → CallsEach s.role t u (wire past) → Enough s t u past
 unfolding Lawful
 driver_enough s t u [] l live each = omega arith
@@ -92,6 +93,7 @@ station_sent s t u past f false n k =
     let d : many u (drop 1 (owed_frames s past)) ≡ many u n.later = ap (λ (fs : List Frame). many u (drop 1 fs)) n.is_next in
     omega (arith, e, d, k)
 
+-- so has a station whose line isn't lost
 pub station_enough : (s : StationSetting) (t u : Frame → Bool) (past : List station.Act) → StationLawful s past → list_any sending.is_loss past ≡ false → CallsEach s.role t u past → StationEnough s t u past
 unfolding StationLawful
 station_enough s t u [] l live each = omega arith

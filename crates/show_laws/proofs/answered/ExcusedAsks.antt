@@ -98,6 +98,7 @@ closed_over g a c h = by_mode (is_mode_command a.frame) (brings_command cld a.fr
     by_mode false true e k h = refl
     by_mode false false e k h = excused a.is_excused (drops g a.frame) (dropped (is_kind a.frame.kind Uih) (is_mode_frame_on 0 g) (closes g) (brings_command cld a.frame) (message_kind a.frame h) c k)
 
+-- an end that has sent a CLD or its response, and stopped asking, waits for SABM, DISC, CLD and excused asks alone
 pub excused : (r : Role) (line : List Caught) → StopsAsking (frames_of r line) → list_any closes (frames_of r line) ≡ true → All is_over (waiting r line)
 excused r [] stops some = tt
 excused r (c ∷ line) stops some = by_way (is_from r c) stops some (excused r line)
@@ -130,6 +131,7 @@ excused r (c ∷ line) stops some = by_way (is_from r c) stops some (excused r l
 
 -- ## None is left
 
+-- where all asks are such, and no SABM, DISC or CLD is among them, each is excused
 pub none_open : (xs : List Ask) → All is_over xs → many_asks is_mode_command xs ≤ 0 → many_asks (brings_command cld) xs ≤ 0 → filter (λ a. not a.is_excused) xs ≡ []
 none_open [] h m d = refl
 none_open (a ∷ xs) h m d =

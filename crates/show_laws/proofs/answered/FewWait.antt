@@ -65,6 +65,7 @@ answer_removes w u g asks answer of h = by_answer (u g) refl
     by_answer true e = one_removed w (λ f. answers f g) asks (of e) (found (is_answer g) (answer e) h)
     by_answer false e = let x = removed_fewer w (λ f. answers f g) asks in omega (arith, x)
 
+-- the asks of the first test that wait and the answers of the third that came are no more than the asks of the second
 abbrev pub Few : (w t u : Frame → Bool) → Role → List Caught → Type 0
 Few w t u r line = many_asks w (waiting r line) + many u (frames_to r line) ≤ many t (frames_of r line)
 
@@ -86,6 +87,7 @@ to_step w t u p r c line e shape h k =
     let y = answer_removes w u c.frame (waiting r line) (p.answer c.frame) (λ is f. p.of f c.frame shape is) h in
     omega (arith, a, b, f, x, y, k)
 
+-- so it is at both ends, in the capture of a lawful line
 pub few_wait : (s : Setting) (n1 : ℕ) (stamps : ℕ → Stamp) (w t u : Frame → Bool) → IsTriple w t u → (line : List LineAct) → IsLawfulLine s n1 line → Few w t u Initiator (captured stamps line) × Few w t u Responder (captured stamps line)
 few_wait s n1 stamps w t u p line h =
     over (IsLawfulLine s n1) (λ x line k. lawful_before s n1 x line k) (λ (c : List Caught). Few w t u Initiator c × Few w t u Responder c) stamps (omega arith, omega arith)

@@ -38,9 +38,11 @@ use Rattle.show_laws.proofs.talks.TalkingLines.{down_is_answer}
 
 -- ## Three kinds of asks, and their answers
 
+-- each frame passes
 abbrev pub any : Frame → Bool
 any f = true
 
+-- all asks and all answers are such a triple
 pub all_asks : IsTriple any is_ask is_answer
 all_asks = record {
   asked = λ f e. let u : unit (is_ask f) ≡ 1 = ap unit e in omega (arith, u);
@@ -114,10 +116,12 @@ all_called r (station.Given ∷ past) h got sent = all_called r past h got sent
 
 -- ## At the end
 
+-- where none is counted no ask is left
 pub none_left : (asks : List Ask) → many_asks any asks ≤ 0 → asks ≡ []
 none_left [] h = refl
 none_left (a ∷ asks) h = absurd (omega (arith, h))
 
+-- the asks that aren't excused
 abbrev pub open_asks : List Ask → List Ask
 open_asks asks = filter (λ a. not a.is_excused) asks
 
@@ -183,6 +187,7 @@ modem_done s n1 line t u h done each =
     let came : many t (frames_got past) ≡ many t (frames_sent (wire (driver_past line))) = ap (many t) done.at_modem in
     omega (arith, enough, none, came)
 
+-- where nothing is under way, each connection was asked for once and commands came in time, each ask was answered or needn't be
 pub answers_all : (s : Setting) (n1 : ℕ) (line : List LineAct) → AnswersAll s n1 line
 unfolding AnswersAll
 answers_all s n1 line h done once at_driver at_modem by_modem stamps =

@@ -13,10 +13,12 @@ use Rattle.mux_station.specs.Tables.{is_supported}
 use Rattle.modem_show.specs.Asking.{is_mode_command, is_mode_answer, message_asks, message_answers, is_ask, is_answer, names, responds, both_respond, answers}
 use Rattle.show_laws.proofs.counts.BalancedTables.{is_command_octet}
 
+-- what follows from either follows where one of them holds
 pub or_elim : {P : Type 0} → (a b : Bool) → (a || b) ≡ true → (a ≡ true → P) → (b ≡ true → P) → P
 or_elim true b h f g = f refl
 or_elim false b h f g = g h
 
+-- what holds of the five supported types holds of each type that is supported
 pub supported_by : (P : ℕ → Type 0) (o : ℕ) → is_supported o ≡ true → P test → P fcoff → P fcon → P cld → P msc → P o
 supported_by P o h a b c d e =
     or_elim (o == test) ((o == fcoff) || ((o == fcon) || ((o == cld) || (o == msc)))) h (λ k. subst P (sym (eqb-true o test k)) a)
@@ -36,6 +38,7 @@ abbrev pub shaped_message : Option Message → Bool
 shaped_message None = true
 shaped_message (Some m) = is_command m || (is_supported (m.octet + 2) || ((m.octet == response_of nsc) && is_refused_type m.value))
 
+-- so is what the frame brings
 abbrev pub is_shaped : Frame → Bool
 is_shaped f = shaped_message (message_in f)
 
@@ -98,10 +101,12 @@ answered_asks f g h =
 
 -- ## The one response
 
+-- the type of the response to a command: its own where the command is supported, else that of an NSC
 abbrev pub response_octet : Bool → ℕ → ℕ
 response_octet true octet = response_of octet
 response_octet false octet = response_of nsc
 
+-- and its value: that of the command, or the command's type
 abbrev pub response_value : Bool → Message → List ℕ
 response_value true a = a.value
 response_value false a = a.octet ∷ []

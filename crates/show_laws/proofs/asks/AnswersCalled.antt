@@ -19,6 +19,7 @@ use Rattle.show_laws.proofs.counts.ManyFrames.{few_if, many, none_one, unit}
 use Rattle.show_laws.proofs.counts.BalancedTables.{Balanced, is_command_octet}
 use Rattle.show_laws.proofs.asks.AnswerShapes.{answer_no_command, is_alike, is_refused_type, is_shaped, same_message, shaped_message, supported_by}
 
+-- any octets may be probed with
 abbrev pub AnyProbe : List ℕ → Type 0
 AnyProbe octets = Unit {0}
 
@@ -34,6 +35,7 @@ read_if octet value true true = unread
 read_if octet value true false = as_it_is
 read_if octet value false c = unread
 
+-- what the frame of a message brings is read so
 pub is_read : (r : Role) (octet : ℕ) (value : List ℕ) → IsRead octet value (message_in (message_frame r octet value))
 is_read r octet value =
     let n = (2 * length value + 1) / 2 in
@@ -44,6 +46,7 @@ is_read r octet value =
 
 -- ## Shapes
 
+-- a frame whose message is neither a command nor a response as the tables give it
 abbrev pub misshapen : Frame → Bool
 misshapen h = not (is_shaped h)
 
@@ -124,6 +127,7 @@ by_zero false z h = refl
 pub data_no_message : (f : Frame) → is_data_frame f ≡ true → message_in f ≡ None
 data_no_message f h = ap (λ (b : Bool). if b then message_of f.info else None) (by_zero (is_kind f.kind Uih) (f.dlci == 0) h)
 
+-- the tables, requests and calls call for no misshapen frame, and no data is one
 pub shapes_balanced : (most : ℕ) (r : Role) → Balanced AnyProbe most r misshapen (λ (f : Frame). false)
 shapes_balanced most r = record {
   frame = λ state f. few_if misshapen 0 (is_on Uih 0 f) (by_message r (state 0) f) (by_table r f.dlci (state 0) (state f.dlci) f.kind) (by_message_shaped r (state 0) f) (table_shaped r f.dlci (state 0) (state f.dlci) f.kind);
@@ -279,6 +283,7 @@ data_unlike g f h =
     let a = uih_unlike f.kind g f.dlci (and_parts (is_kind f.kind Uih) (not (f.dlci == 0)) h).0 in
     ap (λ (b : Bool). b || same_message (message_in f) (message_in g)) a ∙ ap (λ (o : Option Message). same_message o (message_in g)) (data_no_message f h)
 
+-- they call for no more answers like g than frames come that g answers
 pub answers_balanced : (most : ℕ) (r : Role) (g : Frame) → is_answer g ≡ true → Balanced AnyProbe most r (is_alike g) (λ (f : Frame). answers f g)
 answers_balanced most r g answer = record {
   frame = λ state f.

@@ -38,6 +38,7 @@ use Rattle.show_laws.proofs.lines.EveryFrame.{every, lawful_before}
 
 -- ## Shapes
 
+-- each request may be asked for, where any probe may
 pub any_asked : (a : Ask) → AsksProbe AnyProbe a
 any_asked (OpenChannel d) = tt
 any_asked (CloseChannel d) = tt
@@ -45,6 +46,7 @@ any_asked (Command d line) = tt
 any_asked (Probe octets) = tt
 any_asked Stop = tt
 
+-- and each past took such requests alone
 pub any_probes : (past : List driver.Act) → TakesProbes AnyProbe past
 any_probes [] = tt
 any_probes (driver.Took q ∷ past) = (any_asked q.ask, any_probes past)
@@ -70,12 +72,14 @@ all_shaped (f ∷ fs) h = by_test (is_shaped f) refl (λ k. all_shaped fs k)
     by_test true e rest = rest (omega (arith, h))
     by_test false e rest = let x : unit (misshapen f) ≡ 1 = ap (λ b. unit (not b)) e in absurd (omega (arith, x, h))
 
+-- no frame that a lawful driver sent is misshapen
 pub driver_shaped : (s : Setting) (past : List driver.Act) → Lawful s past → list_all is_shaped (frames_sent (wire past)) ≡ true
 driver_shaped s past l =
     let few = driver_sends AnyProbe s misshapen (λ (f : Frame). false) (shapes_balanced s.n1 s.role) past l (any_probes past) in
     let none = none_many (frames_got (wire past)) in
     all_shaped (frames_sent (wire past)) (omega (arith, few, none))
 
+-- nor is one of a lawful modem
 pub modem_shaped : (n1 : ℕ) (past : List station.Act) → StationLawful (responding n1) past → list_all is_shaped (frames_sent past) ≡ true
 modem_shaped n1 past l =
     let few = station_sends AnyProbe (responding n1) misshapen (λ (f : Frame). false) (shapes_balanced n1 Responder) past l in
@@ -84,6 +88,7 @@ modem_shaped n1 past l =
 
 -- ## One answer
 
+-- an answer is like itself
 pub self_alike : (g : Frame) → is_answer g ≡ true → is_alike g g ≡ true
 self_alike g answer = by_mode (is_mode_answer g) (message_in g) refl answer
   where
@@ -111,6 +116,7 @@ by_answer : (b c : Bool) → (b ≡ true → c ≡ false) → (b && c) ≡ false
 by_answer true c h = h refl
 by_answer false c h = refl
 
+-- what the driver sends on a lawful line is no answer that nothing waits for
 pub driver_answers : (s : Setting) (n1 : ℕ) (stamps : ℕ → Stamp) (g : Frame) (line : List LineAct) (stamp : Stamp) → IsLawfulLine s n1 (AtDriver (driver.Sent g) ∷ line) → is_unasked (captured stamps line) (caught stamp ToModem g) ≡ false
 driver_answers s n1 stamps g line stamp h =
     by_answer (is_answer g) (is_none (answered_by g (waiting Responder (captured stamps line)))) (λ answer.
@@ -122,6 +128,7 @@ driver_answers s n1 stamps g line stamp h =
     (driver_sends AnyProbe s (is_alike g) (λ f. answers f g) (answers_balanced s.n1 s.role g answer) (driver.Sent g ∷ past) h.driver_lawful (any_probes (driver.Sent g ∷ past)))
     (came_few (λ f. answers f g) (modem_past line) (wire past) there.at_driver))
 
+-- nor is what the modem sends
 pub modem_answers : (s : Setting) (n1 : ℕ) (stamps : ℕ → Stamp) (g : Frame) (line : List LineAct) (stamp : Stamp) → IsLawfulLine s n1 (AtModem (station.Sent g) ∷ line) → is_unasked (captured stamps line) (caught stamp FromModem g) ≡ false
 modem_answers s n1 stamps g line stamp h =
     by_answer (is_answer g) (is_none (answered_by g (waiting Initiator (captured stamps line)))) (λ answer.
@@ -133,6 +140,7 @@ modem_answers s n1 stamps g line stamp h =
     (station_sends AnyProbe (responding n1) (is_alike g) (λ f. answers f g) (answers_balanced n1 Responder g answer) (station.Sent g ∷ past) h.modem_lawful)
     (came_few (λ f. answers f g) (wire (driver_past line)) past there.at_modem))
 
+-- on a lawful line each answer answers something that waits for it
 pub answers_asks : (s : Setting) (n1 : ℕ) (line : List LineAct) → AnswersAsks s n1 line
 unfolding AnswersAsks
 answers_asks s n1 line h stamps most =

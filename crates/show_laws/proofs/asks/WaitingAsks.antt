@@ -23,10 +23,12 @@ abbrev pub frames_of : Role → List Caught → List Frame
 frames_of r [] = []
 frames_of r (c ∷ line) = if is_from r c then c.frame ∷ frames_of r line else frames_of r line
 
+-- those that come to the end: the other's
 abbrev pub frames_to : Role → List Caught → List Frame
 frames_to r [] = []
 frames_to r (c ∷ line) = if is_from r c then frames_to r line else c.frame ∷ frames_to r line
 
+-- an act that excuses asks leaves as many of them that pass a test
 pub excused_many : (t : Frame → Bool) (act : Act) (asks : List Ask) → many_asks t (map (excused_by act) asks) ≡ many_asks t asks
 excused_many t act [] = refl
 excused_many t act (a ∷ asks) = ap (λ (n : ℕ). unit (t a.frame) + n) (excused_many t act asks)

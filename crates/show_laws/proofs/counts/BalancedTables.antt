@@ -25,6 +25,7 @@ pub record Balanced (IsProbe : List ℕ → Type 0) (most : ℕ) (r : Role) (u t
   pub probe : (octets : List ℕ) → IsProbe octets → u (message_frame r test octets) ≡ false
   pub short : (octets : List ℕ) → nat_le (length octets) 16 ≡ true → IsProbe octets
 
+-- holding or freeing a connection calls for no frame of the first test
 pub none_of_flow : (P : List ℕ → Type 0) (most : ℕ) (r : Role) (u t : Frame → Bool) → Balanced P most r u t → (state : ℕ → State) (d signals : ℕ) → many u (by_flow r state d signals) ≤ 0
 none_of_flow P most r u t b state d signals =
     few_if u 0 (is_opened (state d)) (msc_frame r d signals ∷ []) []
@@ -55,5 +56,6 @@ tick_none r u sabm disc n1 state queued d (suc count) =
     let here = if_room n1 queued (again r d (state d)) in
     few_both u 0 0 here (ticked r n1 state (queued + octets_of here) (d + 1) count) (roomed r u sabm disc n1 queued d (state d)) (tick_none r u sabm disc n1 state (queued + octets_of here) (d + 1) count)
 
+-- so a tick calls for none of the first test either
 pub none_of_tick : (P : List ℕ → Type 0) (most : ℕ) (r : Role) (u t : Frame → Bool) → Balanced P most r u t → (n1 : ℕ) (state : ℕ → State) (queued d count : ℕ) → many u (ticked r n1 state queued d count) ≤ 0
 none_of_tick P most r u t b n1 state queued d count = tick_none r u b.sabm b.disc n1 state queued d count

@@ -22,6 +22,7 @@ abbrev pub AsksProbe : (List ℕ → Type 0) → Ask → Type 0
 AsksProbe P (Probe octets) = P octets
 AsksProbe P _ = Unit {0}
 
+-- each probe that was taken is such
 abbrev pub TakesProbes : (List ℕ → Type 0) → List Act → Type 0
 TakesProbes P [] = Unit {0}
 TakesProbes P (Took q ∷ past) = AsksProbe P q.ask × TakesProbes P past
@@ -33,6 +34,7 @@ frames_in [] = []
 frames_in (Sent f ∷ acts) = f ∷ frames_in acts
 frames_in (_ ∷ acts) = frames_in acts
 
+-- the frames of two lists of acts, one behind the other, are those of both
 pub in_both : (xs ys : List Act) → frames_in (xs ++ ys) ≡ frames_in xs ++ frames_in ys
 in_both [] ys = refl
 in_both (Sent f ∷ xs) ys = ap (λ (fs : List Frame). f ∷ fs) (in_both xs ys)
@@ -46,12 +48,15 @@ in_both (Held d ∷ xs) ys = in_both xs ys
 in_both (Freed d ∷ xs) ys = in_both xs ys
 in_both (Given ∷ xs) ys = in_both xs ys
 
+-- how many frames of acts pass a test
 abbrev pub sends : (Frame → Bool) → List Act → ℕ
 sends u acts = many u (frames_in acts)
 
+-- in two lists of acts they add up
 pub sends_both : (u : Frame → Bool) (xs ys : List Act) → sends u (xs ++ ys) ≡ sends u xs + sends u ys
 sends_both u xs ys = ap (many u) (in_both xs ys) ∙ many_both u (frames_in xs) (frames_in ys)
 
+-- the acts that send these frames send as many as pass among them
 pub sends_mapped : (u : Frame → Bool) (fs : List Frame) → sends u (map Sent fs) ≡ many u fs
 sends_mapped u [] = refl
 sends_mapped u (f ∷ fs) = let e = sends_mapped u fs in omega (arith, e)
@@ -72,6 +77,7 @@ sends_none u (Held d ∷ acts) h = never h
 sends_none u (Freed d ∷ acts) h = never h
 sends_none u (Given ∷ acts) h = never h
 
+-- what stays owed at a loss sends no frame
 pub unsent_none : (u : Frame → Bool) (acts : List Act) → sends u (unsent acts) ≤ 0
 unsent_none u [] = omega arith
 unsent_none u (Sent f ∷ acts) = unsent_none u acts
@@ -99,6 +105,7 @@ none_owed u (Held d ∷ owing) h = none_owed u owing h
 none_owed u (Freed d ∷ owing) h = none_owed u owing h
 none_owed u (Given ∷ owing) h = none_owed u owing h
 
+-- without their first act, acts send no more
 pub dropped : (u : Frame → Bool) (acts : List Act) → sends u (drop 1 acts) ≤ sends u acts
 dropped u [] = omega arith
 dropped u (Sent f ∷ acts) = omega arith
@@ -130,6 +137,7 @@ none_in (Held d ∷ acts) h = never h
 none_in (Freed d ∷ acts) h = never h
 none_in (Given ∷ acts) h = never h
 
+-- the frames among all that an act calls for are those that it calls for
 pub in_calls : (s : Setting) (v : HistoryView) (a : Act) → frames_in (calls_seeing s v a) ≡ frames s v a
 in_calls s v a =
     let sent = map Sent (frames s v a) in
@@ -151,6 +159,7 @@ called u n s v a h =
     let none = sends_none u said (spoken s v a now) in
     omega (arith, parts, first, few, none)
 
+-- a request calls for no frame of the first test, where its probe is such
 pub asked : (P : List ℕ → Type 0) (most : ℕ) (r : Role) (u t : Frame → Bool) → Balanced P most r u t → (a : Ask) → AsksProbe P a → many u (asking r a) ≤ 0
 asked P most r u t b (OpenChannel d) h = none_one u (written r Sabm d.number []) (b.sabm d.number)
 asked P most r u t b (CloseChannel d) h = none_one u (written r Disc d.number []) (b.disc d.number)
@@ -210,5 +219,6 @@ few P s u t b (Tick ∷ past) l p =
 few P s u t b (Held d ∷ past) l p = more_none s u t past (Held d) (none_of_flow P s.n1 s.role u t b (seen_behind s past (owed s past)).state d held_up) (few P s u t b past l.1 p)
 few P s u t b (Freed d ∷ past) l p = more_none s u t past (Freed d) (none_of_flow P s.n1 s.role u t b (seen_behind s past (owed s past)).state d ready) (few P s u t b past l.1 p)
 
+-- a lawful driver sent no more frames of the first test than of the second came to it
 pub driver_sends : (P : List ℕ → Type 0) (s : Setting) (u t : Frame → Bool) → Balanced P s.n1 s.role u t → (past : List Act) → Lawful s past → TakesProbes P past → many u (frames_sent (wire past)) ≤ many t (frames_got (wire past))
 driver_sends P s u t b past l p = let k = few P s u t b past l p in omega (arith, k)

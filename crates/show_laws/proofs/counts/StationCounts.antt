@@ -28,6 +28,7 @@ probe_short s v octets h = by_length (nat_le (length octets) 16) (if not (is_ope
     by_length true o p h = refl
     by_length false o p h = cc
 
+-- a call that isn't refused calls for no frame of the first test, nor does one that is
 pub asked : (P : List ℕ → Type 0) (s : StationSetting) (u t : Frame → Bool) → Balanced P s.n1 s.role u t → (v : StationView) (c : Call) (b : Bool) → is_none (refused s v c) ≡ b → many u (if b then frames_asked s.role c else []) ≤ 0
 asked P s u t k v c false e = omega arith
 asked P s u t k v (Open d) true e = none_one u (written s.role Sabm d []) (k.sabm d)
@@ -40,6 +41,7 @@ asked P s u t k v (Flow d go) true e =
     (none_one u (msc_frame s.role d (if go then ready else held_up)) (k.command msc ((4 * d + 3) ∷ (if go then ready else held_up) ∷ []) refl (omega arith)))
 asked P s u t k v (Offer d octets) true e = omega arith
 
+-- what bounds the frames of an act by the tables bounds those that it calls for, though the line may be lost
 pub called : (u : Frame → Bool) (n : ℕ) (s : StationSetting) (past : List Act) (a : Act) → many u (frames_seeing s (station_view s past) a) ≤ n → many u (called_frames s past a) ≤ n
 called u n s past a h = few_if u n (list_any is_loss past) [] (frames_seeing s (station_view s past) a) (omega arith) h
 
@@ -77,5 +79,6 @@ few P s u t b (Tick ∷ past) l = more_none s u t past Tick (none_of_tick P s.n1
 few P s u t b (Given ∷ past) l = more_none s u t past Given (omega arith) (few P s u t b past l)
 few P s u t b (Lost ∷ past) l = let k = few P s u t b past l in omega (arith, k)
 
+-- a lawful station sent no more frames of the first test than of the second came to it
 pub station_sends : (P : List ℕ → Type 0) (s : StationSetting) (u t : Frame → Bool) → Balanced P s.n1 s.role u t → (past : List Act) → StationLawful s past → many u (frames_sent past) ≤ many t (frames_got past)
 station_sends P s u t b past l = let k = few P s u t b past l in omega (arith, k)

@@ -86,6 +86,7 @@ prompt_before n1 (station.Got f) past h = h.1
 prompt_before n1 station.Tick past h = h.1
 prompt_before n1 station.Lost past h = h.1
 
+-- a calm line is calm before its newest act
 pub calm_before : (s : Setting) (n1 : ℕ) (x : LineAct) (line : List LineAct) → IsCalmLine s n1 (x ∷ line) → IsCalmLine s n1 line
 calm_before s n1 (AtDriver a) line h = record {
   lawful = lawful_before s n1 (AtDriver a) line h.lawful;
@@ -112,6 +113,7 @@ calm_before s n1 (AtModem a) line h = record {
   modem_live = (or_parts (is_loss a) (list_any is_loss (modem_past line)) h.modem_live).1;
 }
 
+-- on a calm line the driver asks for each connection once at most
 pub calm_once : (s : Setting) (n1 : ℕ) (line : List LineAct) → IsCalmLine s n1 line → IsOnceLine s n1 line
 calm_once s n1 line h = record { lawful = h.lawful; once = h.once }
 
@@ -168,6 +170,7 @@ pub record ModemSends (sent : List Frame) : Type 0 where
   pub disc : many (is_on Disc 0) sent ≤ 0
   pub dm : many (is_on Dm 0) sent ≤ 0
 
+-- on a calm line the modem sends neither SABM nor DISC nor DM on 0
 pub modem_sends : (s : Setting) (n1 : ℕ) (line : List LineAct) → IsCalmLine s n1 line → ModemSends (frames_sent (modem_past line))
 modem_sends s n1 line h =
     let discs = none_many (is_on Disc 0) (frames_sent (wire (driver_past line))) h.driver_down in
@@ -184,6 +187,7 @@ pub record DriverSends (sent : List Frame) : Type 0 where
   pub disc : many (is_on Disc 0) sent ≤ 0
   pub answers : many (answer_on 0) sent ≤ 0
 
+-- and the driver neither DISC nor UA nor DM on 0
 pub driver_quiet : (s : Setting) (n1 : ℕ) (line : List LineAct) → IsCalmLine s n1 line → DriverSends (frames_sent (wire (driver_past line)))
 driver_quiet s n1 line h =
     let none = modem_sends s n1 line h in
@@ -201,6 +205,7 @@ pub record DriverGets (f : Frame) : Type 0 where
   pub disc : is_on Disc 0 f ≡ false
   pub dm : is_on Dm 0 f ≡ false
 
+-- so no SABM, DISC or DM on 0 comes to the driver
 pub driver_gets : (s : Setting) (n1 : ℕ) (f : Frame) (line : List LineAct) → IsCalmLine s n1 (AtDriver (driver.Got f) ∷ line) → DriverGets f
 driver_gets s n1 f line h =
     let none = modem_sends s n1 (AtDriver (driver.Got f) ∷ line) h in
@@ -222,6 +227,7 @@ pub record ModemGets (f : Frame) : Type 0 where
   pub disc : is_on Disc 0 f ≡ false
   pub dm : is_on Dm 0 f ≡ false
 
+-- and no DISC or DM on 0 to the modem
 pub modem_gets : (s : Setting) (n1 : ℕ) (f : Frame) (line : List LineAct) → IsCalmLine s n1 (AtModem (station.Got f) ∷ line) → ModemGets f
 modem_gets s n1 f line h =
     let none = driver_quiet s n1 (AtModem (station.Got f) ∷ line) h in

@@ -19,6 +19,7 @@ use Rattle.show_laws.proofs.counts.ManyFrames.{many, unit}
 use Rattle.show_laws.proofs.intime.Behind.{Behind}
 use Rattle.show_laws.proofs.stops.StopsBehindSabm.{opened_state, unasked_yet}
 
+-- data is no control command
 pub data_bare : (f : Frame) → is_data_frame f ≡ true → commands f ≡ false
 data_bare f is = ap message_asks (data_no_message f is)
 
@@ -72,6 +73,7 @@ first_sent s past f false is n yet c = by_count (many (is_on Sabm 0) (frames_sen
         let one : unit (commands f) ≡ 1 = ap unit c in
         absurd (omega (arith, none, first, one))
 
+-- each control command that asks was sent by a lawful initiator behind a SABM on 0
 pub behind_sabm : (s : Setting) (past : List Act) → s.role ≡ Initiator → Lawful s past → Behind (is_on Sabm 0) (frames_sent (wire past))
 unfolding Lawful
 behind_sabm s [] is l = tt

@@ -181,6 +181,7 @@ at_modem s n1 (AtModem station.Tick ∷ line) h = at_modem s n1 line (calm_befor
 at_modem s n1 (AtModem station.Lost ∷ line) h = at_modem s n1 line (calm_before s n1 (AtModem station.Lost) line h)
 at_modem s n1 (AtModem station.Given ∷ line) h = at_modem s n1 line (calm_before s n1 (AtModem station.Given) line h)
 
+-- on a calm line each control command comes in time, and the modem sends none behind a CLD or the response to one
 pub asks_in_time : (s : Setting) (n1 : ℕ) (line : List LineAct) → AsksInTime s n1 line
 unfolding AsksInTime
 asks_in_time s n1 line h = record { at_driver = at_driver s n1 line h; at_modem = at_modem s n1 line h; by_modem = (so_far s n1 line h).stops }

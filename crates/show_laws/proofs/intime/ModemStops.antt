@@ -60,6 +60,7 @@ off : {P : Type 0} → (o : Bool) → o ≡ false → o ≡ true → P
 off true h g = cc
 off false h g = cc
 
+-- while 0 isn't Opened a call of the responder's calls for no control command that asks
 pub call_bare : (n1 : ℕ) (v : StationView) (c : Call) (b : Bool) → is_none (refused (responding n1) v c) ≡ b → is_opened (v.state 0) ≡ false → many commands (if b then frames_asked Responder c else []) ≤ 0
 call_bare n1 v c false k shut = omega arith
 call_bare n1 v (Open d) true k shut = omega arith
@@ -69,6 +70,7 @@ call_bare n1 v Stop true k shut = off (is_opened (v.state 0)) shut (stop_opened 
 call_bare n1 v (Flow d go) true k shut = off (is_opened (v.state 0)) shut (flow_opened (is_opened (v.state d)) (is_opened (v.state 0)) _ k)
 call_bare n1 v (Offer d octets) true k shut = omega arith
 
+-- a call calls for one frame at most
 pub call_alone : (c : Call) (b : Bool) → many every (if b then frames_asked Responder c else []) ≤ 1
 call_alone c false = omega arith
 call_alone (Open d) true = omega arith
@@ -78,10 +80,12 @@ call_alone Stop true = omega arith
 call_alone (Flow d go) true = few_if every 1 (d == 0) (message_frame Responder (if go then 0xa3 else 0x63) [] ∷ []) (msc_frame Responder d (if go then ready else held_up) ∷ []) (omega arith) (omega arith)
 call_alone (Offer d octets) true = omega arith
 
+-- while 0 isn't Opened a frame that comes calls for no control command that asks
 pub got_bare : (state : ℕ → State) (f : Frame) → is_opened (state 0) ≡ false → many commands (by_frame Responder state f) ≤ 0
 got_bare state f shut =
     few_if commands 0 (is_on Uih 0 f) (by_message Responder (state 0) f) (by_table Responder f.dlci (state 0) (state f.dlci) f.kind) (message_quiet Responder (state 0) f) (table_bare f.dlci (state 0) (state f.dlci) f.kind shut)
 
+-- a frame that calls for a CLD or its response calls for nothing else
 pub got_alone : (state : ℕ → State) (f : Frame) → 1 ≤ many closes (by_frame Responder state f) → many every (by_frame Responder state f) ≤ 1
 got_alone state f some = by_on (is_on Uih 0 f) some
   where
@@ -171,6 +175,7 @@ sent_data n1 past f is k =
         off_zero true false c d h = refl
         off_zero false z c d h = refl
 
+-- a frame that may be sent leaves all this so
 pub sent_more : (n1 : ℕ) (past : List Act) (f : Frame) (b : Bool) → is_data_frame f ≡ b → Sends (responding n1) past f b → ModemSoFar n1 past → ModemSoFar n1 (Sent f ∷ past)
 unfolding Sends
 sent_more n1 past f true is g k = sent_data n1 past f is k

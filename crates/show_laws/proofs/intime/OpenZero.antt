@@ -117,6 +117,8 @@ no_ua true m false h = (refl, and_off m false refl)
 no_ua true m true h = cc
 no_ua false m z h = (refl, h)
 
+-- once the driver sent a SABM on 0, and while no CLD and no response to one was sent or came, 0 is open or asked for there,
+-- and open once a UA on 0 came
 pub driver_up : (s : Setting) (n1 : ℕ) (line : List LineAct) → IsCalmLine s n1 line → 1 ≤ many (is_on Sabm 0) (frames_sent (wire (driver_past line))) → many closes (frames_sent (wire (driver_past line))) ≤ 0 → many closes (frames_got (wire (driver_past line))) ≤ 0 → Up (wire (driver_past line))
 driver_up s n1 [] h some sent got = absurd (omega (arith, some))
 driver_up s n1 (AtModem a ∷ line) h some sent got = driver_up s n1 line (calm_before s n1 (AtModem a) line h) some sent got
@@ -178,6 +180,7 @@ driver_up s n1 (AtDriver (driver.Freed e) ∷ line) h some sent got = driver_up 
 closes_sent : (fs : List Frame) → many (brings_command cld) fs ≤ many closes fs
 closes_sent fs = many_fewer (brings_command cld) closes fs (λ f e. or_left (brings_command cld f) (brings_response cld f) e)
 
+-- once it sent a CLD, and while no CLD and no response to one came, its stop is under way
 pub driver_stopping : (s : Setting) (n1 : ℕ) (line : List LineAct) → IsCalmLine s n1 line → 1 ≤ many (brings_command cld) (frames_sent (wire (driver_past line))) → many closes (frames_got (wire (driver_past line))) ≤ 0 → is_stopping (state_of Initiator 0 (wire (driver_past line))) ≡ true
 driver_stopping s n1 [] h some got = absurd (omega (arith, some))
 driver_stopping s n1 (AtModem a ∷ line) h some got = driver_stopping s n1 line (calm_before s n1 (AtModem a) line h) some got
@@ -221,6 +224,7 @@ open_zero past = is_open Responder 0 past
 abbrev its_zero : List station.Act → Bool
 its_zero past = (standings Responder 0 past).zero.is_open
 
+-- once a SABM on 0 came to the modem, it sent no CLD, and while no CLD and no response to one came, 0 is open there
 pub modem_up : (s : Setting) (n1 : ℕ) (line : List LineAct) → IsCalmLine s n1 line → 1 ≤ many (is_on Sabm 0) (frames_got (modem_past line)) → many (brings_command cld) (frames_sent (modem_past line)) ≤ 0 → many closes (frames_got (modem_past line)) ≤ 0 → is_open Responder 0 (modem_past line) ≡ true
 modem_up s n1 [] h some sent got = absurd (omega (arith, some))
 modem_up s n1 (AtDriver a ∷ line) h some sent got = modem_up s n1 line (calm_before s n1 (AtDriver a) line h) some sent got
@@ -249,6 +253,7 @@ modem_up s n1 (AtModem station.Tick ∷ line) h some sent got = kept false (open
 modem_up s n1 (AtModem station.Given ∷ line) h some sent got = kept false (open_zero (modem_past line)) false (modem_up s n1 line (calm_before s n1 (AtModem station.Given) line h) some sent got) refl
 modem_up s n1 (AtModem station.Lost ∷ line) h some sent got = absurd (let x : true ≡ false = h.modem_live in cc)
 
+-- once it sent a CLD, and while no CLD and no response to one came, its stop is under way
 pub modem_stopping : (s : Setting) (n1 : ℕ) (line : List LineAct) → IsCalmLine s n1 line → 1 ≤ many (brings_command cld) (frames_sent (modem_past line)) → many closes (frames_got (modem_past line)) ≤ 0 → is_stopping (state_of Responder 0 (modem_past line)) ≡ true
 modem_stopping s n1 [] h some got = absurd (omega (arith, some))
 modem_stopping s n1 (AtDriver a ∷ line) h some got = modem_stopping s n1 line (calm_before s n1 (AtDriver a) line h) some got

@@ -63,6 +63,7 @@ stays_tick (IsOpening n) h g = cc
 stays_tick IsOpened h g = cc
 stays_tick (IsClosing n) h g = cc
 
+-- a stop that is under way by the state of 0 is so by the state of 0 that each connection looks at
 pub there : (r : Role) (past : List Act) → is_stopping (state_of r 0 past) ≡ true → is_stopping (states r 0 past).zero ≡ true
 there r past h = ap is_stopping (sym (zero_own r past)) ∙ h
 
@@ -75,6 +76,7 @@ kind_off true false h e = cc
 pub stop_begins : (r : Role) (past : List Act) (f : Frame) → brings_command cld f ≡ true → is_stopping (state_of r 0 (Sent f ∷ past)) ≡ true
 stop_begins r past f down = ap (λ (b : Bool). is_stopping (if b then IsStopping 0 else (if f.dlci == 0 then at_sent (states r 0 past).zero f.kind else (states r 0 past).zero))) down
 
+-- a frame that is sent leaves it under way, unless it is a SABM on 0
 pub stop_sent : (r : Role) (past : List Act) (f : Frame) → is_on Sabm 0 f ≡ false → is_stopping (state_of r 0 past) ≡ true → is_stopping (state_of r 0 (Sent f ∷ past)) ≡ true
 stop_sent r past f sabm h = by_cld (brings_command cld f) (f.dlci == 0) refl
   where
@@ -83,6 +85,7 @@ stop_sent r past f sabm h = by_cld (brings_command cld f) (f.dlci == 0) refl
     by_cld false true e = stays_sent (states r 0 past).zero f.kind (there r past h) (kind_off (is_kind f.kind Sabm) (f.dlci == 0) sabm e)
     by_cld false false e = there r past h
 
+-- so does one that comes, unless it is a SABM or DM on 0, a CLD or the response to one
 pub stop_got : (r : Role) (past : List Act) (f : Frame) → is_on Sabm 0 f ≡ false → is_on Dm 0 f ≡ false → closes f ≡ false → is_stopping (state_of r 0 past) ≡ true → is_stopping (state_of r 0 (Got f ∷ past)) ≡ true
 stop_got r past f sabm dm bare h = by_place (f.dlci == 0) refl
   where
@@ -92,5 +95,6 @@ stop_got r past f sabm dm bare h = by_place (f.dlci == 0) refl
         (stays_got r (states r 0 past).zero f.kind (there r past h) (kind_off (is_kind f.kind Dm) (f.dlci == 0) dm e) (kind_off (is_kind f.kind Sabm) (f.dlci == 0) sabm e)) bare
     by_place false e = there r past h
 
+-- so does a tick, but that which gives it up
 pub stop_ticks : (r : Role) (past : List Act) → is_last (state_of r 0 past) ≡ false → is_stopping (state_of r 0 past) ≡ true → is_stopping (state_of r 0 (Tick ∷ past)) ≡ true
 stop_ticks r past keeps h = stays_tick (states r 0 past).zero (there r past h) (ap is_last (sym (zero_own r past)) ∙ keeps)

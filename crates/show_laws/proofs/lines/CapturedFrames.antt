@@ -44,6 +44,7 @@ as_before stamps x line c d m h = record {
   to_modem = ap (frames_to Responder) c ∙ (h.to_modem ∙ sym d);
 }
 
+-- the capture of a line has of each end what that end sent
 pub shows : (stamps : ℕ → Stamp) (line : List LineAct) → Shows stamps line
 shows stamps [] = record { driver_frames = refl; modem_frames = refl; to_driver = refl; to_modem = refl }
 shows stamps (AtDriver (driver.Sent f) ∷ line) = more_of_driver stamps f line (shows stamps line)
@@ -65,6 +66,7 @@ shows stamps (AtModem station.Given ∷ line) = as_before stamps (AtModem statio
 
 -- ## The line
 
+-- what came at each end is what the other sent first
 pub both_ways : (line : List LineAct) → IsOneLine line → ComesBothWays line
 both_ways [] one = record { at_modem = record { later = []; sent_are = refl }; at_driver = record { later = []; sent_are = refl } }
 both_ways (a ∷ line) one = one.0

@@ -32,6 +32,7 @@ driver_before : (s : Setting) (a : driver.Act) (past : List driver.Act) → Lawf
 unfolding Lawful
 driver_before s a past l = l.1
 
+-- a lawful line is lawful before its newest act
 pub lawful_before : (s : Setting) (n1 : ℕ) (x : LineAct) (line : List LineAct) → IsLawfulLine s n1 (x ∷ line) → IsLawfulLine s n1 line
 lawful_before s n1 (AtDriver a) line h = record {
   is_initiator = h.is_initiator;

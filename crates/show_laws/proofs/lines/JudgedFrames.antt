@@ -20,6 +20,7 @@ faults_on : (n1 : ℕ) (line xs ys : List Caught) → faults_from n1 line (xs ++
 faults_on n1 line [] ys = refl
 faults_on n1 line (c ∷ xs) ys = ap (λ (fs : List Faults). faults_of n1 line c ∷ fs) (faults_on n1 (c ∷ line) xs ys)
 
+-- turned round, one frame more stands last
 pub turned : (c : Caught) (line : List Caught) → reverse (c ∷ line) ≡ reverse line ++ c ∷ []
 turned c line = reverse-append (c ∷ []) line
 
@@ -31,6 +32,7 @@ onto_turned : (line : List Caught) → onto [] (reverse line) ≡ line
 onto_turned [] = refl
 onto_turned (c ∷ line) = ap (onto []) (turned c line) ∙ (onto_both [] (reverse line) (c ∷ []) ∙ ap (λ (xs : List Caught). c ∷ xs) (onto_turned line))
 
+-- so it is judged last, behind those that passed before
 pub judged : (n1 : ℕ) (c : Caught) (line : List Caught) → faults_from n1 [] (reverse (c ∷ line)) ≡ faults_from n1 [] (reverse line) ++ faults_of n1 line c ∷ []
 judged n1 c line =
     ap (faults_from n1 []) (turned c line)

@@ -26,6 +26,7 @@ use Rattle.show_laws.proofs.openings.DriverOpen.{IsOnceLine, once_line_before}
 use Rattle.show_laws.proofs.openings.ModemLine.{answered_once, modem_line, ua_called}
 use Rattle.show_laws.proofs.openings.NoneUnopened.{driver_open}
 
+-- data that a lawful modem sends keeps the laws of data
 pub data_gated : (n1 : ℕ) (past : List station.Act) (f : Frame) → StationLawful (responding n1) (station.Sent f ∷ past) → is_data_frame f ≡ true → StationGated (responding n1) past f
 unfolding StationLawful Sends
 data_gated n1 past f l is = rw is at l.0
@@ -50,6 +51,7 @@ modem_open s n1 stamps f line h =
     by_data true true c k = refl
     by_data true false c k = let x : false ≡ true = k refl in cc
 
+-- on a lawful line whose driver asks for each connection once no data is sent where it isn't open
 pub send_while_open : (s : Setting) (n1 : ℕ) (line : List LineAct) → SendWhileOpen s n1 line
 unfolding SendWhileOpen
 send_while_open s n1 line h once stamps most =

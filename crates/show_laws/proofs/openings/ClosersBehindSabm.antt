@@ -213,6 +213,7 @@ sent_unended z e f h =
     both false true c g k = k
     both false false c g k = refl
 
+-- what is open or asked for at the driver it hasn't closed
 pub driver_unclosed : (s : Setting) (n1 e : ℕ) (line : List LineAct) → IsOnceLine s n1 line → (open_at e (wire (driver_past line)) || asked_at e (wire (driver_past line))) ≡ true → many (closer e) (frames_sent (wire (driver_past line))) ≤ 0
 driver_unclosed s n1 e [] h w = omega arith
 driver_unclosed s n1 e (AtModem a ∷ line) h w = driver_unclosed s n1 e line (once_line_before s n1 (AtModem a) line h) w
@@ -291,6 +292,7 @@ got_unended e past f o h =
     both false true true c g k m = k
     both false true false c g k m = let t : false ≡ true = m refl in cc
 
+-- what is open at the modem no frame has closed that came there
 pub modem_unclosed : (s : Setting) (n1 e : ℕ) (line : List LineAct) → IsOnceLine s n1 line → is_open Responder e (modem_past line) ≡ true → many (closer e) (frames_got (modem_past line)) ≤ 0
 modem_unclosed s n1 e [] h o = omega arith
 modem_unclosed s n1 e (AtDriver a ∷ line) h o = modem_unclosed s n1 e line (once_line_before s n1 (AtDriver a) line h) o

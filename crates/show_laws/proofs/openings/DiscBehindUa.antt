@@ -24,6 +24,7 @@ use Rattle.show_laws.proofs.counts.DriverCounts.{called, dropped, sends, sends_b
 use Rattle.show_laws.proofs.openings.DriverStates.{Says, state_says}
 use Rattle.show_laws.proofs.openings.ModeAnswers.{modes_few}
 
+-- a DISC on d
 abbrev pub discs : ℕ → Frame → Bool
 discs d f = is_on Disc d f
 
@@ -36,11 +37,13 @@ none_here n h k = absurd (omega (arith, h, k))
 
 -- ## Ticks
 
+-- where both count together the second holds
 pub same_place : (b c : Bool) → 1 ≤ unit (b && c) → c ≡ true
 same_place true true h = refl
 same_place true false h = absurd (omega (arith, h))
 same_place false c h = absurd (omega (arith, h))
 
+-- a frame that is counted where it fits passes
 pub one_of : (t : Frame → Bool) (n1 queued : ℕ) (f : Frame) → 1 ≤ many t (if_room n1 queued (Some f)) → 1 ≤ unit (t f)
 one_of t n1 queued f h = by_room (has_room n1 queued f) h
   where
@@ -63,6 +66,7 @@ here_disc {P} r n1 queued d e (IsClosing n) c o h = closing (n == 3) h
     closing true h = absurd (omega (arith, h))
     closing false h = c (same_place true (e == d) (one_of (discs d) n1 queued (written r Disc e []) h)) n refl
 
+-- a tick calls for DISC on d where d is Closing, or is Opening and given up
 pub tick_disc : {P : Type 0} → (r : Role) (n1 d : ℕ) (state : ℕ → State) → ((n : ℕ) → state d ≡ IsClosing n → P) → ((n : ℕ) → state d ≡ IsOpening n → (n == 3) ≡ true → P) → (queued e count : ℕ) → 1 ≤ many (discs d) (ticked r n1 state queued e count) → P
 tick_disc r n1 d state c o queued e zero h = absurd (omega (arith, h))
 tick_disc {P} r n1 d state c o queued e (suc count) h =
@@ -101,6 +105,7 @@ asked_disc s v q d true e (CloseChannel c) is open_there h =
 
 -- ## The past
 
+-- no frame that comes calls for a DISC
 pub disc_never : (d : ℕ) (r : Role) (state : ℕ → State) (f : Frame) → many (discs d) (by_frame r state f) ≤ 0
 disc_never d r state f =
     let e = modes_few (discs d) (λ n. false) (record { uih = λ q e info. refl; answer = λ q e b. either q e b }) r state f in
@@ -118,6 +123,7 @@ disc_never d r state f =
 flow_never : (d : ℕ) (r : Role) (state : ℕ → State) (e signals : ℕ) → many (discs d) (by_flow r state e signals) ≤ 0
 flow_never d r state e signals = few_if (discs d) 0 (is_opened (state e)) (msc_frame r e signals ∷ []) [] (omega arith) (omega arith)
 
+-- no more are counted than a filter leaves
 pub once_many : (t : Frame → Bool) (fs : List Frame) → many t fs ≤ length (filter t fs)
 once_many t [] = omega arith
 once_many t (f ∷ fs) = by_test (t f) (once_many t fs)
@@ -144,6 +150,7 @@ calls_on s d past a h k some =
 says_there : (s : Setting) (d : ℕ) (past : List Act) → s.role ≡ Initiator → Says (uas d past) (many (is_on Sabm d) (frames_sent (wire past))) (state_of s.role d (wire past))
 says_there s d past is = subst (λ (r : Role). Says (uas d past) (many (is_on Sabm d) (frames_sent (wire past))) (state_of r d (wire past))) (sym is) (state_says d (wire past))
 
+-- where the state is Opened a UA came
 pub from_opened : (ua sabm : ℕ) (s : State) → Says ua sabm s → is_opened s ≡ true → 1 ≤ ua
 from_opened ua sabm IsOpened h o = h
 from_opened ua sabm IsShut h o = cc

@@ -37,6 +37,7 @@ not_true : (b : Bool) → (b ≡ true → true ≡ false) → b ≡ false
 not_true true h = never (h refl)
 not_true false h = refl
 
+-- it stays so where less is open or asked for by p, fewer such answers are owed, and no more SABM while one is
 pub fewer_step : (d : ℕ) (p p2 q : List Act) (endings endings2 sabms sabms2 sent got : ℕ) → Follows d p q endings sabms sent got
     → (open_at d p2 ≡ true → open_at d p ≡ true) → (asked_at d p2 ≡ true → asked_at d p ≡ true) → (1 ≤ endings2 → 1 ≤ endings) → (1 ≤ endings2 → sabms2 ≤ sabms)
     → Follows d p2 q endings2 sabms2 sent got
@@ -57,6 +58,7 @@ opened_by : (d : ℕ) (q : List Act) (sent got : ℕ) (f : Frame) → unit (is_o
 opened_by d q sent got f came is (there o) = o
 opened_by d q sent got f came is (asked_there a l) = let e : unit (is_on Ua d f) ≡ 1 = ap unit is in absurd (omega (arith, e, came, l))
 
+-- and where a frame comes to p that had passed, while no SABM is owed after it, and no such answer where d is open or asked for
 pub got_step : (d : ℕ) (p q : List Act) (endings endings2 sabms sabms2 sent got : ℕ) (f : Frame) → Follows d p q endings sabms sent got
     → unit (is_on Ua d f) + got ≤ sent → (1 ≤ endings2 → (open_at d (Got f ∷ p) ≡ false) × (asked_at d (Got f ∷ p) ≡ false)) → sabms2 ≤ 0 → Follows d (Got f ∷ p) q endings2 sabms2 sent (unit (is_on Ua d f) + got)
 got_step d p q endings endings2 sabms sabms2 sent got f h came shuts none = record {
@@ -75,6 +77,7 @@ off_sum : (a b : Bool) → a ≡ false → (a && b) ≡ false
 off_sum true b e = cc
 off_sum false b e = refl
 
+-- a frame but a SABM on d that is sent leaves d neither open nor asked for
 pub sent_closed : (d : ℕ) (f : Frame) (p : List Act) → open_at d p ≡ false → asked_at d p ≡ false → is_on Sabm d f ≡ false → (open_at d (Sent f ∷ p) ≡ false) × (asked_at d (Sent f ∷ p) ≡ false)
 sent_closed d f p o a s = (
   off_sum (open_at d p) (not (ends (zero_at d p) d (Sent f))) o,
@@ -122,6 +125,8 @@ sent_open d p q r endings endings2 sabms sabms2 sent got f h fewer fewer_sabms l
         asked_there (second (is_on Sabm d f) (asked_at d r && not (is_mode_frame_on d f || ends (zero_at d r) d (Sent f)))
         (and_from (asked_at d r) (not (is_mode_frame_on d f || ends (zero_at d r) d (Sent f))) (same_asked ∙ a) n)) l
 
+-- and where a frame that was owed is sent: a SABM on d while no UA is under way, and an answer that may end d behind
+-- what it answers
 pub sent_step : (d : ℕ) (p q r : List Act) (endings endings2 sabms sabms2 sent got : ℕ) (f : Frame) (ending : Bool) → Follows d p q endings sabms sent got
     → endings2 + unit ending ≤ endings → sabms2 + unit (is_on Sabm d f) ≤ sabms → (is_on Sabm d f ≡ true → sent ≤ got)
     → (ending ≡ false → (open_at d r ≡ open_at d q) × (asked_at d r ≡ asked_at d q)) → Follows d (Sent f ∷ p) (Sent f ∷ r) endings2 sabms2 sent got
@@ -229,6 +234,7 @@ asks_no_ua : (d : ℕ) (f : Frame) (o : Option Message) → message_in f ≡ o �
 asks_no_ua d f None e h = cc
 asks_no_ua d f (Some m) e h = off_sum (is_kind f.kind Ua) (f.dlci == d) (or_parts (is_kind f.kind Ua) (is_kind f.kind Dm) (message_no_mode f m e).1).0
 
+-- and where a frame of the responder passes
 pub passed_step : (d : ℕ) (p q : List Act) (endings sabms sent got : ℕ) (f : Frame) → Follows d p q endings sabms sent got
     → Follows d p (come f q) endings sabms (unit (is_on Ua d f) + sent) got
 passed_step d p q endings sabms sent got f h = by_come (is_mode_command f) (message_asks (message_in f)) (is_kind f.kind Dm) refl refl refl

@@ -52,6 +52,7 @@ asked_most t stamp f asks = by_test (is_ask f)
     by_test true = omega arith
     by_test false = omega arith
 
+-- without the ask that is answered, no more pass
 pub removed_fewer : (t p : Frame → Bool) (asks : List Ask) → many_asks t (remove asks (position_or_len (λ a. p a.frame) asks)) ≤ many_asks t asks
 removed_fewer t p [] = omega arith
 removed_fewer t p (a ∷ asks) = by_test (p a.frame) (removed_fewer t p asks)
@@ -64,6 +65,7 @@ removed_fewer t p (a ∷ asks) = by_test (p a.frame) (removed_fewer t p asks)
         let next : many_asks t (remove (a ∷ asks) (1 + n)) ≡ unit (t a.frame) + many_asks t (remove asks n) = let one : 1 + n ≡ suc n = omega arith in ap (λ m. many_asks t (remove (a ∷ asks) m)) one in
         omega (arith, k, next)
 
+-- no more asks of a test wait than frames of it were sent
 pub waiting_few : (t : Frame → Bool) (r : Role) (line : List Caught) → many_asks t (waiting r line) ≤ many t (frames_of r line)
 waiting_few t r [] = omega arith
 waiting_few t r (c ∷ line) = by_way (is_from r c) (waiting_few t r line)
@@ -79,6 +81,7 @@ waiting_few t r (c ∷ line) = by_way (is_from r c) (waiting_few t r line)
         let x = removed_fewer t (λ f. answers f c.frame) (waiting r line) in
         omega (arith, e, x, k)
 
+-- the ask that is found passes, and is none of a test of which none waits
 pub found_one : (t p : Frame → Bool) (asks : List Ask) (a : Ask) → find (λ x. p x.frame) asks ≡ Some a → many_asks t asks ≤ 0 → (p a.frame ≡ true) × (t a.frame ≡ false)
 found_one t p [] a e none = cc
 found_one t p (x ∷ asks) a e none = by_test (p x.frame) refl e (λ k. found_one t p asks a k (omega (arith, none)))
@@ -116,6 +119,7 @@ off_kinds false true c false x h k = cc
 off_kinds false false true false x h k = cc
 off_kinds false false false false x h k = refl
 
+-- what is answered by a frame but a UA or DM on d or 0 is quiet on d, if it is no CLD
 pub quiet_one : (d : ℕ) (f g : Frame) → answers f g ≡ true → is_ending d g ≡ false → brings_command cld f ≡ false → Quiet d f
 quiet_one d f g h e no_cld =
     or_elim ((is_mode_command f && is_mode_answer g) && (f.dlci == g.dlci)) (both_respond (message_in f) (message_in g)) h
@@ -162,6 +166,7 @@ quiet_handled d g asks q (Some a) e shape ending =
 
 -- ## The line
 
+-- where a filter leaves none, none is counted
 pub none_filtered : (t : Frame → Bool) (fs : List Frame) → filter t fs ≡ [] → many t fs ≤ 0
 none_filtered t [] h = omega arith
 none_filtered t (f ∷ fs) h = by_test (t f) refl h (none_filtered t fs)
@@ -175,6 +180,7 @@ pub record IsOnceLine (s : Setting) (n1 : ℕ) (line : List LineAct) : Type 0 wh
   pub lawful : IsLawfulLine s n1 line
   pub once : AsksOnce (wire (driver_past line))
 
+-- where each connection was asked for once with an act, it was so before it
 pub once_before : (a : Act) (past : List Act) → AsksOnce (wire (a ∷ past)) → AsksOnce (wire past)
 once_before (Sent f) past h = λ d. asks_fewer d f (frames_sent (wire past)) (h d)
 once_before (Took q) past h = h
@@ -187,25 +193,32 @@ once_before (Held d) past h = h
 once_before (Freed d) past h = h
 once_before Given past h = h
 
+-- so it is of a line
 pub once_line_before : (s : Setting) (n1 : ℕ) (x : LineAct) (line : List LineAct) → IsOnceLine s n1 (x ∷ line) → IsOnceLine s n1 line
 once_line_before s n1 (AtDriver a) line h = record { lawful = lawful_before s n1 (AtDriver a) line h.lawful; once = once_before a (driver_past line) h.once }
 once_line_before s n1 (AtModem a) line h = record { lawful = lawful_before s n1 (AtModem a) line h.lawful; once = h.once }
 
+-- the acts of the driver by what passed
 abbrev pub seen_by : (ℕ → Stamp) → List LineAct → List station.Act
 seen_by stamps line = own Initiator (captured stamps line)
 
+-- how many answers it owes by which d may end
 abbrev pub ending_owed : Setting → ℕ → List Act → ℕ
 ending_owed s d past = sends (ends_by d) (owed s past)
 
+-- how many SABM on d it owes
 abbrev pub sabms_owed : Setting → ℕ → List Act → ℕ
 sabms_owed s d past = sends (is_on Sabm d) (owed s past)
 
+-- how many UA on d the modem sent
 abbrev pub uas_sent : ℕ → List LineAct → ℕ
 uas_sent d line = many (is_on Ua d) (frames_sent (modem_past line))
 
+-- and how many came to the driver
 abbrev pub uas_got : ℕ → List Act → ℕ
 uas_got d past = many (is_on Ua d) (frames_got (wire past))
 
+-- the driver's past beside what passed, with these counts
 abbrev pub FollowsAt : Setting → ℕ → (ℕ → Stamp) → List LineAct → Type 0
 FollowsAt s d stamps line =
     Follows d (wire (driver_past line)) (seen_by stamps line) (ending_owed s d (driver_past line)) (sabms_owed s d (driver_past line)) (uas_sent d line) (uas_got d (driver_past line))
@@ -218,6 +231,7 @@ level s n1 d f line h is =
     let none = ua_behind n1 d (modem_past line) h.lawful.modem_lawful (omega (arith, first, came)) in
     omega (arith, none)
 
+-- a frame that is sent, and those owed after it, are no more of a test than were owed, where data is none
 pub sent_counts : (s : Setting) (d : ℕ) (u t : Frame → Bool) (past : List Act) (f : Frame) (b : Bool) → is_data_frame f ≡ b → (b ≡ true → u f ≡ false) → When (not b) (IsNext (owed s past) (Sent f))
     → sends u (if b then owed s past else drop 1 (owed s past)) + unit (u f) ≤ sends u (owed s past)
 sent_counts s d u t past f true is plain n = let e : unit (u f) ≡ 0 = ap unit (plain refl) in omega (arith, e)
@@ -233,6 +247,7 @@ data_no_sabm Ua x h = cc
 data_no_sabm Dm x h = cc
 data_no_sabm Disc x h = cc
 
+-- data is no answer by which a connection may end
 pub data_no_ending : (k : Kind) (x y c : Bool) → is_kind k Uih ≡ true → y ≡ false → (((is_kind k Ua || is_kind k Dm) && x) || ((is_kind k Uih && y) && c)) ≡ false
 data_no_ending Uih x true c h e = cc
 data_no_ending Uih x false c h e = refl
@@ -426,6 +441,7 @@ driver_calls s d stamps a line none prompt =
     let few = called (ends_by d) 0 s (seen_behind s past owing) a none in
     omega (arith, parts, before, few)
 
+-- at each point of such a line what passed says of d what the driver's past does
 pub follows : (s : Setting) (n1 d : ℕ) (stamps : ℕ → Stamp) (line : List LineAct) → IsOnceLine s n1 line → FollowsAt s d stamps line
 unfolding Lawful
 follows s n1 d stamps [] h = record { opens = λ k. k; asks = λ k. cc; owes = λ k. absurd (omega (arith, k)); free = λ k. omega arith }

@@ -14,6 +14,7 @@ use Rattle.mux_station.proofs.states.StatesAfterActs.{state_next}
 use Rattle.modem_history.specs.TwoEnds.{frames_got, frames_sent}
 use Rattle.show_laws.proofs.counts.ManyFrames.{many, unit}
 
+-- so many UA came and SABM were sent as the state says: a UA where it is Opened or Closing, and a SABM for each count of Opening
 abbrev pub Says : (ua sabm : ℕ) → State → Type 0
 Says ua sabm IsShut = Unit {0}
 Says ua sabm (IsOpening n) = n + 1 ≤ sabm
@@ -112,6 +113,7 @@ abbrev pub ua_with : ℕ → Act → ℕ
 ua_with d (Got f) = unit (is_on Ua d f)
 ua_with d _ = 0
 
+-- how many SABM on d the act sends
 abbrev pub sabm_with : ℕ → Act → ℕ
 sabm_with d (Sent f) = unit (is_on Sabm d f)
 sabm_with d _ = 0
@@ -175,6 +177,7 @@ still d past a u m g s h =
     more (state_of Initiator d (a ∷ past)) (ua_with d a + many (is_on Ua d) (frames_got past)) (sabm_with d a + many (is_on Sabm d) (frames_sent past)) (many (is_on Ua d) (frames_got (a ∷ past))) (many (is_on Sabm d) (frames_sent (a ∷ past)))
     (next_says d past a (many (is_on Ua d) (frames_got past)) (many (is_on Sabm d) (frames_sent past)) h) (omega (arith, x, u)) (omega (arith, y, m))
 
+-- so many came and were sent by each past
 pub state_says : (d : ℕ) (past : List Act) → Says (many (is_on Ua d) (frames_got past)) (many (is_on Sabm d) (frames_sent past)) (state_of Initiator d past)
 state_says d [] = tt
 state_says d (Got f ∷ past) = weaken (state_of Initiator d (Got f ∷ past)) (next_says d past (Got f) (many (is_on Ua d) (frames_got past)) (many (is_on Sabm d) (frames_sent past)) (state_says d past))

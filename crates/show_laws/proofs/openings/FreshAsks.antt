@@ -125,6 +125,7 @@ found_behind d stamp f asks other r = record { ask = r.ask; found = λ g m e. by
     by_ask true g e k = ap (λ (b : Bool). if b then Some (record { stamp = stamp; frame = f; is_excused = false }) else answered_by g asks) e ∙ k
     by_ask false g e k = k
 
+-- a SABM that isn't answered stays so where the end sends a frame but a SABM or DISC on d
 pub other_asks : (d : ℕ) (stamp : Stamp) (f : Frame) (asks : List Ask) → (is_mode_command f && (f.dlci == d)) ≡ false → Fresh d asks → Fresh d (map (excused_by (Sent f)) (asked_with stamp f ++ asks))
 other_asks d stamp f asks other r = passed d (Sent f) (asked_with stamp f ++ asks) (λ a sabm. not_dropped d a f sabm) (found_behind d stamp f asks other r)
 
@@ -154,6 +155,7 @@ still_found p q (x ∷ asks) a e off = by_tests (p x.frame) (q x.frame) refl ref
         by_first true e = e
         by_first false e = k e off
 
+-- and where the other end sends one but a UA or DM on d
 pub other_answers : (d : ℕ) (f : Frame) (asks : List Ask) → (is_mode_answer f && (f.dlci == d)) ≡ false → Fresh d asks → Fresh d (map (excused_by (Got f)) (unanswered_by f asks))
 other_answers d f asks other r =
     passed d (Got f) (unanswered_by f asks) (λ a sabm. ap (λ (b : Bool). b || drops f a) (not_answered d a f sabm other) ∙ not_dropped d a f sabm)

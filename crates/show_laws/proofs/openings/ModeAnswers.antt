@@ -28,6 +28,7 @@ messages u w h r (Some m) =
     (none_one u (message_frame r (response_of m.octet) m.value) (h.uih r 0 _))
     (few_if u 0 (is_command m && not (m.octet == nsc)) (message_frame r (response_of nsc) (m.octet ∷ []) ∷ []) [] (none_one u (message_frame r (response_of nsc) (m.octet ∷ [])) (h.uih r 0 _)) (omega arith))
 
+-- no message calls for a frame of such a test
 pub messaged : (u : Frame → Bool) (w : ℕ → Bool) → OfModes u w → (r : Role) (s : State) (f : Frame) → many u (by_message r s f) ≤ 0
 messaged u w h r IsOpened f = messages u w h r (message_in f)
 messaged u w h r (IsStopping n) f = few_if u 0 (brings_command cld f) (response_to r (message_in f)) [] (messages u w h r (message_in f)) (omega arith)
@@ -41,6 +42,7 @@ opened u w h r d = few_if u 0 (d == 0) [] (msc_frame r d ready ∷ []) (omega ar
 alone : (u : Frame → Bool) (w : ℕ → Bool) → OfModes u w → (r : Role) (d : ℕ) (b : Bool) → many u (ua_or_dm r d b ∷ []) ≤ unit (w d)
 alone u w h r d b = let e = h.answer r d b in omega (arith, e)
 
+-- the tables call for one at most, where a SABM or DISC comes on one of the connections
 pub tabled : (u : Frame → Bool) (w : ℕ → Bool) → OfModes u w → (r : Role) (d : ℕ) (channel own : State) (k : Kind) → many u (by_table r d channel own k) ≤ unit ((is_kind k Sabm || is_kind k Disc) && w d)
 tabled u w h Initiator d channel own Ua = few_if u 0 (is_opening own) (msc_after_opening Initiator d) [] (opened u w h Initiator d) (omega arith)
 tabled u w h Initiator d channel own Sabm = alone u w h Initiator d false
@@ -62,6 +64,7 @@ modes_few u w h r state f =
     few_if u (unit (is_mode_command f && w f.dlci)) (is_on Uih 0 f) (by_message r (state 0) f) (by_table r f.dlci (state 0) (state f.dlci) f.kind)
     (let e = messaged u w h r (state 0) f in omega (arith, e)) (tabled u w h r f.dlci (state 0) (state f.dlci) f.kind)
 
+-- so such a test is balanced by SABM and DISC on them, if no data passes, and no SABM nor DISC
 pub modes_balanced : (most : ℕ) (r : Role) (u : Frame → Bool) (w : ℕ → Bool) → OfModes u w → ((f : Frame) → is_data_frame f ≡ true → u f ≡ false)
     → ((d : ℕ) → u (written r Sabm d []) ≡ false) → ((d : ℕ) → u (written r Disc d []) ≡ false) → Balanced AnyProbe most r u (λ f. is_mode_command f && w f.dlci)
 modes_balanced most r u w h plain sabm disc = record {
@@ -76,6 +79,7 @@ modes_balanced most r u w h plain sabm disc = record {
 
 -- ## UA on a connection
 
+-- UA on d is such a test
 pub ua_modes : (d : ℕ) → OfModes (is_on Ua d) (λ n. n == d)
 ua_modes d = record {
   uih = λ r e info. refl;
@@ -93,6 +97,7 @@ not_ua Ua b h = cc
 not_ua Dm b h = cc
 not_ua Disc b h = cc
 
+-- no more UA on d are called for than SABM and DISC come on it
 pub ua_balanced : (most : ℕ) (r : Role) (d : ℕ) → Balanced AnyProbe most r (is_on Ua d) (λ f. is_mode_command f && (f.dlci == d))
 ua_balanced most r d =
     modes_balanced most r (is_on Ua d) (λ n. n == d) (ua_modes d)
@@ -104,6 +109,7 @@ ua_balanced most r d =
 abbrev pub is_ending : ℕ → Frame → Bool
 is_ending d g = is_mode_answer g && ((g.dlci == d) || (g.dlci == 0))
 
+-- so is UA or DM on d or 0
 pub ending_modes : (d : ℕ) → OfModes (is_ending d) (λ n. (n == d) || (n == 0))
 ending_modes d = record {
   uih = λ r e info. refl;
@@ -121,6 +127,7 @@ no_answer Ua b h = cc
 no_answer Dm b h = cc
 no_answer Disc b h = cc
 
+-- no more of them are called for than SABM and DISC come on d and 0
 pub ending_balanced : (most : ℕ) (r : Role) (d : ℕ) → Balanced AnyProbe most r (is_ending d) (λ f. is_mode_command f && ((f.dlci == d) || (f.dlci == 0)))
 ending_balanced most r d =
     modes_balanced most r (is_ending d) (λ n. (n == d) || (n == 0)) (ending_modes d)

@@ -12,9 +12,11 @@ use Rattle.modem_show.specs.Asking.{Ask, is_mode_answer, is_mode_command}
 use Rattle.modem_show.specs.Ends.{handled}
 use Rattle.show_laws.proofs.counts.ManyFrames.{many, unit}
 
+-- d is open at a responder of this past
 abbrev pub open_m : ℕ → List Act → Bool
 open_m d past = is_open Responder d past
 
+-- 0 is
 abbrev pub zero_m : ℕ → List Act → Bool
 zero_m d past = (standings Responder d past).zero.is_open
 
@@ -22,6 +24,7 @@ zero_m d past = (standings Responder d past).zero.is_open
 abbrev pub answer_on : ℕ → Frame → Bool
 answer_on d g = is_mode_answer g && (g.dlci == d)
 
+-- a SABM or DISC on d
 abbrev pub ask_on : ℕ → Frame → Bool
 ask_on d f = is_mode_command f && (f.dlci == d)
 
@@ -32,6 +35,7 @@ ua_answers d f = fewer (is_kind f.kind Ua) (is_kind f.kind Dm) (f.dlci == d)
     fewer true b c = omega arith
     fewer false b c = omega arith
 
+-- each UA on d is one of the UA and DM on it
 pub uas_fewer : (d : ℕ) (fs : List Frame) → many (is_on Ua d) fs ≤ many (answer_on d) fs
 uas_fewer d [] = omega arith
 uas_fewer d (f ∷ fs) = let x = ua_answers d f in let y = uas_fewer d fs in omega (arith, x, y)
@@ -43,6 +47,7 @@ pub record IsSabm (d : ℕ) (o : Option Ask) : Type 0 where
   pub sabm : is_on Sabm d ask.frame ≡ true
   pub new : ask.is_excused ≡ false
 
+-- an ask that is answered and isn't excused was read just then
 pub read_alone : (o : Option Ask) (a : Ask) → o ≡ Some a → a.is_excused ≡ false → handled o ≡ Got a.frame ∷ []
 read_alone o a e new = ap handled e ∙ ap (λ (b : Bool). if b then [] else Got a.frame ∷ []) (second (is_mode_command a.frame) a.is_excused new)
   where
@@ -50,5 +55,6 @@ read_alone o a e new = ap handled e ∙ ap (λ (b : Bool). if b then [] else Got
     second true y e = e
     second false y e = refl
 
+-- a SABM on d that comes to a responder opens d, if d is 0 or 0 is open
 pub opened_there : (d : ℕ) (f : Frame) (q : List Act) → is_on Sabm d f ≡ true → ((d == 0) || zero_m d q) ≡ true → open_m d (Got f ∷ q) ≡ true
 opened_there d f q is z = ap (λ (b : Bool). b || (open_m d q && not (ends (zero_m d q) d (Got f)))) (and_from (is_on Sabm d f) ((d == 0) || zero_m d q) is z)

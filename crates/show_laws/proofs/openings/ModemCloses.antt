@@ -40,6 +40,7 @@ read_cld : (octet : ℕ) (value : List ℕ) (o : Option Message) → IsRead octe
 read_cld octet value _ as_it_is h = h
 read_cld octet value _ unread h = cc
 
+-- the frame of a message of another type is no CLD
 pub not_cld_frame : (r : Role) (octet : ℕ) (value : List ℕ) → (octet == cld) ≡ false → brings_command cld (message_frame r octet value) ≡ false
 not_cld_frame r octet value h = by_test (brings_command cld (message_frame r octet value)) refl
   where
@@ -73,6 +74,7 @@ mode_no_cld r e false = omega arith
 status_no_cld : (r : Role) (e : ℕ) → many (brings_command cld) (msc_after_opening r e) ≤ 0
 status_no_cld r e = few_if (brings_command cld) 0 (e == 0) [] (msc_frame r e ready ∷ []) (omega arith) (none_one (brings_command cld) (msc_frame r e ready) (not_cld_frame r msc ((4 * e + 3) ∷ ready ∷ []) refl))
 
+-- the tables call for no CLD
 pub table_no_cld : (r : Role) (e : ℕ) (channel own : State) (k : Kind) → many (brings_command cld) (by_table r e channel own k) ≤ 0
 table_no_cld Initiator e channel own Ua = few_if (brings_command cld) 0 (is_opening own) (msc_after_opening Initiator e) [] (status_no_cld Initiator e) (omega arith)
 table_no_cld Initiator e channel own Sabm = mode_no_cld Initiator e false
@@ -87,6 +89,7 @@ table_no_cld Responder e channel own Sabm =
     few_if (brings_command cld) 0 ((e == 0) || is_opened channel) (ua_or_dm Responder e true ∷ msc_after_opening Responder e) (ua_or_dm Responder e false ∷ [])
     (let a = mode_no_cld Responder e true in let c = status_no_cld Responder e in omega (arith, a, c)) (mode_no_cld Responder e false)
 
+-- nor does any frame that comes
 pub frame_no_cld : (r : Role) (state : ℕ → State) (f : Frame) → many (brings_command cld) (by_frame r state f) ≤ 0
 frame_no_cld r state f =
     few_if (brings_command cld) 0 (is_on Uih 0 f) (by_message r (state 0) f) (by_table r f.dlci (state 0) (state f.dlci) f.kind) (message_no_cld r (state 0) f) (table_no_cld r f.dlci (state 0) (state f.dlci) f.kind)
@@ -264,6 +267,7 @@ more_owed n1 e past a none before =
     let few = called (closer e) 0 (responding n1) past a none in
     omega (arith, both, few, before)
 
+-- data closes nothing
 pub data_no_closer : (e : ℕ) (f : Frame) → is_data_frame f ≡ true → closer e f ≡ false
 data_no_closer e f is =
     let p = and_parts (is_kind f.kind Uih) (not (f.dlci == 0)) is in
@@ -299,6 +303,7 @@ sent_untouched n1 e past f false is g sabm h =
     let quiet = none_of (closer e) f (many (closer e) g.later) (omega (arith, first, y)) in
     record { shut = next_shut e past (Sent f) (sabm, quiet) h.shut; sent_none = omega (arith, first, x, y); owed_none = omega (arith, same, first, y) }
 
+-- while no SABM on e came or was sent, e is shut, and nothing that closes it was sent or is owed
 pub untouched : (n1 e : ℕ) (past : List Act) → StationLawful (responding n1) past → many (is_on Sabm e) (frames_got past) ≤ 0 → many (is_on Sabm e) (frames_sent past) ≤ 0 → Untouched n1 e past
 unfolding StationLawful
 untouched n1 e [] l none asks = record { shut = refl; sent_none = omega arith; owed_none = omega arith }
@@ -428,6 +433,7 @@ open_unended e past f o = by_end (is_on Disc e f) (brings_command cld f) (is_ope
     by_end false false true y true h = refl
     by_end false false true y false h = refl
 
+-- while e is open, one SABM on it came at most, and none was sent, nothing that closes it was sent
 pub none_closed : (n1 e : ℕ) (past : List Act) → StationLawful (responding n1) past → many (is_on Sabm e) (frames_got past) ≤ 1 → many (is_on Sabm e) (frames_sent past) ≤ 0 → is_open Responder e past ≡ true → many (closer e) (frames_sent past) ≤ 0
 unfolding StationLawful
 none_closed n1 e [] l once asks o = omega arith
@@ -447,6 +453,7 @@ none_closed n1 e (Tick ∷ past) l once asks o = none_closed n1 e past l once as
 none_closed n1 e (Lost ∷ past) l once asks o = none_closed n1 e past l once asks (open_before Responder e past Lost refl o)
 none_closed n1 e (Given ∷ past) l once asks o = none_closed n1 e past l once asks (open_before Responder e past Given refl o)
 
+-- each DISC on e closes it
 pub discs_closed : (e : ℕ) (fs : List Frame) → many (is_on Disc e) fs ≤ many (closer e) fs
 discs_closed e [] = omega arith
 discs_closed e (f ∷ fs) = let x = discs_closed e fs in let y = less (is_on Disc e f) ((e == 0) && brings_command cld f) in omega (arith, x, y)
@@ -455,6 +462,7 @@ discs_closed e (f ∷ fs) = let x = discs_closed e fs in let y = less (is_on Dis
     less true b = omega arith
     less false b = omega arith
 
+-- each CLD closes 0
 pub clds_closed : (fs : List Frame) → many (brings_command cld) fs ≤ many (closer 0) fs
 clds_closed [] = omega arith
 clds_closed (f ∷ fs) = let x = clds_closed fs in let y = less (is_on Disc 0 f) (brings_command cld f) in omega (arith, x, y)

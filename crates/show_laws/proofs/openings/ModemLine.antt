@@ -62,6 +62,7 @@ quiet_open_m d f past h =
     let n = no_mode d f h.mode in
     keep (is_on Sabm d f) ((d == 0) || zero_m d past) (open_m d past) (ends (zero_m d past) d (station.Got f)) n.sabm (ends_none (zero_m d past) d f n (no_mode 0 f h.mode_of_zero) h.no_cld)
 
+-- the ask that is found passes
 pub found_passes : (p : Frame → Bool) (asks : List Ask) (a : Ask) → find (λ x. p x.frame) asks ≡ Some a → p a.frame ≡ true
 found_passes p [] a e = cc
 found_passes p (x ∷ asks) a e = by_test (p x.frame) refl e (found_passes p asks a)
@@ -234,6 +235,7 @@ come_open d f q o = by_come (is_ask f || is_kind f.kind Dm) refl
 
 -- ## The whole line
 
+-- where d is open at the modem, and its UA was sent and no other answer, it is open by what passed
 pub modem_line : (s : Setting) (n1 d : ℕ) (stamps : ℕ → Stamp) (line : List LineAct) → IsOnceLine s n1 line → Opens d stamps line
 modem_line s n1 d stamps [] h o some few = absurd (omega (arith, some))
 modem_line s n1 d stamps (AtModem (station.Sent f) ∷ line) h o some few =
@@ -318,6 +320,7 @@ few_on s n1 d line h o =
     let discs = discs_closed d (frames_got past) in
     omega (arith, sent, parts, came, many_sent, once, none, discs)
 
+-- while a connection but 0 is open at the modem, one UA or DM was sent on it at most, and one on 0, and no response to a CLD
 pub answered_once : (s : Setting) (n1 d : ℕ) (line : List LineAct) → IsOnceLine s n1 line → (d == 0) ≡ false → open_m d (modem_past line) ≡ true → AnsweredOnce d (frames_sent (modem_past line))
 answered_once s n1 d line h apart o =
     let past = modem_past line in

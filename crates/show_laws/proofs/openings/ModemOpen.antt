@@ -33,6 +33,7 @@ use Rattle.show_laws.proofs.openings.UaBehindSabm.{none_of}
 
 -- ## Counts
 
+-- each SABM or DISC on d is one of them
 pub asks_parts : (d : ℕ) (fs : List Frame) → many (ask_on d) fs ≤ many (is_on Sabm d) fs + many (is_on Disc d) fs
 asks_parts d [] = omega arith
 asks_parts d (f ∷ fs) = let x = parts (is_kind f.kind Sabm) (is_kind f.kind Disc) (f.dlci == d) in let y = asks_parts d fs in omega (arith, x, y)
@@ -89,6 +90,7 @@ modem_fresh : (d : ℕ) (stamps : ℕ → Stamp) (f : Frame) (line : List LineAc
 modem_fresh d stamps f line q some none =
     other_answers d f (waiting Initiator (captured stamps line)) (none_of (answer_on d) f (many (answer_on d) (frames_to Initiator (captured stamps line))) none) (q some (omega (arith, none)))
 
+-- a SABM on d that the driver sent waits for the first UA or DM on d, while none was sent
 pub has_fresh : (s : Setting) (n1 d : ℕ) (stamps : ℕ → Stamp) (line : List LineAct) → IsOnceLine s n1 line → HasFresh d (captured stamps line)
 has_fresh s n1 d stamps line h =
     over (IsOnceLine s n1) (λ x line k. once_line_before s n1 x line k) (HasFresh d) stamps (λ some none. absurd (omega (arith, some)))
@@ -131,5 +133,6 @@ zero_open d (station.Tick ∷ past) apart o = let z = zero_m d past in let p = u
 zero_open d (station.Lost ∷ past) apart o = let z = zero_m d past in let p = unended (open_m d past) (ends z d station.Lost) o in kept_zero false z (ends z 0 station.Lost) (zero_open d past apart p.0) (itself_zero z station.Lost d apart p.1)
 zero_open d (station.Given ∷ past) apart o = let z = zero_m d past in let p = unended (open_m d past) (ends z d station.Given) o in kept_zero false z (ends z 0 station.Given) (zero_open d past apart p.0) (itself_zero z station.Given d apart p.1)
 
+-- while another connection is open at a responder 0 is
 pub above : (d : ℕ) (past : List station.Act) → (d == 0) ≡ false → open_m d past ≡ true → open_m 0 past ≡ true
 above d past apart o = sym (zero_same Responder d past) ∙ zero_open d past apart o

@@ -100,6 +100,7 @@ sent_ends z f h = or_from (ends_zero f) false h refl
 
 -- ## What is owed
 
+-- no more pass one of two tests than pass the first and the second
 pub many_or : (a b : Frame → Bool) (fs : List Frame) → many (λ f. a f || b f) fs ≤ many a fs + many b fs
 many_or a b [] = omega arith
 many_or a b (f ∷ fs) = let x = one (a f) (b f) in let y = many_or a b fs in omega (arith, x, y)
@@ -108,6 +109,7 @@ many_or a b (f ∷ fs) = let x = one (a f) (b f) in let y = many_or a b fs in om
     one true q = omega arith
     one false q = omega arith
 
+-- what can't be 1 or more is 0
 pub none_when : (n : ℕ) → (1 ≤ n → ⊥) → n ≤ 0
 none_when zero h = omega arith
 none_when (suc n) h = absurd (h (omega arith))
@@ -132,6 +134,7 @@ zero_opened s d past is h = ap (λ (r : Role). is_opened (state_of r 0 (wire pas
 
 -- ## Requests
 
+-- a request that is told nothing at once finds open what must be
 pub open_not_refused : (a b c : Bool) (o : Option Answer) → is_none (if a then Some LineLost else (if b then Some Busy else (if c then Some NotOpen else o))) ≡ true → c ≡ false
 open_not_refused true b c o h = cc
 open_not_refused false true c o h = cc
@@ -254,6 +257,7 @@ told_below s d past h some =
     let few = k.1 in
     (k.0, omega (arith, few, y))
 
+-- at a lawful initiator this is so of each connection but 0
 pub below : (s : Setting) (d : ℕ) (past : List Act) → s.role ≡ Initiator → (d == 0) ≡ false → Lawful s past → Below s d past
 unfolding Lawful
 below s d [] is apart l = record { up = λ w. cc; owes = λ some. absurd (omega (arith, some)) }
@@ -329,6 +333,7 @@ below s d (Freed e ∷ past) is apart l =
           (few_if (is_on Sabm d) 0 (is_opened (v.state e)) (msc_frame s.role e ready ∷ []) [] (omega arith) (omega arith));
     }
 
+-- so where it is open 0 is open
 pub open_below : (s : Setting) (d : ℕ) (past : List Act) → s.role ≡ Initiator → (d == 0) ≡ false → Lawful s past → open_at d (wire past) ≡ true → is_open Initiator 0 (wire past) ≡ true
 open_below s d past is apart l o = sym (zero_same Initiator d (wire past)) ∙ (below s d past is apart l).up (or_left (open_at d (wire past)) (asked_at d (wire past)) o)
 

@@ -17,9 +17,11 @@ use Rattle.show_laws.proofs.counts.BalancedTables.{is_command_octet}
 abbrev pub open_at : ℕ → List Act → Bool
 open_at d past = is_open Initiator d past
 
+-- d is asked for there
 abbrev pub asked_at : ℕ → List Act → Bool
 asked_at d past = (standings Initiator d past).own.is_asked
 
+-- 0 is open there
 abbrev pub zero_at : ℕ → List Act → Bool
 zero_at d past = (standings Initiator d past).zero.is_open
 
@@ -41,6 +43,7 @@ pub record EndsNone (e : ℕ) (f : Frame) : Type 0 where
 itself : (z : Bool) (e : ℕ) (f : Frame) → EndsNone e f → brings_command cld f ≡ false → ends_itself z e (Got f) ≡ false
 itself z e f h k = word (is_on Disc e f) (is_on Dm e f) (is_on Sabm e f) z (brings_command cld f) h.disc h.dm h.sabm k
 
+-- a frame that comes ends nothing of d, if it ends neither d nor 0 by a word of its own and is no CLD
 pub ends_none : (z : Bool) (d : ℕ) (f : Frame) → EndsNone d f → EndsNone 0 f → brings_command cld f ≡ false → ends z d (Got f) ≡ false
 ends_none z d f h h0 k = either (ends_itself z d (Got f)) (not (d == 0)) (ends_itself z 0 (Got f)) (itself z d f h k) (itself z 0 f h0 k)
   where
@@ -67,6 +70,7 @@ no_mode e f h =
 quiet_ends : (z : Bool) (d : ℕ) (f : Frame) → Quiet d f → ends z d (Got f) ≡ false
 quiet_ends z d f h = ends_none z d f (no_mode d f h.mode).0 (no_mode 0 f h.mode_of_zero).0 h.no_cld
 
+-- a quiet frame that comes leaves d open or not, as it was
 pub quiet_open : (d : ℕ) (f : Frame) (past : List Act) → Quiet d f → open_at d (Got f ∷ past) ≡ open_at d past
 quiet_open d f past h = keep (is_on Ua d f) (asked_at d past) (open_at d past) (ends (zero_at d past) d (Got f)) (no_mode d f h.mode).1 (quiet_ends (zero_at d past) d f h)
   where
@@ -76,6 +80,7 @@ quiet_open d f past h = keep (is_on Ua d f) (asked_at d past) (open_at d past) (
     keep false k true false g h = refl
     keep false k false false g h = refl
 
+-- and asked for or not
 pub quiet_asked : (d : ℕ) (f : Frame) (past : List Act) → Quiet d f → asked_at d (Got f ∷ past) ≡ asked_at d past
 quiet_asked d f past h = keep (asked_at d past) (is_mode_frame_on d f) (ends (zero_at d past) d (Got f)) h.mode (quiet_ends (zero_at d past) d f h)
   where
@@ -147,6 +152,7 @@ ender_shuts d f past h =
 
 -- ## Below 0
 
+-- what doesn't end another connection doesn't end 0
 pub itself_zero : (z : Bool) (a : Act) (d : ℕ) → (d == 0) ≡ false → ends z d a ≡ false → ends z 0 a ≡ false
 itself_zero z a d apart h =
     let p = or_parts (ends_itself z d a) (not (d == 0) && ends_itself z 0 a) h in
@@ -157,11 +163,13 @@ itself_zero z a d apart h =
     last true e = cc
     last false e = refl
 
+-- what stayed open was open, and wasn't ended
 pub unended : (o e : Bool) → (o && not e) ≡ true → (o ≡ true) × (e ≡ false)
 unended true false h = (refl, refl)
 unended true true h = cc
 unended false e h = cc
 
+-- what is open and isn't ended stays open
 pub kept_zero : (x z e : Bool) → z ≡ true → e ≡ false → (x || (z && not e)) ≡ true
 kept_zero true z e h k = refl
 kept_zero false true false h k = refl

@@ -36,6 +36,7 @@ no_answer Ua b h = cc
 no_answer Dm b h = cc
 no_answer Disc b h = cc
 
+-- no more UA and DM on d are called for than SABM and DISC come on it
 pub answer_balanced : (most : ℕ) (r : Role) (d : ℕ) → Balanced AnyProbe most r (answer_on d) (ask_on d)
 answer_balanced most r d =
     modes_balanced most r (answer_on d) (λ n. n == d) (answer_modes d)
@@ -60,6 +61,7 @@ sabm_bare Dm x y h = cc
 sabm_bare Disc x y h = cc
 sabm_bare Uih x y h = cc
 
+-- a SABM on d that comes to a responder is answered by UA, if d is 0 or 0 is Opened
 pub opening_answered : (d : ℕ) (state : ℕ → State) (f : Frame) → is_on Sabm d f ≡ true → ((d == 0) || is_opened (state 0)) ≡ true → 1 ≤ many (is_on Ua d) (by_frame Responder state f)
 opening_answered d state f is o =
     let same = eqb-true f.dlci d (and_parts (is_kind f.kind Sabm) (f.dlci == d) is).1 in
@@ -71,6 +73,7 @@ opening_answered d state f is o =
 
 -- ## The response to a CLD
 
+-- the response to a CLD
 abbrev pub is_down : Frame → Bool
 is_down g = brings_response cld g
 
@@ -88,6 +91,7 @@ none_if t f h = none_one t f (by_test (t f) refl)
     by_test false e = refl
     by_test true e = let x : true ≡ false = h e in cc
 
+-- a message of another type is none
 pub message_not_down : (r : Role) (octet : ℕ) (value : List ℕ) → (command_of octet == cld) ≡ false → is_down (message_frame r octet value) ≡ false
 message_not_down r octet value h = by_test (is_down (message_frame r octet value)) refl
   where
@@ -125,6 +129,7 @@ mode_not_down r e false = omega arith
 status_not_down : (r : Role) (e : ℕ) → many is_down (msc_after_opening r e) ≤ 0
 status_not_down r e = few_if is_down 0 (e == 0) [] (msc_frame r e ready ∷ []) (omega arith) (none_one is_down (msc_frame r e ready) (message_not_down r msc ((4 * e + 3) ∷ ready ∷ []) refl))
 
+-- SABM, UA, DM and DISC call for none
 pub table_not_down : (r : Role) (e : ℕ) (channel own : State) (k : Kind) → many is_down (by_table r e channel own k) ≤ 0
 table_not_down Initiator e channel own Ua = few_if is_down 0 (is_opening own) (msc_after_opening Initiator e) [] (status_not_down Initiator e) (omega arith)
 table_not_down Initiator e channel own Dm = omega arith
@@ -155,6 +160,7 @@ down_by r IsShut f h = absurd (omega (arith, h))
 down_by r (IsOpening n) f h = absurd (omega (arith, h))
 down_by r (IsClosing n) f h = absurd (omega (arith, h))
 
+-- where one is called for, a CLD came while 0 is Opened or Stopping
 pub any_down_called : (r : Role) (state : ℕ → State) (f : Frame) → 1 ≤ many is_down (by_frame r state f) → ((is_opened (state 0) || is_stopping (state 0)) ≡ true) × (brings_command cld f ≡ true)
 any_down_called r state f h = by_on (is_on Uih 0 f) refl h
   where
@@ -252,6 +258,7 @@ not_cld f g s a d = by_cld (brings_command cld f) refl
 
 -- ## The response to a CLD, by counts
 
+-- each frame passes
 abbrev pub every : Frame → Bool
 every f = true
 
@@ -269,6 +276,7 @@ down_responses r (Some m) =
     (at_most_one (message_frame r (response_of m.octet) m.value))
     (few_if is_down 1 (is_command m && not (m.octet == nsc)) (message_frame r (response_of nsc) (m.octet ∷ []) ∷ []) [] (at_most_one (message_frame r (response_of nsc) (m.octet ∷ []))) (omega arith))
 
+-- a message calls for one response to a CLD at most
 pub down_frames : (r : Role) (s : State) (f : Frame) → many is_down (by_message r s f) ≤ 1
 down_frames r IsOpened f = down_responses r (message_in f)
 down_frames r (IsStopping n) f = few_if is_down 1 (brings_command cld f) (response_to r (message_in f)) [] (down_responses r (message_in f)) (omega arith)
@@ -284,6 +292,7 @@ data_bare f h = off (is_kind f.kind Uih) (f.dlci == 0) (octet_is command_of cld 
     off true false c h = refl
     off false z c h = refl
 
+-- no more of them are called for than frames come
 pub down_balanced : (most : ℕ) (r : Role) → Balanced AnyProbe most r is_down every
 down_balanced most r = record {
   frame = λ state f.

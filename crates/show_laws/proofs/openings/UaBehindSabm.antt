@@ -33,11 +33,13 @@ still_shut true i e g h = cc
 still_shut false true e g h = cc
 still_shut false false e g h = refl
 
+-- where d is shut at a responder, an act but a frame that comes leaves it so
 pub not_opening : (d : ℕ) (past : List Act) (a : Act) → is_got a ≡ false → is_open Responder d past ≡ false → is_open Responder d (a ∷ past) ≡ false
 not_opening d past a other was =
     let s = standings Responder d past in
     still_shut (opens_now Responder d past a) (is_open Responder d past) (ends s.zero.is_open d a) (opens_none Responder s.zero.is_open s.own.is_asked d a other) was
 
+-- where none is counted the first doesn't pass
 pub none_of : (t : Frame → Bool) (f : Frame) (n : ℕ) → unit (t f) + n ≤ 0 → t f ≡ false
 none_of t f n h = by_test (t f) refl
   where
@@ -95,6 +97,7 @@ comes n1 d past f unasked h =
       owed_none = omega (arith, e, few, o);
     }
 
+-- while no SABM on d came to a lawful responder, d isn't open, and no UA on it was sent or is owed
 pub shut : (n1 d : ℕ) (past : List Act) → StationLawful (responding n1) past → many (is_on Sabm d) (frames_got past) ≤ 0 → Shut n1 d past
 unfolding StationLawful Sends
 shut n1 d [] l none = record { open_not = refl; sent_none = omega arith; owed_none = omega arith }
@@ -137,5 +140,6 @@ shut n1 d (Sent f ∷ past) l none = by_data (is_data_frame f) refl l.0 (shut n1
         let y = h.owed_none in
         record { open_not = not_opening d past (Sent f) refl h.open_not; sent_none = omega (arith, e, x, y); owed_none = omega (arith, o, k, e, y) }
 
+-- so it sends no UA on d before that
 pub ua_behind : (n1 d : ℕ) (past : List Act) → StationLawful (responding n1) past → many (is_on Sabm d) (frames_got past) ≤ 0 → many (is_on Ua d) (frames_sent past) ≤ 0
 ua_behind n1 d past l none = (shut n1 d past l none).sent_none

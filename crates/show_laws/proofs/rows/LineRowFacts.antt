@@ -241,6 +241,7 @@ stops_by_all = record {
 
 -- ## Both
 
+-- the worked lines are lawful and nothing is wrong with them, and the first two meet all that the laws ask
 pub are_right : AreRight
 unfolding command_acts stop_acts open_acts
 are_right = record {

@@ -92,6 +92,7 @@ no_more s e line p d =
     ap commands_in (lines_heard d (modem_wire line) one (behind_there s e line p d)) in
     omega (arith, parts, joined, all, ones, size, count, each, came)
 
+-- at each point of its past a simulated modem sent no more final codes than command lines came
 pub answers_commands : (s : Setting) (e : End) (line : List EndAct) → Along s e line → AnswersCommands standard (modem_wire line)
 answers_commands s e [] p = tt
 answers_commands s e (AtDriver a ∷ line) p = answers_commands s e line (driver_earlier s e a line p)

@@ -191,6 +191,7 @@ none_any : (fs : List Frame) → many is_sabm fs ≤ 0 → list_any (λ f. is_ki
 none_any [] h = refl
 none_any (f ∷ fs) h = or_from (is_kind f.kind Sabm) (list_any (λ g. is_kind g.kind Sabm) fs) (none_of is_sabm f (many is_sabm fs) h) (none_any fs (omega (arith, h)))
 
+-- the modem opens no connection, and answers commands alone
 pub simulates : (s : Setting) (e : End) (line : List EndAct) → Simulates s e line
 unfolding Simulates
 simulates s e line h = record {
@@ -212,6 +213,7 @@ simulates s e line h = record {
       (subst (λ (q : List station.Act). AnswersCommands standard q) (sym (same_modem line)) (answers_commands s e line (along s e line h)));
 }
 
+-- nothing is wrong with any frame, where lines are offered, a probe fits, and neither end has a greater N1
 pub sound_to_modem : (s : Setting) (e : End) (line : List EndAct) → SoundToModem s e line
 unfolding SoundToModem Simulates AllSound
 sound_to_modem s e line h offers probes stamps most low high high2 =
@@ -219,10 +221,12 @@ sound_to_modem s e line h offers probes stamps most low high high2 =
     all_sound s e.n1 (as_line line)
     (record { lawful = k.lawful; once = k.once; commands = k.commands; offers = offers; probes = probes }) stamps most low high high2
 
+-- no command overlaps another one, and no final code answers nothing
 pub talks_to_modem : (s : Setting) (e : End) (line : List EndAct) → TalksToModem s e line
 unfolding TalksToModem Simulates TalksInTurn
 talks_to_modem s e line h stamps data_channels = talks_in_turn s e.n1 (as_line line) (simulates s e line h) stamps data_channels
 
+-- no command on d is left without an answer, where all came to the modem and all that it says on d has gone out
 pub finishes_with_modem : (s : Setting) (e : End) (line : List EndAct) → FinishesWithModem s e line
 unfolding FinishesWithModem Simulates FinishesTalk
 finishes_with_modem s e line h d said stamps data_channels =

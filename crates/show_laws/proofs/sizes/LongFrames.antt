@@ -23,6 +23,7 @@ is_long most f = nat_lt most (length f.info)
 abbrev pub IsShort : List ℕ → Type 0
 IsShort octets = length octets ≤ 16
 
+-- what is no more than this isn't longer
 pub not_long : (m n : ℕ) → n ≤ m → nat_lt m n ≡ false
 not_long m n h = by_test (nat_lt m n) refl
   where

@@ -107,6 +107,7 @@ first_short t f fs h = by_test (t f) refl
     by_test false e = refl
     by_test true e = let x : unit (t f) ≡ 1 = ap unit e in absurd (omega (arith, x, h))
 
+-- no frame of a lawful line is longer than this, where neither end has a greater N1, and probes are short and fit
 pub fits_n1 : (s : Setting) (n1 : ℕ) (line : List LineAct) → FitsN1 s n1 line
 unfolding FitsN1
 fits_n1 s n1 line h probes stamps most low high high2 =

@@ -50,6 +50,7 @@ any_order [] = refl
 any_order (c ∷ line) =
     ap (map (λ (x : Caught). sound)) (turned c line) ∙ (last_first c (reverse line) ∙ ap (λ (fs : List Faults). sound ∷ fs) (any_order line))
 
+-- nothing is wrong with any frame of a plain line, where neither end has a greater N1 than this, and a probe fits
 pub all_sound : (s : Setting) (n1 : ℕ) (line : List LineAct) → AllSound s n1 line
 unfolding AllSound AnswersAsks SendWhileOpen CarriesText FitsN1 HeedsStops
 all_sound s n1 line h stamps most low high high2 =

@@ -33,6 +33,7 @@ kept_stop r d [] = false
 kept_stop r d (Got f ∷ past) = unwrap_or (if is_open r 0 past then says_on d f else None) (kept_stop r d past)
 kept_stop r d (_ ∷ past) = kept_stop r d past
 
+-- responses that follow others say it behind those
 pub back_both : (d : ℕ) (xs ys : List Frame) (b : Bool) → then_back d (xs ++ ys) b ≡ then_back d ys (then_back d xs b)
 back_both d [] ys b = refl
 back_both d (f ∷ xs) ys b = back_both d xs ys (unwrap_or (answer_says d f) b)

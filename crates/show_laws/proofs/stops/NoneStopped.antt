@@ -212,6 +212,7 @@ modem_goes stamps f line h =
     let same : many stops (frames_to Responder (captured stamps line)) ≡ many stops (frames_sent (wire (driver_past line))) = ap (many stops) (shows stamps line).to_modem in
     second (is_data_frame f) (is_stopped Responder f.dlci (own Responder (captured stamps line))) (never_stopped_by Responder f.dlci (own Responder (captured stamps line)) (own_none Responder (captured stamps line) (omega (arith, none, same))))
 
+-- on a lawful line on which neither end stops any connection, no data is sent on a stopped one
 pub never_stopped : (s : Setting) (n1 : ℕ) (line : List LineAct) → NeverStopped s n1 line
 unfolding NeverStopped
 never_stopped s n1 line h by_driver by_modem stamps most =

@@ -179,6 +179,7 @@ modem_goes s n1 stamps f line h =
     unstopped Responder d p (own Responder (captured stamps line)) apart gated.is_open (below p gated.is_open) (turned_not (is_stopped Responder d p) gated.goes)
     (modem_first s n1 d line below k) (modem_first s n1 0 line (λ older o. o) k) (kept d) (kept 0))
 
+-- on a lawful line whose driver asks for each connection once no data is sent on a stopped one, whichever end stops it
 pub heeds_stops : (s : Setting) (n1 : ℕ) (line : List LineAct) → HeedsStops s n1 line
 unfolding HeedsStops
 heeds_stops s n1 line h once stamps most =

@@ -172,8 +172,10 @@ all_seen s n1 d stamps line h =
           (modem_answers s n1 stamps f line (stamps (length cs)) k) q.1,
     )) line h
 
+-- what passed says last of the stop at the driver what the responses say that it sent
 pub driver_seen : (s : Setting) (n1 d : ℕ) (stamps : ℕ → Stamp) (line : List LineAct) → IsLawfulLine s n1 line → last_said (got_says (says_at d)) (own Initiator (captured stamps line)) ≡ last_back d (frames_sent (wire (driver_past line)))
 driver_seen s n1 d stamps line h = (all_seen s n1 d stamps line h).0 ∙ ap (last_back d) (shows stamps line).driver_frames
 
+-- and of that at the modem what its responses say
 pub modem_seen : (s : Setting) (n1 d : ℕ) (stamps : ℕ → Stamp) (line : List LineAct) → IsLawfulLine s n1 line → last_said (got_says (says_at d)) (own Responder (captured stamps line)) ≡ last_back d (frames_sent (modem_past line))
 modem_seen s n1 d stamps line h = (all_seen s n1 d stamps line h).1 ∙ ap (last_back d) (shows stamps line).modem_frames

@@ -49,6 +49,7 @@ pub record IsFirst (r : Role) (d : ℕ) (past : List Act) (a : Act) : Type 0 whe
   pub none : opens_now r d past a ≡ true → kept_stop r d past ≡ false
   pub below : is_open r d past ≡ true → is_open r 0 past ≡ true
 
+-- so it is at each act of the past
 abbrev pub OpensFirst : Role → ℕ → List Act → Type 0
 OpensFirst r d [] = Unit {0}
 OpensFirst r d (a ∷ past) = IsFirst r d past a × OpensFirst r d past

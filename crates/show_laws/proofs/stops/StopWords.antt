@@ -23,6 +23,7 @@ use Rattle.show_laws.proofs.openings.ResponderCalls.{every}
 abbrev pub says_on : ℕ → Frame → Option Bool
 says_on d f = if_message (says_at d) (message_in f)
 
+-- the frame says something of it
 abbrev pub speaks : ℕ → Frame → Bool
 speaks d f = is_some (says_on d f)
 
@@ -30,9 +31,11 @@ speaks d f = is_some (says_on d f)
 abbrev pub says_back : ℕ → Message → Option Bool
 says_back d m = says_at d (record { octet = command_of m.octet; value = m.value })
 
+-- what a frame says of it as a response
 abbrev pub answer_says : ℕ → Frame → Option Bool
 answer_says d f = if_message (says_back d) (message_in f)
 
+-- the frame says something of it as a response
 abbrev pub speaks_back : ℕ → Frame → Bool
 speaks_back d f = is_some (answer_says d f)
 
@@ -63,6 +66,7 @@ spelled_quiet r octet value say h = by_read (message_in (message_frame r octet v
     by_read _ as_it_is = ap is_some h
     by_read _ unread = refl
 
+-- nor does the frame of such a message
 pub message_quiet : (r : Role) (d octet : ℕ) (value : List ℕ) → (octet == msc) ≡ false → (octet == fcoff) ≡ false → (octet == fcon) ≡ false → speaks d (message_frame r octet value) ≡ false
 message_quiet r d octet value a b c = spelled_quiet r octet value (says_at d) (unsaid d octet value a b c)
 
@@ -84,6 +88,7 @@ flow_quiet r d false apart = spelled_quiet r 0x63 [] (says_at d) (ap (λ (z : Bo
 
 -- ## What the tables call for
 
+-- UA and DM say nothing
 pub mode_quiet : (r : Role) (d e : ℕ) (b : Bool) → many (speaks d) (ua_or_dm r e b ∷ []) ≤ 0
 mode_quiet r d e true = omega arith
 mode_quiet r d e false = omega arith
@@ -124,6 +129,7 @@ asked_quiet d e channel own Disc h = mode_quiet Initiator d e (is_opened own)
 asked_quiet d e channel own Dm h = omega arith
 asked_quiet d e channel own Uih h = omega arith
 
+-- where d isn't Opening, a frame that comes to an initiator calls for none that says something
 pub initiator_quiet : (d : ℕ) (state : ℕ → State) (f : Frame) → is_opening (state d) ≡ false → many (speaks d) (by_frame Initiator state f) ≤ 0
 initiator_quiet d state f h =
     few_if (speaks d) 0 (is_on Uih 0 f) (by_message Initiator (state 0) f) (by_table Initiator f.dlci (state 0) (state f.dlci) f.kind) (answers_quiet Initiator d (state 0) f)
@@ -139,11 +145,13 @@ opened_quiet d e channel own Ua apart = omega arith
 opened_quiet d e channel own Dm apart = omega arith
 opened_quiet d e channel own Uih apart = omega arith
 
+-- nor does one that comes to a responder, unless it is a SABM on d
 pub responder_quiet : (d : ℕ) (state : ℕ → State) (f : Frame) → is_on Sabm d f ≡ false → many (speaks d) (by_frame Responder state f) ≤ 0
 responder_quiet d state f unasked =
     few_if (speaks d) 0 (is_on Uih 0 f) (by_message Responder (state 0) f) (by_table Responder f.dlci (state 0) (state f.dlci) f.kind) (answers_quiet Responder d (state 0) f)
     (opened_quiet d f.dlci (state 0) (state f.dlci) f.kind unasked)
 
+-- nor does a connection that is held or freed, while d isn't Opened
 pub by_flow_quiet : (r : Role) (d : ℕ) (state : ℕ → State) (e signals : ℕ) → is_opened (state d) ≡ false → many (speaks d) (by_flow r state e signals) ≤ 0
 by_flow_quiet r d state e signals shut = by_here (e == d) refl
   where
@@ -200,6 +208,7 @@ mode_back r d e false = omega arith
 after_back : (r : Role) (d e : ℕ) → many (speaks_back d) (msc_after_opening r e) ≤ 0
 after_back r d e = few_if (speaks_back d) 0 (e == 0) [] (msc_frame r e ready ∷ []) (omega arith) (none_one (speaks_back d) (msc_frame r e ready) (command_back r d msc ((4 * e + 3) ∷ ready ∷ []) refl))
 
+-- what comes without a message calls for no response that says something
 pub table_back : (r : Role) (d e : ℕ) (channel own : State) (k : Kind) → many (speaks_back d) (by_table r e channel own k) ≤ 0
 table_back Initiator d e channel own Ua = few_if (speaks_back d) 0 (is_opening own) (msc_after_opening Initiator e) [] (after_back Initiator d e) (omega arith)
 table_back Initiator d e channel own Sabm = mode_back Initiator d e false
@@ -255,6 +264,7 @@ if_good_is x m e = by_test (is_msc x.octet && not (is_good_msc x.value)) refl e
     by_test true is k = cc
     by_test false is k = sym (ap of_option k) ∙ is
 
+-- no message that was read is an MSC that isn't good
 pub good_read : (info : List ℕ) (m : Message) → message_of info ≡ Some m → (is_msc m.octet && not (is_good_msc m.value)) ≡ false
 good_read [] m e = cc
 good_read (t ∷ []) m e = cc
@@ -279,6 +289,7 @@ same_back r d m s good =
     quiet_read o _ as_it_is back none = ap (λ (x : ℕ). says_at d (record { octet = x; value = m.value })) back
     quiet_read o _ unread back none = sym none
 
+-- a message that isn't supported says nothing
 pub unsupported_unsaid : (d : ℕ) (m : Message) → is_supported m.octet ≡ false → says_at d m ≡ None
 unsupported_unsaid d m h = unsaid d m.octet m.value (last (m.octet == test) (m.octet == fcoff) (m.octet == fcon) (m.octet == cld) (m.octet == msc) h) (second (m.octet == test) (m.octet == fcoff) (m.octet == fcon) (m.octet == cld) (m.octet == msc) h) (third (m.octet == test) (m.octet == fcoff) (m.octet == fcon) (m.octet == cld) (m.octet == msc) h)
   where
@@ -304,6 +315,7 @@ unsupported_unsaid d m h = unsaid d m.octet m.value (last (m.octet == test) (m.o
 pub refusal_back : (r : Role) (d octet : ℕ) → many (speaks_back d) (message_frame r (response_of nsc) (octet ∷ []) ∷ []) ≤ 0
 refusal_back r d octet = none_one (speaks_back d) (message_frame r (response_of nsc) (octet ∷ [])) (spelled_quiet r (response_of nsc) (octet ∷ []) (says_back d) (unsaid d nsc (octet ∷ []) refl refl refl))
 
+-- what answers a CLD says nothing either
 pub closing_back : (r : Role) (d : ℕ) (o : Option Message) → octet_is (λ n. n) cld o ≡ true → many (speaks_back d) (response_to r o) ≤ 0
 closing_back r d None h = cc
 closing_back r d (Some m) h =

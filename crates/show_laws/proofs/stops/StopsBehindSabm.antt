@@ -52,9 +52,11 @@ calls_none s d past a none before =
     let few = called (speaks d) 0 s (seen_behind s past (owed s past)) a none in
     omega (arith, parts, few, before)
 
+-- where d isn't open at an initiator its state isn't Opened
 pub opened_state : (s : Setting) (d : ℕ) (past : List Act) → s.role ≡ Initiator → open_at d (wire past) ≡ false → is_opened (state_of s.role d (wire past)) ≡ false
 opened_state s d past is h = ap (λ (r : Role). is_opened (state_of r d (wire past))) is ∙ (opened_is_open Initiator (wire past) d ∙ h)
 
+-- and where it isn't asked for its state isn't Opening
 pub opening_state : (s : Setting) (d : ℕ) (past : List Act) → s.role ≡ Initiator → asked_at d (wire past) ≡ false → is_opening (state_of s.role d (wire past)) ≡ false
 opening_state s d past is h =
     ap (λ (r : Role). is_opening (state_of r d (wire past))) is ∙ (opening_is_asked d (wire past) ∙ and_left (asked_at d (wire past)) (not (open_at d (wire past))) h)
@@ -83,6 +85,7 @@ sent_unasked s d past f false is n none h =
     let y = h.owed_none in
     record { shut = c.0; unasked = c.1; sent_none = omega (arith, first, x, y); owed_none = omega (arith, same, first, rest, y) }
 
+-- so it is of a lawful initiator that sent no SABM on d
 pub unasked_yet : (s : Setting) (d : ℕ) (past : List Act) → s.role ≡ Initiator → Lawful s past → many (is_on Sabm d) (frames_sent (wire past)) ≤ 0 → Unasked s d past
 unfolding Lawful
 unasked_yet s d [] is l none = record { shut = refl; unasked = refl; sent_none = omega arith; owed_none = omega arith }
@@ -180,6 +183,7 @@ pub record Older (s : Setting) (all : List Act) (fs : List Frame) : Type 0 where
 more_got : (s : Setting) (a : Act) (past : List Act) (fs : List Frame) → ((t : Frame → Bool) → many t (frames_got (wire past)) ≤ many t (frames_got (wire (a ∷ past)))) → Older s past fs → Older s (a ∷ past) fs
 more_got s a past fs more o = record { past = o.past; lawful = o.lawful; sent_are = o.sent_are; got_few = λ t. let x = o.got_few t in let y = more t in omega (arith, x, y) }
 
+-- the frames that it sent first are all of an earlier past
 pub older : (s : Setting) (past : List Act) (later fs : List Frame) → Lawful s past → frames_sent (wire past) ≡ later ++ fs → Older s past fs
 unfolding Lawful
 older s past [] fs l e = record { past = past; lawful = l; sent_are = e; got_few = λ t. omega arith }

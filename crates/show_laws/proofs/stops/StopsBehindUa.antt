@@ -202,6 +202,7 @@ sent_behind n1 d past f false is g none h =
     unspoken false e = omega arith
     unspoken true e = cc
 
+-- so it is of a lawful responder that sent no UA on d
 pub behind : (n1 d : ℕ) (past : List Act) → StationLawful (responding n1) past → many (is_on Ua d) (frames_sent past) ≤ 0 → Behind n1 d past
 unfolding StationLawful
 behind n1 d [] l none = record { sent_none = omega arith; owed_led = refl; open_owes = λ live o. cc }
@@ -247,6 +248,7 @@ pub record Older (n1 : ℕ) (fs : List Frame) : Type 0 where
   pub lawful : StationLawful (responding n1) past
   pub sent_are : frames_sent past ≡ fs
 
+-- the frames that it sent first are all of an earlier past
 pub older : (n1 : ℕ) (past : List Act) (later fs : List Frame) → StationLawful (responding n1) past → frames_sent past ≡ later ++ fs → Older n1 fs
 unfolding StationLawful
 older n1 past [] fs l e = record { past = past; lawful = l; sent_are = e }

@@ -24,16 +24,19 @@ pub counted : (b : Bool) (l : List ℕ) (xs : List (List ℕ)) → length (if b 
 counted true l xs = omega arith
 counted false l xs = omega arith
 
+-- the final codes of two lists of lines add up
 pub finals_both : (dialect : Dialect) (xs ys : List (List ℕ)) → finals_in dialect (xs ++ ys) ≡ finals_in dialect xs + finals_in dialect ys
 finals_both dialect xs ys =
     ap (λ (ls : List (List ℕ)). length (filter dialect.is_final ls)) (filter-append (is_solicited dialect) xs ys)
     ∙ (ap length (filter-append dialect.is_final (filter (is_solicited dialect) xs) (filter (is_solicited dialect) ys))
     ∙ length-append (filter dialect.is_final (filter (is_solicited dialect) xs)) (filter dialect.is_final (filter (is_solicited dialect) ys)))
 
+-- so do the command lines
 pub commands_both : (xs ys : List (List ℕ)) → commands_in (xs ++ ys) ≡ commands_in xs + commands_in ys
 commands_both xs ys =
     ap length (filter-append (λ (l : List ℕ). is_none (refusal_of l)) xs ys) ∙ length-append (filter (λ (l : List ℕ). is_none (refusal_of l)) xs) (filter (λ (l : List ℕ). is_none (refusal_of l)) ys)
 
+-- no more lines are command lines than there are
 pub commands_few : (ls : List (List ℕ)) → commands_in ls ≤ length ls
 commands_few [] = omega arith
 commands_few (l ∷ ls) = let e = counted (is_none (refusal_of l)) l (filter (λ (x : List ℕ). is_none (refusal_of x)) ls) in let u = one (is_none (refusal_of l)) in let k = commands_few ls in omega (arith, e, u, k)
@@ -46,9 +49,11 @@ commands_few (l ∷ ls) = let e = counted (is_none (refusal_of l)) l (filter (λ
 pub lines_go_on : (x y : List ℕ) → lines (x ++ y) ≡ lines x ++ lines (kept_run x ++ y)
 lines_go_on x y = (reads_on x y).reads_kept
 
+-- and so their final codes add up
 pub finals_go_on : (dialect : Dialect) (x y : List ℕ) → finals_in dialect (lines (x ++ y)) ≡ finals_in dialect (lines x) + finals_in dialect (lines (kept_run x ++ y))
 finals_go_on dialect x y = ap (finals_in dialect) (lines_go_on x y) ∙ finals_both dialect (lines x) (lines (kept_run x ++ y))
 
+-- and their command lines
 pub commands_go_on : (x y : List ℕ) → commands_in (lines (x ++ y)) ≡ commands_in (lines x) + commands_in (lines (kept_run x ++ y))
 commands_go_on x y = ap commands_in (lines_go_on x y) ∙ commands_both (lines x) (lines (kept_run x ++ y))
 
@@ -59,6 +64,7 @@ finals_first dialect x y p =
     let k = finals_go_on dialect x p.rest in
     omega (arith, e, k)
 
+-- nor more command lines
 pub commands_first : (x y : List ℕ) → IsPrefixOf x y → commands_in (lines x) ≤ commands_in (lines y)
 commands_first x y p =
     let e : commands_in (lines (x ++ p.rest)) ≡ commands_in (lines y) = ap (λ (z : List ℕ). commands_in (lines z)) p.joins in

@@ -55,6 +55,7 @@ second_off : (a b : Bool) → b ≡ false → (a && b) ≡ false
 second_off true b k = k
 second_off false b k = refl
 
+-- what the driver asked for, and has neither open nor asked for, stays so, where it asks once
 pub driver_stays : (e : ℕ) (a : driver.Act) (past : List driver.Act) → AsksOnce (wire (a ∷ past)) → 1 ≤ many (is_on Sabm e) (frames_sent (wire past)) → Neither e (wire past) → Neither e (wire (a ∷ past))
 driver_stays e (driver.Sent f) past once some n = sent_closed e f (wire past) n.0 n.1 (by_sabm (is_on Sabm e f) refl)
   where
@@ -101,6 +102,7 @@ more_passed t station.Tick past = omega arith
 more_passed t station.Lost past = omega arith
 more_passed t station.Given past = omega arith
 
+-- so what is ended stays ended
 pub ended_stays : (e : ℕ) (x : LineAct) (line : List LineAct) → AsksOnce (wire (driver_past (x ∷ line))) → IsEnded e line → IsEnded e (x ∷ line)
 ended_stays e (AtDriver a) line once h =
     let n = driver_stays e a (driver_past line) once h.asked (h.shut, h.unasked) in
@@ -114,6 +116,7 @@ ended_stays e (AtModem a) line once h =
 
 -- ## A modem that opens none
 
+-- a modem that opened none had opened none before
 pub opens_before : (a : station.Act) (past : List station.Act) → OpensNothing (a ∷ past) → OpensNothing past
 opens_before (station.Sent f) past h = (or_parts (is_kind f.kind Sabm) (list_any (λ g. is_kind g.kind Sabm) (frames_sent past)) h).1
 opens_before (station.Called c) past h = h
@@ -122,6 +125,7 @@ opens_before station.Tick past h = h
 opens_before station.Lost past h = h
 opens_before station.Given past h = h
 
+-- where no SABM was sent none on e was
 pub no_sabms : (e : ℕ) (fs : List Frame) → list_any (λ g. is_kind g.kind Sabm) fs ≡ false → many (is_on Sabm e) fs ≤ 0
 no_sabms e [] h = omega arith
 no_sabms e (f ∷ fs) h =
@@ -132,12 +136,14 @@ no_sabms e (f ∷ fs) h =
 
 -- ## No data is sent any more
 
+-- where e is ended, and d open only while e is, the driver sends no data on d
 pub driver_says_none : (s : Setting) (n1 d e : ℕ) (f : Frame) (line : List LineAct) → Under s d e → IsOnceLine s n1 (AtDriver (driver.Sent f) ∷ line) → IsEnded e line → carries d f ≡ true → ⊥
 driver_says_none s n1 d e f line up h ended carry =
     let k = once_line_before s n1 (AtDriver (driver.Sent f)) line h in
     let o = (while_open s (driver.Sent f ∷ driver_past line) h.lawful.is_initiator h.lawful.driver_lawful).0 d carry in
     let t : true ≡ false = sym (up (driver_past line) k.lawful.driver_lawful o) ∙ ended.shut in cc
 
+-- nor does the modem, if it opens none
 pub modem_says_none : (s : Setting) (n1 d e : ℕ) (f : Frame) (line : List LineAct) → UnderM d e → IsOnceLine s n1 (AtModem (station.Sent f) ∷ line) → OpensNothing (modem_past line) → IsEnded e line → carries d f ≡ true → ⊥
 modem_says_none s n1 d e f line up h opens_none ended carry =
     let k = once_line_before s n1 (AtModem (station.Sent f)) line h in

@@ -325,6 +325,7 @@ both_right dialect xs ys h k = (
   list_any-append (is_unprompted dialect) xs ys ∙ or_from (list_any (is_unprompted dialect) xs) (list_any (is_unprompted dialect) ys) h.1 k.1,
 )
 
+-- on a talking line no command overlaps another one, and no final code answers nothing
 pub talks_in_turn : (s : Setting) (n1 : ℕ) (line : List LineAct) → TalksInTurn s n1 line
 unfolding TalksInTurn
 talks_in_turn s n1 line h stamps data_channels =
@@ -334,6 +335,7 @@ talks_in_turn s n1 line h stamps data_channels =
 
 -- ## The end
 
+-- what came on d is the information of the frames that came
 pub acts_got : (d : ℕ) (past : List station.Act) → info_got d past ≡ info_in d (frames_got past)
 acts_got d [] = refl
 acts_got d (station.Got f ∷ past) = ap (λ z. z ++ info_of d f) (acts_got d past)
@@ -343,6 +345,7 @@ acts_got d (station.Tick ∷ past) = acts_got d past
 acts_got d (station.Lost ∷ past) = acts_got d past
 acts_got d (station.Given ∷ past) = acts_got d past
 
+-- and what was sent that of those sent
 pub acts_sent : (d : ℕ) (past : List station.Act) → info_sent d past ≡ info_in d (frames_sent past)
 acts_sent d [] = refl
 acts_sent d (station.Sent f ∷ past) = ap (λ z. z ++ info_of d f) (acts_sent d past)
@@ -376,6 +379,7 @@ says_nothing dialect data_channels d none (c ∷ cs) = by_start (starts_afresh (
     by_start false false e rest = rest
     by_start false true e rest = cc
 
+-- where each command line on d has its final code, and all came that the driver sent, no command is left without an answer
 pub finishes_talk : (s : Setting) (n1 : ℕ) (line : List LineAct) → FinishesTalk s n1 line
 unfolding FinishesTalk
 finishes_talk s n1 line h d done stamps data_channels = by_place (d == 0) (is_named data_channels d) refl refl

@@ -34,6 +34,7 @@ more_text d f fs old false e h = h ∙ sym (nothing_more d f fs e)
 
 -- ## The modem
 
+-- while d is open at the modem, to which one SABM on it came at most, it sent all its information on d since d opened
 pub modem_sent_all : (n1 d : ℕ) (past : List station.Act) → StationLawful (responding n1) past → many (is_on Sabm d) (frames_got past) ≤ 1 → is_open Responder d past ≡ true → information_sent Responder d past ≡ info_in d (frames_sent past)
 unfolding StationLawful
 modem_sent_all n1 d [] l once o = cc
@@ -106,6 +107,7 @@ given_is d past = given_acts d (since Responder d past)
 
 -- ## The driver
 
+-- while d is open at the driver all information on d came since d opened
 pub driver_got_all : (s : Setting) (n1 d : ℕ) (line : List LineAct) → IsOnceLine s n1 line → is_open Initiator d (wire (driver_past line)) ≡ true → information_got Initiator d (wire (driver_past line)) ≡ info_in d (frames_got (wire (driver_past line)))
 driver_got_all s n1 d [] h o = cc
 driver_got_all s n1 d (AtModem a ∷ line) h o = driver_got_all s n1 d line (once_line_before s n1 (AtModem a) line h) o

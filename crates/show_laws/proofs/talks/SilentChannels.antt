@@ -29,6 +29,7 @@ use Rattle.show_laws.proofs.openings.UaBehindSabm.{shut}
 use Rattle.show_laws.proofs.stops.StopsBehindSabm.{unasked_yet}
 use Rattle.show_laws.proofs.stops.StopsBehindUa.{behind, older}
 
+-- a frame that carries octets of d is data, and on d
 pub carried_data : (d : ℕ) (f : Frame) → carries d f ≡ true → (is_data_frame f ≡ true) × (f.dlci ≡ d)
 carried_data d f e =
     let p = and_parts (not (d == 0)) (is_on Uih d f) e in
@@ -104,6 +105,7 @@ pub before_sabm : (s : Setting) (d e : ℕ) (past : List driver.Act) → s.role 
 before_sabm s d e past is up l none =
     driver_silent s d is (λ p. many (is_on Sabm e) (frames_sent (wire p)) ≤ 0) (λ a p c. few_sent (is_on Sabm e) a p c) (λ p k c. shut_under s d e p up k (unasked_yet s e p is k c).shut) past l none
 
+-- before a UA on e came the driver sent nothing on d
 pub before_ua : (s : Setting) (d e : ℕ) (past : List driver.Act) → s.role ≡ Initiator → Under s d e → Lawful s past → many (is_on Ua e) (frames_got (wire past)) ≤ 0 → info_in d (frames_sent (wire past)) ≡ []
 before_ua s d e past is up l none =
     driver_silent s d is (λ p. many (is_on Ua e) (frames_got (wire p)) ≤ 0) (λ a p c. few_got (is_on Ua e) a p c) (λ p k c. shut_under s d e p up k (not_open p c)) past l none
@@ -150,9 +152,11 @@ few_got_m t station.Tick past h = h
 few_got_m t station.Lost past h = h
 few_got_m t station.Given past h = h
 
+-- so it is at the modem
 abbrev pub UnderM : ℕ → ℕ → Type 0
 UnderM d e = (past : List station.Act) → is_open Responder d past ≡ true → is_open Responder e past ≡ true
 
+-- where the modem may send data on d, e is open
 pub gate_open : (n1 d e : ℕ) (past : List station.Act) (f : Frame) → UnderM d e → StationGated (responding n1) past f → f.dlci ≡ d → is_open Responder e past ≡ true
 gate_open n1 d e past f up g same = up past (subst (λ (n : ℕ). is_open Responder n past ≡ true) same g.is_open)
 
@@ -166,6 +170,7 @@ not_lost : (b : Bool) → not b ≡ true → b ≡ false
 not_lost false e = refl
 not_lost true e = cc
 
+-- before its UA on e was sent the modem sent nothing on d
 pub before_ua_m : (n1 d e : ℕ) (past : List station.Act) → UnderM d e → StationLawful (responding n1) past → many (is_on Ua e) (frames_sent past) ≤ 0 → info_in d (frames_sent past) ≡ []
 before_ua_m n1 d e past up l none =
     modem_silent n1 d (λ p. many (is_on Ua e) (frames_sent p) ≤ 0) (λ a p c. few_sent_m (is_on Ua e) a p c)

@@ -42,6 +42,7 @@ use Rattle.show_laws.proofs.texts.NoneAstray.{commands_before}
 
 -- ## Each point
 
+-- it was such a line before its newest act
 pub talking_before : (s : Setting) (n1 : ℕ) (x : LineAct) (line : List LineAct) → IsTalkingLine s n1 (x ∷ line) → IsTalkingLine s n1 line
 talking_before s n1 (AtDriver a) line h = record {
   lawful = lawful_before s n1 (AtDriver a) line h.lawful;
@@ -62,6 +63,7 @@ talking_before s n1 (AtModem a) line h = record {
 
 -- ## Answers to what wasn't sent
 
+-- the response to a CLD is an answer
 pub down_is_answer : (f : Frame) → brings_response cld f ≡ true → is_answer f ≡ true
 down_is_answer f down = or_right (is_mode_answer f) (message_answers (message_in f)) (by_read (message_in f) there)
   where
@@ -94,6 +96,7 @@ no_down f sent got asked shaped few came none down =
         by_test false e = let u : unit (answers x f) ≡ 0 = ap unit e in omega (arith, u)
         by_test true e = let u : unit (answers x f) ≡ 1 = ap unit e in let v : unit (brings_command cld x) ≡ 1 = ap unit (down_answers x f shape down e) in omega (arith, u, v)
 
+-- the driver asks for each connection once there
 pub talking_asked : (s : Setting) (n1 : ℕ) (line : List LineAct) → IsTalkingLine s n1 line → IsOnceLine s n1 line
 talking_asked s n1 line h = record { lawful = h.lawful; once = h.once }
 
@@ -207,11 +210,13 @@ modem_down s n1 f line h down =
     let all = clds_closed got in
     modem_ended s n1 0 line (talking_asked s n1 line (talking_before s n1 (AtModem (station.Sent f)) line h)) (omega (arith, some, all))
 
+-- where a frame of the driver begins d afresh, no data was sent on d before, or d or 0 ended for good
 pub driver_afresh : (s : Setting) (n1 d : ℕ) (stamps : ℕ → Stamp) (f : Frame) (line : List LineAct) (answered : Option Kind) → Under s d 0 → UnderM d 0 → IsTalkingLine s n1 (AtDriver (driver.Sent f) ∷ line) → starts_afresh answered d f ≡ true → IsFresh s d line
 driver_afresh s n1 d stamps f line answered up upm h =
     afresh_by answered d f (λ k. quiet (driver_sabm s n1 d 0 f line up upm h k)) (λ k. past_it 0 up upm (driver_answer s n1 0 stamps f line h k)) (λ k. quiet (driver_sabm s n1 d d f line (λ p l o. o) (λ p o. o) h k))
     (λ k. past_it d (λ p l o. o) (λ p o. o) (driver_answer s n1 d stamps f line h k)) (λ k. past_it 0 up upm (driver_down s n1 stamps f line h k))
 
+-- so it is where one of the modem does
 pub modem_afresh : (s : Setting) (n1 d : ℕ) (f : Frame) (line : List LineAct) (answered : Option Kind) → Under s d 0 → UnderM d 0 → IsTalkingLine s n1 (AtModem (station.Sent f) ∷ line) → starts_afresh answered d f ≡ true → IsFresh s d line
 modem_afresh s n1 d f line answered up upm h =
     afresh_by answered d f (λ k. absurd (modem_sabm s n1 0 f line h k)) (modem_answer s n1 d 0 f line up upm h) (λ k. absurd (modem_sabm s n1 d f line h k)) (modem_answer s n1 d d f line (λ p l o. o) (λ p o. o) h)

@@ -103,6 +103,7 @@ came_finals s past d l =
     ap (finals_in s.dialect) (ap lines_of (are_placed s past l d) ∙ placed_lines s.role d (map line_of (accepted s.role d past)) (wire past)) in
     omega (arith, few, same)
 
+-- with data of the driver the command lines sent on its connection are one more at most than the final codes of the modem
 pub driver_bound : (s : Setting) (n1 : ℕ) (f : Frame) (line : List LineAct) → IsTalkingLine s n1 (AtDriver (driver.Sent f) ∷ line) → is_data_frame f ≡ true → carries f.dlci f ≡ true
     → commands_in (lines (info_in f.dlci (frames_sent (wire (driver_past line))) ++ f.info)) ≤ finals_in s.dialect (lines (info_in f.dlci (frames_sent (modem_past line)))) + 1
 driver_bound s n1 f line h is carry =
@@ -132,6 +133,7 @@ driver_bound s n1 f line h is carry =
 
 -- ## The modem
 
+-- with data of the modem the final codes sent on its connection are no more than the command lines of the driver
 pub modem_bound : (s : Setting) (n1 : ℕ) (f : Frame) (line : List LineAct) → IsTalkingLine s n1 (AtModem (station.Sent f) ∷ line) → is_data_frame f ≡ true → carries f.dlci f ≡ true
     → finals_in s.dialect (lines (info_in f.dlci (frames_sent (modem_past line)) ++ f.info)) ≤ commands_in (lines (info_in f.dlci (frames_sent (wire (driver_past line)))))
 modem_bound s n1 f line h is carry =

@@ -19,9 +19,11 @@ pub record TextFits (dialect : Dialect) (t : Talk) (out back : List ℕ) : Type 
   pub count : commands_in (lines out) ≡ finals_in dialect (lines back) + under_way t.window
   pub asked : is_asked t.window ≡ true
 
+-- before anything was sent nothing is kept
 pub silent_fits : (dialect : Dialect) → TextFits dialect silence [] []
 silent_fits dialect = record { driver_run = refl; modem_run = refl; count = refl; asked = refl }
 
+-- what fits fits the same texts
 pub same_fits : (dialect : Dialect) (t u : Talk) (out out2 back back2 : List ℕ) → u ≡ t → out2 ≡ out → back2 ≡ back → TextFits dialect t out back → TextFits dialect u out2 back2
 same_fits dialect t u out out2 back back2 e f g h = record {
   driver_run = ap (λ (x : Talk). x.driver) e ∙ (h.driver_run ∙ sym (ap kept_run f));
@@ -41,6 +43,7 @@ pub record Tells (dialect : Dialect) (none_overlaps none_unprompted : Bool) (t :
   pub prompted : none_unprompted ≡ false
   pub fits : TextFits dialect t out back
 
+-- where the driver's octets end no more than one command line beyond the final codes, no command overlaps, and what is kept fits
 pub driver_text : (dialect : Dialect) (t : Talk) (out back x : List ℕ) → TextFits dialect t out back → commands_in (lines (out ++ x)) ≤ finals_in dialect (lines back) + 1
     → Tells dialect (list_any overlaps (told_each dialect ToModem t x)) (list_any (is_unprompted dialect) (told_each dialect ToModem t x)) (heard_each dialect ToModem t x) (out ++ x) back
 driver_text dialect t out back [] h few = record { apart = refl; prompted = refl; fits = same_fits dialect t t out (out ++ []) back back refl (append-nil out) refl h }
@@ -67,6 +70,7 @@ driver_text dialect t out back (c ∷ x) h few =
           };
     }
 
+-- where the modem's end no more final codes than there are command lines, each answers one, and what is kept fits
 pub modem_text : (dialect : Dialect) (t : Talk) (out back x : List ℕ) → TellsApart dialect → TextFits dialect t out back → finals_in dialect (lines (back ++ x)) ≤ commands_in (lines out)
     → Tells dialect (list_any overlaps (told_each dialect FromModem t x)) (list_any (is_unprompted dialect) (told_each dialect FromModem t x)) (heard_each dialect FromModem t x) out (back ++ x)
 modem_text dialect t out back [] apart h few = record { apart = refl; prompted = refl; fits = same_fits dialect t t out out back (back ++ []) refl refl (append-nil back) h }

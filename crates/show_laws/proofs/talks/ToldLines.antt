@@ -39,6 +39,7 @@ pub record DriverSays (dialect : Dialect) (w : Option OpenWindow) (ls : List (Li
   pub count : under_way (window_after dialect ToModem w ls) ≡ under_way w + commands_in ls
   pub asked : is_asked (window_after dialect ToModem w ls) ≡ true
 
+-- so it is where one command at most is under way with these lines
 pub driver_says : (dialect : Dialect) (w : Option OpenWindow) (ls : List (List ℕ)) → under_way w + commands_in ls ≤ 1 → is_asked w ≡ true → DriverSays dialect w ls
 driver_says dialect w [] few asked = record { apart = refl; prompted = refl; count = omega arith; asked = asked }
 driver_says dialect w (l ∷ ls) few asked = by_command (is_none (refusal_of l)) refl few (λ v f a. driver_says dialect v ls f a)
@@ -116,6 +117,7 @@ solicited_line dialect (Some o) l apart few asked = by_echo (is_echo o l) refl
 none_more : (n : ℕ) → n ≡ 0 + n
 none_more n = omega arith
 
+-- so it is where no more final codes are among these lines than commands are under way, and no command line is one
 pub modem_says : (dialect : Dialect) (w : Option OpenWindow) (ls : List (List ℕ)) → TellsApart dialect → finals_in dialect ls ≤ under_way w → is_asked w ≡ true → ModemSays dialect w ls
 modem_says dialect w [] apart few asked = record { apart = refl; prompted = refl; count = omega arith; asked = asked }
 modem_says dialect w (l ∷ ls) apart few asked = by_kind_of (dialect.kind_of l) refl few (λ v f a. modem_says dialect v ls apart f a)

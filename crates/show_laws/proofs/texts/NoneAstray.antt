@@ -36,6 +36,7 @@ record IsTextLine (s : Setting) (n1 : ℕ) (line : List LineAct) : Type 0 where
   commands : TakesCommandLines (driver_past line)
   offers : OffersText (modem_past line)
 
+-- a driver given command lines alone was given such alone before
 pub commands_before : (a : driver.Act) (past : List driver.Act) → TakesCommandLines (a ∷ past) → TakesCommandLines past
 commands_before (driver.Took q) past h = h.1
 commands_before (driver.Got f) past h = h
@@ -81,6 +82,7 @@ modem_text n1 past f l offers is =
     let all : is_text ((data_out (responding n1).role f.dlci past ++ f.info) ++ gated.later) ≡ true = sym (ap is_text gated.is_offered) ∙ offered_text (responding n1).role f.dlci past offers in
     (text_parts (data_out (responding n1).role f.dlci past) f.info (text_parts (data_out (responding n1).role f.dlci past ++ f.info) gated.later all).0).1
 
+-- on a lawful line no data is a control message, where command lines are given and lines offered
 pub carries_text : (s : Setting) (n1 : ℕ) (line : List LineAct) → CarriesText s n1 line
 unfolding CarriesText
 carries_text s n1 line h commands offers stamps most =

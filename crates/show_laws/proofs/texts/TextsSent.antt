@@ -20,9 +20,11 @@ use Rattle.modem_history.specs.TwoEnds.{TakesCommandLines}
 use Rattle.modem_show.specs.Judging.{is_text}
 use Rattle.show_laws.specs.Laws.{OffersText}
 
+-- two texts, one behind the other, are text
 pub text_both : (xs ys : List ℕ) → is_text xs ≡ true → is_text ys ≡ true → is_text (xs ++ ys) ≡ true
 text_both xs ys h k = list_all-append (λ c. is_printable c || is_line_end c) xs ys ∙ and_from (is_text xs) (is_text ys) h k
 
+-- and both parts of a text are
 pub text_parts : (xs ys : List ℕ) → is_text (xs ++ ys) ≡ true → (is_text xs ≡ true) × (is_text ys ≡ true)
 text_parts xs ys h = and_parts (is_text xs) (is_text ys) (sym (list_all-append (λ c. is_printable c || is_line_end c) xs ys) ∙ h)
 

@@ -52,6 +52,7 @@ told_on s past a n none k =
     let d : sends is_answer (drop 1 (owed s past)) ≡ sends is_answer n.later = ap (λ (xs : List Act). sends is_answer (drop 1 xs)) n.is_next in
     omega (arith, e, parts, none, d, k)
 
+-- a driver whose line isn't lost has sent or owes an answer for each ask, where control commands came while 0 was open
 pub driver_enough : (s : Setting) (past : List Act) → Lawful s past → is_lost past ≡ false → ReadsWhileOpen s.role (wire past) → Enough s past
 unfolding Lawful
 driver_enough s [] l live reads = omega arith
@@ -88,6 +89,7 @@ station_sent s past f false n k =
     let d : many is_answer (drop 1 (owed_frames s past)) ≡ many is_answer n.later = ap (λ (fs : List Frame). many is_answer (drop 1 fs)) n.is_next in
     omega (arith, e, d, k)
 
+-- so has a station whose line isn't lost, for each that came to it
 pub station_enough : (s : StationSetting) (past : List station.Act) → StationLawful s past → list_any sending.is_loss past ≡ false → ReadsWhileOpen s.role past → StationEnough s past
 unfolding StationLawful
 station_enough s [] l live reads = omega arith

@@ -19,6 +19,7 @@ use Rattle.show_laws.proofs.counts.ManyFrames.{many}
 use Rattle.show_laws.proofs.counts.DriverCounts.{sends}
 use Rattle.show_laws.proofs.lines.CapturedFrames.{shows}
 
+-- where nothing is under way, and commands came while 0 was open, each ask was answered or needn't be
 pub answers_while_open : (s : Setting) (n1 : ℕ) (line : List LineAct) → AnswersWhileOpen s n1 line
 unfolding AnswersWhileOpen Complete StationComplete
 answers_while_open s n1 line h done at_driver at_modem stamps =

@@ -12,6 +12,7 @@ none_in : {X : Type 0} (xss : List (List X)) → ((k : ℕ) → length (at_place
 none_in [] h = omega arith
 none_in (xs ∷ xss) h = let first = h zero in let rest = none_in xss (λ k. h (suc k)) in let all = amount_first xs xss in omega arith
 
+-- where no list is shorter, there is no less in all
 pub amount_grows : {X : Type 0} (xss yss : List (List X)) → ((k : ℕ) → length (at_place k xss) ≤ length (at_place k yss)) → amount xss ≤ amount yss
 amount_grows [] yss h = omega arith
 amount_grows (xs ∷ xss) [] h = let none = none_in (xs ∷ xss) h in omega arith
@@ -22,6 +23,7 @@ amount_grows (xs ∷ xss) (ys ∷ yss) h =
     let other = amount_first ys yss in
     omega arith
 
+-- and where one is longer, there is more
 pub amount_more : {X : Type 0} (j : ℕ) (xss yss : List (List X)) → ((k : ℕ) → length (at_place k xss) ≤ length (at_place k yss)) → length (at_place j xss) + 1 ≤ length (at_place j yss) → amount xss + 1 ≤ amount yss
 amount_more j xss [] h more = let none = h j in omega arith
 amount_more zero [] (ys ∷ yss) h more = let other = amount_first ys yss in omega arith

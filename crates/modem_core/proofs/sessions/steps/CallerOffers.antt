@@ -10,6 +10,7 @@ use Rattle.modem_core.proofs.sessions.steps.FirstOffers.{either, none_held, AreA
 
 -- ## Rings of callers
 
+-- no two callers have a ring together
 pub rings_apart : AreApart IsRingOf
 rings_apart = record {
   same = λ n m i a b. sym a ∙ b;
@@ -19,6 +20,7 @@ rings_apart = record {
     by_test : (n i : ℕ) → ((i == n) ≡ true × i ≡ n) ⊎ ((i == n) ≡ false × i ≢ n) → (i ≡ n) ⊎ (¬ (i ≡ n))
     by_test n i h = ⊎_elim (λ (y : (i == n) ≡ true × i ≡ n). inl y.1) (λ (y : (i == n) ≡ false × i ≢ n). inr y.1) h
 
+-- an outcome that was told is one more in its caller's ring, and every other ring stays
 pub ring_given : (o : Outcome) (now later : DriverView) → Appends o.caller o now.told later.told → Changes (λ k. k ≡ o.caller) FallsByOne now.free later.free → later.told_back ≡ now.told_back → GivesOne IsRingOf (caller_of o) o (caller_rings now) (caller_rings later)
 ring_given o now later a c back = record {
   here = λ i e. subst (λ (j : ℕ). at_place j later.told ≡ at_place j now.told ++ o ∷ []) (sym e) a.here;
@@ -29,6 +31,7 @@ ring_given o now later a c back = record {
   is_one = refl;
 }
 
+-- a ring that handed one back is known to have no free place, and counts it
 pub ring_full : (n : ℕ) (free freer back backer : List ℕ) → Changes (λ k. k ≡ n) RunsOut free freer → Changes (λ k. k ≡ n) RisesByOne back backer → FillsUp IsRingOf n free freer back backer
 ring_full n free freer back backer c e = record { here = c.here; others = c.others; counts = e.here; count_others = e.others }
 
@@ -38,6 +41,7 @@ pub record TellsSo (first now : DriverView) (held : List Bool) (waited waits : L
   pub fewer : OneFewer caller_of IsRingOf (IsCaller first.desk) (caller_rings first) (caller_rings now) held waited waits left moved
   pub alone : TellsAlone first now
 
+-- before the first all wait to be offered
 pub tells_first : (d : DriverView) (held : List Bool) (waited : List Outcome) (count : ℕ) → ((n : ℕ) → slice_index_or held n false ≡ false) → count ≡ length waited → TellsSo d d held waited waited (count - 0) false
 tells_first d held waited count none e = record {
   fewer = subst (λ (n : ℕ). OneFewer caller_of IsRingOf (IsCaller d.desk) (caller_rings d) (caller_rings d) held waited waited n false) (sym e ∙ all) (placing_first caller_of IsRingOf (IsCaller d.desk) (caller_rings d) held waited none);
@@ -47,6 +51,7 @@ tells_first d held waited count none e = record {
     all : count ≡ count - 0
     all = omega arith
 
+-- one more was offered, or stays
 pub tells_more : (first now later : DriverView) (held more_held : List Bool) (waited waits rest : List Outcome) (place end : ℕ) (moved earlier : Bool) → place < end
     → OffersFirst caller_of IsRingOf (IsCaller now.desk) (caller_rings now) (caller_rings later) held more_held waits rest moved → TellsAlone now later
     → TellsSo first now held waited waits (end - place) earlier → TellsSo first later more_held waited rest (end - (place + 1)) (earlier || moved)
@@ -67,6 +72,7 @@ tells_more first now later held more_held waited waits rest place end moved earl
       };
     }
 
+-- behind the last all are placed that may be
 pub tells_last : (first now : DriverView) (held : List Bool) (waited waits : List Outcome) (left : ℕ) (moved : Bool) → left ≡ 0 → TellsSo first now held waited waits left moved
     → Placed caller_of IsRingOf (IsCaller first.desk) (caller_rings first) (caller_rings now) waited waits moved
 tells_last first now held waited waits left moved none so =

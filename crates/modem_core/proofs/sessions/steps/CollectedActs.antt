@@ -9,6 +9,7 @@ use Rattle.modem_history.specs.Turns.{outcomes_told, lines_heard}
 use Rattle.modem_core.specs.WaitingLists.{WaitingLists, Puts}
 use Rattle.modem_core.proofs.sessions.steps.ListenedLines.{heard_both}
 
+-- the outcomes of joined acts are joined
 pub told_both : (xs ys : List Act) → outcomes_told (xs ++ ys) ≡ outcomes_told xs ++ outcomes_told ys
 told_both [] ys = refl
 told_both (Told o ∷ xs) ys = ap (λ (os : List Outcome). o ∷ os) (told_both xs ys)
@@ -28,9 +29,11 @@ pub record KeepsSo (first now : WaitingLists) (all rest : List Act) : Type 0 whe
   pub lines : length (lines_heard all) ≤ first.room → map heard_as now.lines ++ lines_heard rest ≡ map heard_as first.lines ++ lines_heard all
   pub room : length (lines_heard all) ≤ first.room → length (lines_heard rest) ≤ now.room
 
+-- before the first act all are still to come
 pub keeps_first : (w : WaitingLists) (all : List Act) → KeepsSo w w all all
 keeps_first w all = record { outcomes = λ _. refl; lines = λ _. refl; room = λ h. h }
 
+-- the next act is put behind
 pub keeps_put : (first now next : WaitingLists) (all rest later : List Act) (a : Act) → rest ≡ a ∷ later → Puts now next a → KeepsSo first now all rest → KeepsSo first next all later
 keeps_put first now next all rest later a e p k =
     let told : outcomes_told rest ≡ outcomes_told (a ∷ []) ++ outcomes_told later = ap outcomes_told e ∙ told_both (a ∷ []) later in
@@ -53,8 +56,10 @@ keeps_put first now next all rest later a e p k =
       room = λ fit. let roomy = k.room fit in let left = p.room in omega arith;
     }
 
+-- at last all that was told waits, where that is 128 at most
 pub kept_outcomes : (first now : WaitingLists) (all : List Act) → KeepsSo first now all [] → length first.outcomes + length (outcomes_told all) ≤ 128 → now.outcomes ≡ first.outcomes ++ outcomes_told all
 kept_outcomes first now all k few = sym (append-nil now.outcomes) ∙ k.outcomes few
 
+-- and all that was heard, where there was room for it
 pub kept_lines : (first now : WaitingLists) (all : List Act) → KeepsSo first now all [] → length (lines_heard all) ≤ first.room → map heard_as now.lines ≡ map heard_as first.lines ++ lines_heard all
 kept_lines first now all k fit = sym (append-nil (map heard_as now.lines)) ∙ k.lines fit

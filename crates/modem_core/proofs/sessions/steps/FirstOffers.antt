@@ -20,12 +20,14 @@ false_true h = cc
 not_both : {c : Bool} → c ≡ false → c ≡ true → ⊥
 not_both e f = false_true (sym e ∙ f)
 
+-- of two, it doesn't matter which comes first
 pub either : (c d : Bool) → (c || d) ≡ (d || c)
 either true true = refl
 either true false = refl
 either false true = refl
 either false false = refl
 
+-- at first no key is held up
 pub none_held : (m n : ℕ) → slice_index_or (replicate m false) n false ≡ false
 none_held zero n = refl
 none_held (suc m) zero = refl
@@ -91,6 +93,7 @@ gave_more {X} key at before now later waited stay rest x n i apart g none a h = 
       rest_are = ap (λ (ys : List X). h.since ++ ys) (sym (other_of key n stay rest x e)) ∙ h.rest_are;
     }
 
+-- then one fewer waits to be offered, and something moved
 pub placing_given : {X : Type 0} (key : X → ℕ) (at : ℕ → ℕ → Type 0) (known : ℕ → Type 0) (before now later : Rings X) (held : List Bool) (waited stay rest : List X) (x : X) (moved : Bool)
     → AreApart at → GivesOne at (key x) x now later → known (key x) → slice_index_or held (key x) false ≡ false
     → Placing key at known before now held waited (x ∷ rest) stay moved → Placing key at known before later held waited rest stay true
@@ -150,6 +153,7 @@ stay_own {X} key n stay x e none =
     let all = length-append (of_key key n stay) (x ∷ []) in
     omega (arith, long, all)
 
+-- then it stays behind the others, and its key is held up
 pub placing_back : {X : Type 0} (key : X → ℕ) (at : ℕ → ℕ → Type 0) (known : ℕ → Type 0) (before now : Rings X) (freer backer : List ℕ) (held : List Bool) (waited stay rest : List X) (x : X) (moved : Bool)
     → AreApart at → FillsUp at (key x) now.free freer now.back backer → key x < length held → slice_index_or held (key x) false ≡ false
     → Placing key at known before now held waited (x ∷ rest) stay moved
@@ -223,6 +227,7 @@ placing_passed {X} key at known before now held waited stay rest x moved way p =
 
 -- ## From first to last
 
+-- before the first all wait to be offered, and none stays
 pub placing_first : {X : Type 0} (key : X → ℕ) (at : ℕ → ℕ → Type 0) (known : ℕ → Type 0) (before : Rings X) (held : List Bool) (waited : List X) → ((n : ℕ) → slice_index_or held n false ≡ false)
     → OneFewer key at known before before held waited waited (length waited) false
 placing_first key at known before held waited none = record {
@@ -252,6 +257,7 @@ no_more : {X : Type 0} (xs : List X) → length xs ≡ 0 → xs ≡ []
 no_more [] h = refl
 no_more (x ∷ xs) h = absurd (omega arith)
 
+-- where none waits to be offered any more, all is placed that may be
 pub placed_last : {X : Type 0} (key : X → ℕ) (at : ℕ → ℕ → Type 0) (known : ℕ → Type 0) (before now : Rings X) (held : List Bool) (waited new : List X) (moved : Bool)
     → OneFewer key at known before now held waited new 0 moved → Placed key at known before now waited new moved
 placed_last {X} key at known before now held waited new moved o =
@@ -318,6 +324,7 @@ first_waits {X} key at known before now held waited old new x left moved e o = b
       placing = subst (λ (z : X). Placing key at known before now held waited (z ∷ ws) stay moved) (sym (same_head x y new (ws ++ stay) are)) p;
     }
 
+-- the first was offered, and given to the rings of its key
 pub offers_given : {X : Type 0} (key : X → ℕ) (at : ℕ → ℕ → Type 0) (known : ℕ → Type 0) (now later : Rings X) (held : List Bool) (old new : List X) (x : X)
     → old ≡ x ∷ new → AreApart at → GivesOne at (key x) x now later → known (key x) → slice_index_or held (key x) false ≡ false → OffersFirst key at known now later held held old new true
 unfolding OffersFirst
@@ -328,6 +335,7 @@ offers_given key at known now later held old new x e apart g k way before waited
 behind : {X : Type 0} (new rest stay back : List X) (x : X) → back ≡ new ++ x ∷ [] → new ≡ rest ++ stay → back ≡ rest ++ (stay ++ x ∷ [])
 behind {X} new rest stay back x e are = e ∙ (ap (λ (ys : List X). ys ++ x ∷ []) are ∙ append_assoc rest stay (x ∷ []))
 
+-- the first was offered and handed back, and stays behind the others
 pub offers_back : {X : Type 0} (key : X → ℕ) (at : ℕ → ℕ → Type 0) (known : ℕ → Type 0) (now : Rings X) (freer backer : List ℕ) (held : List Bool) (old new back : List X) (x : X)
     → old ≡ x ∷ new → back ≡ new ++ x ∷ [] → AreApart at → FillsUp at (key x) now.free freer now.back backer → key x < length held → slice_index_or held (key x) false ≡ false
     → OffersFirst key at known now (record now { free = freer; back = backer }) held (slice_set held (key x) true) old back false
@@ -336,6 +344,7 @@ offers_back key at known now freer backer held old new back x e are apart dry lt
     let s = first_waits key at known before now held waited old new x left earlier e o in
     record { waits = s.rest; stay = s.stay ++ x ∷ []; are = behind new s.rest s.stay back x are s.are; left_are = s.left_are; placing = placing_back key at known before now freer backer held waited s.stay s.rest x earlier apart dry lt way s.placing }
 
+-- the first wasn't offered, and stays behind the others
 pub offers_passed : {X : Type 0} (key : X → ℕ) (at : ℕ → ℕ → Type 0) (known : ℕ → Type 0) (now : Rings X) (held : List Bool) (old new back : List X) (x : X)
     → old ≡ x ∷ new → back ≡ new ++ x ∷ [] → (known (key x) → slice_index_or held (key x) false ≡ true) → OffersFirst key at known now now held held old back false
 unfolding OffersFirst
@@ -343,6 +352,7 @@ offers_passed key at known now held old new back x e are way before waited left 
     let s = first_waits key at known before now held waited old new x left earlier e o in
     record { waits = s.rest; stay = s.stay ++ x ∷ []; are = behind new s.rest s.stay back x are s.are; left_are = s.left_are; placing = placing_passed key at known before now held waited s.stay s.rest x earlier way s.placing }
 
+-- where none waits, nothing was offered
 pub offers_none : {X : Type 0} (key : X → ℕ) (at : ℕ → ℕ → Type 0) (known : ℕ → Type 0) (now : Rings X) (held : List Bool) (old new : List X) → length old ≡ 0 → OffersFirst key at known now now held held old new false
 unfolding OffersFirst
 offers_none key at known now held old new none before waited left earlier o =

@@ -10,10 +10,12 @@ use Rattle.modem_desk.specs.declared.request.Urc.{Urc}
 use Rattle.modem_history.specs.Sessions.{caller_outcomes}
 use Rattle.modem_core.specs.WaitingLists.{IsFirstOf, IsLeast}
 
+-- lines of which there is no first are none
 pub none_of : (us : List Urc) → ((0 < length us) → ⊥) → us ≡ []
 none_of [] h = refl
 none_of (u ∷ us) h = absurd (h (omega arith))
 
+-- the line at the first place is the first, of its kind
 pub first_of : (us : List Urc) (u : Urc) → 0 < length us → u ≡ slice_index_or us 0 u → IsFirstOf u.kind us
 first_of [] u some e = absurd (no_some some)
   where

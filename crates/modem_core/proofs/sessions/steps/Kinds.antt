@@ -20,6 +20,7 @@ or_right : (b c : Bool) → c ≡ true → (b || c) ≡ true
 or_right true c h = refl
 or_right false c h = h
 
+-- a kind that is listened to is one of these
 pub listened_in : (ks : List UrcKind) (k : UrcKind) → is_listened ks k ≡ true → Contains ks k
 listened_in [] k h = cc
 listened_in (m ∷ ks) k h = by_test (is_same_kind k m) refl h (listened_in ks k)
@@ -28,6 +29,7 @@ listened_in (m ∷ ks) k h = by_test (is_same_kind k m) refl h (listened_in ks k
     by_test true e t go = (0, omega arith, sym (same_place k m e))
     by_test false e t go = Contains-append_right (m ∷ []) ks k (go t)
 
+-- and one of these is listened to
 pub in_listened : (ks : List UrcKind) (k : UrcKind) → Contains ks k → is_listened ks k ≡ true
 in_listened [] k c = absurd (none_in k c)
 in_listened (m ∷ ks) k (zero, lt, e) = or_left (is_same_kind k m) (is_listened ks k) (ap (is_same_kind k) e ∙ same_itself k)

@@ -41,6 +41,7 @@ many_few number n lines = let both = length-filter_both (λ (u : Urc). number u 
 
 -- ## One more
 
+-- a line that comes last raises the count of its number
 pub raised : (number : Urc → ℕ) (counts : List ℕ) (lines : List Urc) (u : Urc) → AreCounts number counts lines → AreCounts number (slice_set counts (number u) (slice_index_or counts (number u) 0 + 1)) (lines ++ u ∷ [])
 unfolding many_of
 raised number counts lines u are n small = by_place (cases_eq n (number u))
@@ -110,6 +111,7 @@ few_both a b = by_tests (nat_lt a 256) refl (nat_lt b 256) refl
 abbrev pub FewSoFar : (bits : ℕ) → (left all : List ℕ) → Type 0
 FewSoFar bits left all = (nat_lt bits 256 && list_all (λ (c : ℕ). nat_lt c 256) left) ≡ list_all (λ (c : ℕ). nat_lt c 256) all
 
+-- the next count is looked at
 pub few_further : (bits c : ℕ) (left rest all : List ℕ) → left ≡ c ∷ rest → FewSoFar bits left all → FewSoFar (bit_or bits c) rest all
 few_further bits c left rest all split so_far =
     ap (λ (x : Bool). x && list_all (λ (n : ℕ). nat_lt n 256) rest) (few_both bits c)
@@ -120,6 +122,7 @@ few_further bits c left rest all split so_far =
     and_assoc true y z = refl
     and_assoc false y z = refl
 
+-- once all were looked at, the bits are below 256 just where all counts are
 pub few_last : (bits : ℕ) (left all : List ℕ) → left ≡ [] → FewSoFar bits left all → nat_lt bits 256 ≡ list_all (λ (c : ℕ). nat_lt c 256) all
 few_last bits left all none so_far = sym (and_true (nat_lt bits 256)) ∙ subst (λ (ns : List ℕ). FewSoFar bits ns all) none so_far
   where
@@ -129,6 +132,7 @@ few_last bits left all none so_far = sym (and_true (nat_lt bits 256)) ∙ subst 
 
 -- ## One fewer
 
+-- once the first line goes the count of its number is lowered
 pub lowered : (number : Urc → ℕ) (counts : List ℕ) (rest : List Urc) (u : Urc) → AreCounts number counts (u ∷ rest) → AreCounts number (slice_set counts (number u) (slice_index_or counts (number u) 0 - 1)) rest
 unfolding many_of
 lowered number counts rest u are n small = by_place (cases_eq n (number u))
@@ -148,9 +152,11 @@ lowered number counts rest u are n small = by_place (cases_eq n (number u))
 
 -- ## The others
 
+-- of no lines all counts are 0
 pub none_counted : (number : Urc → ℕ) (n : ℕ) → AreCounts number (replicate n 0) []
 none_counted number n k small = get_or-replicate n k 0 0 (subst (λ (m : ℕ). k < m) (length-replicate n 0) small)
 
+-- the counts stay as some first lines go behind the others
 pub turned_round : (number : Urc → ℕ) (counts : List ℕ) (lines : List Urc) (count : ℕ) → AreCounts number counts lines → AreCounts number counts (drop count lines ++ take count lines)
 unfolding many_of
 turned_round number counts lines count are n small =
@@ -193,6 +199,7 @@ counted_rest channels kinds later_channels later_kinds lines rest u d k are is d
       by_kind = subst (λ (cs : List ℕ). AreCounts place_of_kind cs rest) (sym kinds_are) (lowered place_of_kind kinds rest u were.by_kind);
     }
 
+-- so do both counts
 pub counted_round : (channels kinds : List ℕ) (lines later : List Urc) (count : ℕ) → AreCounted channels kinds lines → later ≡ drop count lines ++ take count lines → AreCounted channels kinds later
 counted_round channels kinds lines later count are is =
     subst (AreCounted channels kinds) (sym is)
@@ -203,15 +210,18 @@ counted_round channels kinds lines later count are is =
       by_kind = turned_round place_of_kind kinds lines count are.by_kind;
     })
 
+-- of no lines both have 0 everywhere
 pub counted_at_first : (lines : List Urc) → lines ≡ [] → AreCounted (replicate 62 0) (replicate 263 0) lines
 counted_at_first lines is = subst (AreCounted (replicate 62 0) (replicate 263 0)) (sym is)
     (record { all_channels = length-replicate {A = ℕ} 62 0; all_kinds = length-replicate {A = ℕ} 263 0; by_channel = none_counted channel_of 62; by_kind = none_counted place_of_kind 263 })
 
 -- ## Those that stand in a list
 
+-- before the first line none is counted
 pub counted_none : (lines : List Urc) → AreCounted (replicate 62 0) (replicate 263 0) (take 0 lines)
 counted_none lines = counted_at_first (take 0 lines) refl
 
+-- there are fewer than all lines, while some are still to be counted
 pub room_further : (number : Urc → ℕ) (counts : List ℕ) (lines : List Urc) (n i many : ℕ) → AreCounts number counts (take i lines) → n < length counts → i < many → many ≡ length lines → slice_index_or counts n 0 < many
 unfolding many_of
 room_further number counts lines n i many are small less is =
@@ -220,20 +230,24 @@ room_further number counts lines n i many are small less is =
     let short : length (take i lines) ≡ i = length-take-le i lines (omega arith) in
     omega (arith, same, few, short)
 
+-- the line at the next place is counted
 pub counted_further : (channels kinds later_channels later_kinds : List ℕ) (lines : List Urc) (i : ℕ) (u : Urc) (d k : ℕ) → i < length lines → u ≡ slice_index_or lines i u → AreCounted channels kinds (take i lines) → d ≡ u.dlci.number → k ≡ kind_place u.kind
     → later_channels ≡ slice_set channels d (slice_index_or channels d 0 + 1) → later_kinds ≡ slice_set kinds k (slice_index_or kinds k 0 + 1)
     → AreCounted later_channels later_kinds (take (i + 1) lines)
 counted_further channels kinds later_channels later_kinds lines i u d k inside is are d_is k_is by_channel by_kind =
     counted_last channels kinds later_channels later_kinds (take i lines) (take (i + 1) lines) u d k are (rw add-one (take-suc lines i u inside ∙ ap (λ (x : Urc). take i lines ++ x ∷ []) (sym is))) d_is k_is by_channel by_kind
 
+-- behind the last all are
 pub counted_all : (channels kinds : List ℕ) (lines : List Urc) (i : ℕ) → i ≡ length lines → AreCounted channels kinds (take i lines) → AreCounted channels kinds lines
 counted_all channels kinds lines i all are = subst (AreCounted channels kinds) (ap (λ (n : ℕ). take n lines) all ∙ take-length lines) are
 
 -- ## Looking at a count
 
+-- the count of a connection is its backlog
 pub counts_channel : (channels kinds : List ℕ) (lines : List Urc) (d : ℕ) → AreCounted channels kinds lines → d < 62 → slice_index_or channels d 0 ≡ backlog_in d lines
 counts_channel channels kinds lines d are small = are.by_channel d (subst (λ (n : ℕ). d < n) (sym are.all_channels) small)
 
+-- the count of a kind is how many lines of it wait
 pub counts_kind : (channels kinds : List ℕ) (lines : List Urc) (k : ℕ) → AreCounted channels kinds lines → k < 263 → slice_index_or kinds k 0 ≡ length (of_key place_of k lines)
 counts_kind channels kinds lines k are small = are.by_kind k (subst (λ (n : ℕ). k < n) (sym are.all_kinds) small)
 
@@ -241,5 +255,6 @@ counts_kind channels kinds lines k are small = are.by_kind k (subst (λ (n : ℕ
 pub channel_room : (channels kinds : List ℕ) (lines later : List Urc) (u : Urc) (d many : ℕ) → AreCounted channels kinds lines → d < 62 → later ≡ lines ++ u ∷ [] → many ≡ length later → slice_index_or channels d 0 < many
 channel_room channels kinds lines later u d many are small is long = fewer_than channel_of channels lines d many are.by_channel (subst (λ (n : ℕ). d < n) (sym are.all_channels) small) (long ∙ (ap length is ∙ length-append lines (u ∷ [])))
 
+-- and fewer of its kind too
 pub kind_room : (channels kinds : List ℕ) (lines later : List Urc) (u : Urc) (k many : ℕ) → AreCounted channels kinds lines → k < 263 → later ≡ lines ++ u ∷ [] → many ≡ length later → slice_index_or kinds k 0 < many
 kind_room channels kinds lines later u k many are small is long = fewer_than place_of_kind kinds lines k many are.by_kind (subst (λ (n : ℕ). k < n) (sym are.all_kinds) small) (long ∙ (ap length is ∙ length-append lines (u ∷ [])))

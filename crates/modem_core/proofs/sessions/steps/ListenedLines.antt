@@ -30,6 +30,7 @@ abbrev pub hears : Setting → Act → Bool
 hears s (Heard kind d line) = s.listens kind
 hears s a = true
 
+-- each of these acts is so
 abbrev pub Hear : Setting → List Act → Type 0
 Hear s acts = list_all (hears s) acts ≡ true
 
@@ -114,6 +115,7 @@ calls_hear s v a =
 
 -- ## The lines of a call
 
+-- the lines of joined acts are joined
 pub heard_both : (xs ys : List Act) → lines_heard (xs ++ ys) ≡ lines_heard xs ++ lines_heard ys
 heard_both [] ys = refl
 heard_both (Heard k d line ∷ xs) ys = ap (λ (hs : List Act). Heard k d line ∷ hs) (heard_both xs ys)

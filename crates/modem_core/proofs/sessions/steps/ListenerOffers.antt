@@ -29,6 +29,7 @@ is_listener (k ∷ ks) n zero = ⊎_elim (λ (y : (kind_place k == n) ≡ true �
 is_listener (k ∷ ks) n (suc i) = ⊎_elim (λ (e : IsListenerOf ks n i). inl (record { kind = e.kind; is_place = e.is_place; is_at = e.is_at }))
     (λ (o : ¬ IsListenerOf ks n i). inr (λ e. o (record { kind = e.kind; is_place = e.is_place; is_at = e.is_at }))) (is_listener ks n i)
 
+-- no two kinds have a listener together
 pub listeners_apart : (ks : List UrcKind) → AreApart (IsListenerOf ks)
 listeners_apart ks = record {
   same = λ n m i a b. sym a.is_place ∙ (ap kind_place (one_kind ks i a.kind b.kind a.is_at b.is_at) ∙ b.is_place);
@@ -51,6 +52,7 @@ subscription_at ks k i e = record { kind = k; is_place = refl; is_at = e }
 at_subscription : (ks : List UrcKind) (k : UrcKind) (i : ℕ) → IsListenerOf ks (kind_place k) i → get_elem? ks i ≡ some k
 at_subscription ks k i e = e.is_at ∙ ap some (same_kind e.kind k e.is_place)
 
+-- a line that was announced is one more for each listener of its kind, and every other listener's stay
 pub listener_given : (ks : List UrcKind) (u : Urc) (now later : DriverView) → Contains ks u.kind → Announces ks u now.announced later.announced → Changes (Hears ks u.kind) FallsByOne now.free_lines later.free_lines → later.announced_back ≡ now.announced_back → GivesOne (IsListenerOf ks) (place_of u) u (listener_rings now) (listener_rings later)
 listener_given ks u now later has a c back =
     let s = stands ks u.kind has in
@@ -63,6 +65,7 @@ listener_given ks u now later has a c back =
       is_one = subscription_at ks u.kind s.place s.is_at;
     }
 
+-- listeners that handed one back are known to have no free place, and count it
 pub listener_full : (ks : List UrcKind) (k : UrcKind) (free freer back backer : List ℕ) → Changes (Hears ks k) RunsOut free freer → Changes (Hears ks k) RisesByOne back backer → FillsUp (IsListenerOf ks) (kind_place k) free freer back backer
 listener_full ks k free freer back backer c e = record {
   here = λ i at. c.here i (at_subscription ks k i at);
@@ -79,6 +82,7 @@ is_false : (r : Bool) → r ≡ false → r ≡ true → ⊥
 is_false true e h = cc
 is_false false e h = cc
 
+-- a kind that nobody listens to isn't heard
 pub not_heard : (ks : List UrcKind) (k : UrcKind) (r : Bool) → IsTrue r ↔ Contains ks k → r ≡ false → IsHeard ks (kind_place k) → ⊥
 not_heard ks k r both e h = is_false r e (both.1 (heard_kind ks k h))
 
@@ -88,6 +92,7 @@ pub record AnnouncesSo (first now : DriverView) (held : List Bool) (waited waits
   pub fewer : OneFewer place_of (IsListenerOf first.desk.kinds) (IsHeard first.desk.kinds) (listener_rings first) (listener_rings now) held waited waits left moved
   pub alone : AnnouncesAlone first now
 
+-- before the first all wait to be offered
 pub announces_first : (d : DriverView) (held : List Bool) (waited : List Urc) (count : ℕ) → ((n : ℕ) → slice_index_or held n false ≡ false) → count ≡ length waited → AnnouncesSo d d held waited waited (count - 0) false
 announces_first d held waited count none e = record {
   fewer = subst (λ (n : ℕ). OneFewer place_of (IsListenerOf d.desk.kinds) (IsHeard d.desk.kinds) (listener_rings d) (listener_rings d) held waited waited n false) (sym e ∙ all) (placing_first place_of (IsListenerOf d.desk.kinds) (IsHeard d.desk.kinds) (listener_rings d) held waited none);
@@ -97,6 +102,7 @@ announces_first d held waited count none e = record {
     all : count ≡ count - 0
     all = omega arith
 
+-- one more was offered, or stays
 pub announces_more : (first now later : DriverView) (held more_held : List Bool) (waited waits rest : List Urc) (place end : ℕ) (moved earlier : Bool) → place < end
     → OffersFirst place_of (IsListenerOf now.desk.kinds) (IsHeard now.desk.kinds) (listener_rings now) (listener_rings later) held more_held waits rest moved → AnnouncesAlone now later
     → AnnouncesSo first now held waited waits (end - place) earlier → AnnouncesSo first later more_held waited rest (end - (place + 1)) (earlier || moved)
@@ -117,6 +123,7 @@ announces_more first now later held more_held waited waits rest place end moved 
       };
     }
 
+-- behind the last all are placed that may be
 pub announces_last : (first now : DriverView) (held : List Bool) (waited waits : List Urc) (left : ℕ) (moved : Bool) → left ≡ 0 → AnnouncesSo first now held waited waits left moved
     → Placed place_of (IsListenerOf first.desk.kinds) (IsHeard first.desk.kinds) (listener_rings first) (listener_rings now) waited waits moved
 announces_last first now held waited waits left moved none so =

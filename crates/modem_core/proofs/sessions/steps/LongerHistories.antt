@@ -108,6 +108,7 @@ room_stays Tick past h room = room
 room_stays (Held d) past h room = room
 room_stays (Freed d) past h room = room
 
+-- so requests were taken with room, where they were before
 pub room_after : (more past : List Act) → Saids more → TakesWithRoom past → TakesWithRoom (after past more)
 room_after [] past h room = room
 room_after (a ∷ more) past h room =
@@ -131,24 +132,30 @@ turn_stays s Tick past h turn = (tt, turn)
 turn_stays s (Held d) past h turn = (tt, turn)
 turn_stays s (Freed d) past h turn = (tt, turn)
 
+-- and data was sent in turn
 pub turn_after : (s : Setting) (more past : List Act) → Saids more → SendsInTurn s past → SendsInTurn s (after past more)
 turn_after s [] past h turn = turn
 turn_after s (a ∷ more) past h turn =
     let parts = and_parts (is_said a) (list_all is_said more) h in
     turn_after s more (a ∷ past) parts.1 (turn_stays s a past parts.0 turn)
 
+-- the same frames came
 pub gots_after : (more past : List Act) → Saids more → gots (after past more) ≡ gots past
 gots_after more past h = stays gots got_stays more past h
 
+-- the same requests were taken
 pub taken_after : (more past : List Act) → Saids more → taken_requests (after past more) ≡ taken_requests past
 taken_after more past h = stays taken_requests taken_stays more past h
 
+-- the same frames were given on
 pub given_after : (more past : List Act) → Saids more → given_on (after past more) ≡ given_on past
 given_after more past h = stays given_on given_stays more past h
 
+-- the line was lost as often
 pub losses_after : (more past : List Act) → Saids more → filter is_loss (after past more) ≡ filter is_loss past
 losses_after more past h = stays (filter is_loss) losses_stay more past h
 
+-- and is lost just where it was
 pub lost_after : (more past : List Act) → Saids more → is_lost (after past more) ≡ is_lost past
 lost_after more past h = stays is_lost lost_stays more past h
 
@@ -183,6 +190,7 @@ one_heard : (k m : UrcKind) (d : ℕ) (line : List ℕ) (past acts later : List 
 one_heard k m d line past acts later true h = h ∙ append_assoc (heards k past) (Heard m d line ∷ []) acts
 one_heard k m d line past acts later false h = h
 
+-- of each kind, what was heard before, and then what the acts heard
 pub heards_after : (k : UrcKind) (acts past : List Act) → heards k (after past acts) ≡ heards k past ++ heard_of k acts
 heards_after k [] past = sym (append-nil (heards k past))
 heards_after k (Heard m d line ∷ acts) past = one_heard k m d line past (heard_of k acts) (after (Heard m d line ∷ past) acts) (is_same_kind k m) (heards_after k acts (Heard m d line ∷ past))
@@ -211,6 +219,7 @@ abbrev pub has_listener : List UrcKind → Act → Bool
 has_listener kinds (Heard m d line) = is_listened kinds m
 has_listener kinds _ = true
 
+-- lines are of kinds that are listened to just where they are so as they were heard
 pub listened_heard : (kinds : List UrcKind) (us : List Urc) → list_all (λ (u : Urc). is_listened kinds u.kind) us ≡ list_all (has_listener kinds) (map heard_as us)
 listened_heard kinds [] = refl
 listened_heard kinds (u ∷ us) = ap (λ (b : Bool). is_listened kinds u.kind && b) (listened_heard kinds us)

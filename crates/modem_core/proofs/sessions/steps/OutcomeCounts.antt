@@ -30,6 +30,7 @@ lawful_front s (a ∷ acts) past l = (lawful_front s acts (a ∷ past) l).1
 
 -- ## How many are in hand
 
+-- where no element is left by a test, none passes it
 pub none_of : {A : Type 0} (t : A → Bool) (xs : List A) → length (filter t xs) ≡ 0 → list_any t xs ≡ false
 none_of t [] h = refl
 none_of t (x ∷ xs) h = by_test (t x) refl (none_of t xs)
@@ -107,6 +108,7 @@ hand_counts s (Given ∷ acts) past l distinct h = unsaid h
 abbrev pub is_caller : ℕ → Request → Bool
 is_caller n q = nat_lt q.caller n
 
+-- an outcome for a caller of the first so many
 abbrev pub is_callers : ℕ → Outcome → Bool
 is_callers n o = nat_lt o.caller n
 
@@ -124,6 +126,7 @@ both_true : (c d : Bool) → c ≡ true → d ≡ true → (c && d) ≡ true
 both_true true d h k = k
 both_true false d h k = unsaid h
 
+-- where all requests are of those callers, so are all outcomes that are told
 pub callers_told : (s : Setting) (n : ℕ) (acts past : List Act) → Lawful s (after past acts) → list_all (is_caller n) (taken_requests past) ≡ true → Saids acts → list_all (is_callers n) (outcomes_told acts) ≡ true
 callers_told s n [] past l callers h = refl
 callers_told s n (Told o ∷ acts) past l callers h =

@@ -9,15 +9,19 @@ use Rattle.modem_core.specs.Placing.{of_key, Stay, stays_none, goes_first, stays
 
 -- ## Those of a key
 
+-- two numbers are the same in either order
 pub swapped : (a b : ℕ) → (a == b) ≡ (b == a)
 swapped a b = ⊎_elim (λ (y : (a == b) ≡ true × a ≡ b). y.0 ∙ sym (eq-eqb b a (sym y.1))) (λ (y : (a == b) ≡ false × a ≢ b). y.0 ∙ sym (ne_eqb b a (λ e. y.1 (sym e)))) (eqb_tells a b)
 
+-- an element of the key comes before the others of it
 pub own : {X : Type 0} (key : X → ℕ) (n : ℕ) (x : X) (xs : List X) → (key x == n) ≡ true → of_key key n (x ∷ xs) ≡ x ∷ of_key key n xs
 own key n x xs e = ap (λ (c : Bool). if c then x ∷ of_key key n xs else of_key key n xs) e
 
+-- one of another key is none of it
 pub other : {X : Type 0} (key : X → ℕ) (n : ℕ) (x : X) (xs : List X) → (key x == n) ≡ false → of_key key n (x ∷ xs) ≡ of_key key n xs
 other key n x xs e = ap (λ (c : Bool). if c then x ∷ of_key key n xs else of_key key n xs) e
 
+-- nor is it one between two parts
 pub other_of : {X : Type 0} (key : X → ℕ) (n : ℕ) (stay rest : List X) (x : X) → (key x == n) ≡ false → of_key key n (stay ++ x ∷ rest) ≡ of_key key n (stay ++ rest)
 other_of {X} key n stay rest x e =
     filter-append (λ y. key y == n) stay (x ∷ rest)
@@ -38,6 +42,7 @@ none_in {X} key n x xs h = by_test (key x == n) refl h
 
 -- ## All stay, and then one less
 
+-- before anything goes all stay
 pub stay_all : {X : Type 0} (key : X → ℕ) (xs : List X) → Stay key xs xs
 stay_all key [] = stays_none
 stay_all key (x ∷ xs) = stays_first x xs xs refl (stay_all key xs)
@@ -72,6 +77,7 @@ both_without : {X : Type 0} (key : X → ℕ) (n : ℕ) (xs ys : List X) (x : X)
 both_without key n xs ys x e =
     append_cancel_right (of_key key n xs) (of_key key n ys) (of_key key n (x ∷ [])) (sym (filter-append (λ y. key y == n) xs (x ∷ [])) ∙ (e ∙ filter-append (λ y. key y == n) ys (x ∷ [])))
 
+-- the last stays, or goes, and then none of its key stays
 pub stay_last : {X : Type 0} (key : X → ℕ) (xs ys : List X) (x : X) → Stay key (xs ++ x ∷ []) ys → LastStays key xs ys x ⊎ LastGoes key xs ys x
 stay_last key [] ys x (goes_first _ _ _ stays_none) = inr (record { stay = stays_none; none = refl })
 stay_last key [] ys x (stays_first _ _ _ e stays_none) = inl (record { front = []; are = refl; stay = stays_none })
@@ -100,6 +106,7 @@ stay_last {X} key (z ∷ zs) (_ ∷ ys) x (stays_first _ _ _ e h) = ⊎_elim by_
         let long = length-append (of_key key (key z) zs) (x ∷ []) in
         absurd (omega arith)
 
+-- of each key no more stay than waited
 pub stay_count : {X : Type 0} (key : X → ℕ) (n : ℕ) (xs ys : List X) → Stay key xs ys → length (of_key key n ys) ≤ length (of_key key n xs)
 stay_count key n [] [] stays_none = omega arith
 stay_count key n [] (y ∷ ys) h = elim h [ ]

@@ -18,6 +18,7 @@ use Rattle.modem_core.proofs.sessions.steps.RemainingItems.{LastGoes, LastStays,
 
 -- ## Of a kind
 
+-- the lines of a kind are those of its place
 pub kinds_of : (k : UrcKind) (us : List Urc) → of_kind k us ≡ of_key place_of (kind_place k) us
 kinds_of k [] = refl
 kinds_of k (u ∷ us) =
@@ -37,6 +38,7 @@ fewer_wait k us vs stay =
 
 -- ## All but the first so many
 
+-- behind the same number of each kind the same lines were heard
 pub behind_same : (n m : UrcKind → ℕ) (past : List Act) → ((k : UrcKind) → n k ≡ m k) → heard_behind n past ≡ heard_behind m past
 behind_same n m [] e = refl
 behind_same n m (Heard k d line ∷ past) e =
@@ -52,6 +54,7 @@ behind_same n m (Held d ∷ past) e = behind_same n m past e
 behind_same n m (Freed d ∷ past) e = behind_same n m past e
 behind_same n m (Given ∷ past) e = behind_same n m past e
 
+-- what is heard later is behind them too
 pub behind_after : (n : UrcKind → ℕ) (acts past : List Act) → ((k : UrcKind) → n k ≤ length (heards k past)) → heard_behind n (after past acts) ≡ heard_behind n past ++ lines_heard acts
 behind_after n [] past few = sym (append-nil (heard_behind n past))
 behind_after n (Heard k d line ∷ acts) past few =
@@ -227,6 +230,7 @@ waits_more n m k d line past before us vs e stay counts = by_test (nat_le (n k) 
         let few = fewer_wait k us vs stay in
         gone us same stay (omega arith)
 
+-- where some go, of each kind the first, those that still wait are again all behind so many of each kind
 pub waits_behind : (n m : UrcKind → ℕ) (past : List Act) (us vs : List Urc) → map heard_as us ≡ heard_behind n past → Stay place_of us vs → Counts m past vs → map heard_as vs ≡ heard_behind m past
 waits_behind n m [] [] [] e stays_none counts = refl
 waits_behind n m [] [] (v ∷ vs) e stay counts = elim stay [ ]

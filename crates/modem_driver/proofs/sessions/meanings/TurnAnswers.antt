@@ -51,6 +51,7 @@ joined x y z u v w q = cc
 contradicted : {m n : ℕ} → m < n → n ≡ m → ⊥
 contradicted less same = omega (arith, less, same)
 
+-- where no call on it has failed, the line isn't lost
 pub not_lost : (b : Beginning) (s : TurnState) (past : List Act) → s.machine.faulty ≡ false → StandingFits b s past → is_lost past ≡ false
 not_lost b s past sound f = by_loss (is_lost past) refl
   where
@@ -72,6 +73,7 @@ all_given b s past f live none =
     let order = gives_in_order (driving b) past (laws_of f.session.history).lawful in
     order.sent_are ∙ (ap (λ (fs : List Frame). given_on past ++ fs) (order.waits live ∙ none) ∙ append-nil (given_on past))
 
+-- where no octets wait and all frames sent were given on, all their octets are on the line
 pub all_sent : (b : Beginning) (s : TurnState) (past : List Act) → StandingFits b s past → s.machine.unwritten ≡ [] → sents past ≡ given_on past → s.line.sent ≡ b.line.sent ++ octets_of_frames (sents past)
 all_sent b s past f written same =
     let q = f.session.sent in

@@ -51,6 +51,7 @@ lost_turned s0 s1 s2 t xs w same k =
       ended = λ end e. ap (λ (v : Machine). v.course) k.stays ∙ h.ended end e;
     })
 
+-- the line is lost after some steps of a turn, which ends in that fault
 pub lost_after : (why : SessionFault) (s0 s1 s2 : TurnState) (t : Exchange) (xs : List Act) → t.next ≡ None → Went s0 s1 t 1 xs → LosesOr why s1 s2 → (s0.machine.faulty ≡ false) ⊎ PlacesAlone (view_of s0) (view_of s1) xs → s0.machine.core.lost ≡ false → FaultBy s0 s2 (fault_of why)
 lost_after SessionFault.Line s0 s1 s2 t xs none w k sound live = record { fault = loses_line s0 s1 s2 t xs none w k.0 k.1 live; turned = lost_turned s0 s1 s2 t xs w k.0 k.1 }
 lost_after SessionFault.NoMemory s0 s1 s2 t xs none w k sound live = absurd k
@@ -86,19 +87,23 @@ read {s0} {s1} {s2} {s3} {s4} {s5} {s6} {m1} {m2} {m3} {m4} {m5} {m6} p k n w g 
 pub failed_before : {s0 s1 : TurnState} {m1 : Bool} → (p : Places s0 s1 m1) → s0.machine.core.lost ≡ true → FaultBy s0 s1 TurnFault.Failed
 failed_before {s0} {s1} {m1} p lost = record { fault = has_failed s0 s1 m1 p lost; turned = has_turned s0 s1 (placed p) 0 [] (went_placed s0 s1 m1 p) }
 
+-- it is lost once what waits was placed
 pub lost_first : {s0 s1 : TurnState} {m1 : Bool} → (why : SessionFault) (s : TurnState) (p : Places s0 s1 m1) → LosesOr why s1 s → s0.machine.core.lost ≡ false → FaultBy s0 s (fault_of why)
 lost_first {s0} {s1} {m1} why s p k = lost_after why s0 s1 s (placed p) [] refl (one_at_most s0 s1 (placed p) [] (went_placed s0 s1 m1 p)) k (inr (places_alone s0 s1 m1 p))
 
+-- it is lost after the write
 pub lost_writing : {s0 s1 s2 s3 s4 : TurnState} {m1 m2 m3 m4 : Bool} → (why : SessionFault) (s : TurnState) (p : Places s0 s1 m1) (k : Checks s1 s2 m2) (n : SendsOn s2 s3 m3) (w : Writes s3 s4 m4) → LosesOr why s4 s → s0.machine.faulty ≡ false → s0.machine.core.lost ≡ false → FaultBy s0 s (fault_of why)
 lost_writing {s0} {s1} {s2} {s3} {s4} {m1} {m2} {m3} {m4} why s p k n w l sound =
     let t = record (placed p) { write = w.write } in
     lost_after why s0 s4 s t (k.acts ++ n.acts) refl (one_at_most s0 s4 t (k.acts ++ n.acts) (wrote p k n w)) l (inl sound)
 
+-- it is lost after the read
 pub lost_reading : {s0 s1 s2 s3 s4 s5 s6 : TurnState} {m1 m2 m3 m4 m5 m6 : Bool} → (why : SessionFault) (s : TurnState) (p : Places s0 s1 m1) (k : Checks s1 s2 m2) (n : SendsOn s2 s3 m3) (w : Writes s3 s4 m4) (g : Gets s4 s5 m5) (r : ReadsOn s5 s6 m6) → LosesOr why s6 s → s0.machine.faulty ≡ false → s0.machine.core.lost ≡ false → FaultBy s0 s (fault_of why)
 lost_reading {s0} {s1} {s2} {s3} {s4} {s5} {s6} {m1} {m2} {m3} {m4} {m5} {m6} why s p k n w g r l sound = lost_after why s0 s6 s (record (placed p) { write = w.write; read = r.read }) ((k.acts ++ n.acts) ++ g.acts) refl (read p k n w g r) l (inl sound)
 
 -- ## There is no memory
 
+-- there is none for the frame at hand, and the turn ends in NoMemory
 pub gets_in_vain : {s0 s1 s2 s3 s4 : TurnState} {m1 m2 m3 m4 : Bool} → (s : TurnState) (p : Places s0 s1 m1) (k : Checks s1 s2 m2) (n : SendsOn s2 s3 m3) (w : Writes s3 s4 m4) → s ≡ s4 → s4.machine.faulty ≡ false → s0.machine.core.lost ≡ false → FaultBy s0 s TurnFault.NoMemory
 gets_in_vain {s0} {s1} {s2} {s3} {s4} {m1} {m2} {m3} {m4} s p k n w same sound live =
     let t = record (placed p) { write = w.write } in
@@ -106,6 +111,7 @@ gets_in_vain {s0} {s1} {s2} {s3} {s4} {m1} {m2} {m3} {m4} s p k n w same sound l
 
 -- ## It ends in an answer
 
+-- all seven steps: two calls on the line at most, and the desk's end keeps what it has
 pub all_turned : {s0 s1 s2 s3 s4 s5 s6 s7 : TurnState} {m1 m2 m3 m4 m5 m6 m7 : Bool} → Places s0 s1 m1 → Checks s1 s2 m2 → SendsOn s2 s3 m3 → Writes s3 s4 m4 → Gets s4 s5 m5 → ReadsOn s5 s6 m6 → TakesOne s6 s7 m7 → HasTurned s0 s7
 all_turned {s0} {s1} {s2} {s3} {s4} {s5} {s6} {s7} {m1} {m2} {m3} {m4} {m5} {m6} {m7} p k n w g r q =
     let acts = (k.acts ++ n.acts) ++ g.acts in
@@ -114,9 +120,11 @@ all_turned {s0} {s1} {s2} {s3} {s4} {s5} {s6} {s7} {m1} {m2} {m3} {m4} {m5} {m6}
 
 -- ## What a turn began with
 
+-- placing what waits doesn't lose the line
 pub lost_at_first : {s0 s1 : TurnState} {m : Bool} (c : Bool) → Places s0 s1 m → s1.machine.core.lost ≡ c → s0.machine.core.lost ≡ c
 lost_at_first c p e = sym (ap (λ (s : TurnState). s.machine.core.lost) p.stays) ∙ e
 
+-- nor does a call on it fail by that
 pub faulty_at_first : {s0 s1 : TurnState} {m : Bool} (c : Bool) → Places s0 s1 m → s1.machine.faulty ≡ c → s0.machine.faulty ≡ c
 faulty_at_first c p e = sym (ap (λ (s : TurnState). s.machine.faulty) p.stays) ∙ e
 

@@ -131,6 +131,7 @@ lost_there s0 s1 new t xs none w k live =
           };
     }
 
+-- so the turn ends in LineFailed
 pub loses_line : (s0 s1 s2 : TurnState) (t : Exchange) (xs : List Act) → t.next ≡ None → Went s0 s1 t 1 xs → s2 ≡ record s1 { machine = s2.machine } → MachineLoses s1.machine s2.machine → s0.machine.core.lost ≡ false
     → GoesFault (view_of s0) (view_of s2) (λ b. inside b s0) (λ b. inside b s2) TurnFault.LineFailed
 loses_line s0 s1 s2 t xs none w same k live =

@@ -28,11 +28,13 @@ use Rattle.modem_driver.proofs.sessions.steps.OneFrame.{few_both}
 
 -- ## One step after the other
 
+-- two steps lead on by the acts of both
 pub leads_on : (s0 s1 s2 : TurnState) (xs ys : List Act) → Leads s0 s1 xs → Leads s1 s2 ys → Leads s0 s2 (xs ++ ys)
 unfolding Leads
 leads_on s0 s1 s2 xs ys l m b past f =
     subst (λ (p : List Act). StandingFits b s2 p) (sym (after_both xs ys past)) (m b (after past xs) (l b past f))
 
+-- and by those of the first where the second has none
 pub leads_still : (s0 s1 s2 : TurnState) (xs : List Act) → Leads s0 s1 xs → Leads s1 s2 [] → Leads s0 s2 xs
 leads_still s0 s1 s2 xs l m = subst (Leads s0 s2) (append-nil xs) (leads_on s0 s1 s2 xs [] l m)
 
@@ -55,6 +57,7 @@ pub record OffersAt (start now : TurnState) (still_told : List Outcome) (still_h
   pub outcomes_back : (c : ℕ) → c < length start.driver.desk.rings → count_at c now.driver.told_back ≡ counted (count_at c start.driver.told_back) (length (caller_outcomes c told_back))
   pub lines_back : (i : ℕ) (k : UrcKind) → get_elem? start.driver.desk.kinds i ≡ some k → count_at i now.driver.announced_back ≡ counted (count_at i start.driver.announced_back) (length (of_kind k heard_back))
 
+-- so it was offered in this exchange
 abbrev pub OffersBy : (start now : TurnState) → Exchange → Type 0
 OffersBy start now t = OffersAt start now t.still_told t.still_heard t.told_back t.heard_back
 
@@ -65,9 +68,11 @@ pub record StaysAtDesk (old new : DriverView) : Type 0 where
   pub told_back : new.told_back ≡ old.told_back
   pub announced_back : new.announced_back ≡ old.announced_back
 
+-- a step that leaves the desk's end leaves that
 pub same_desk : (old new : DriverView) → new ≡ old → StaysAtDesk old new
 same_desk old new e = record { told = ap (λ (d : DriverView). d.told) e; announced = ap (λ (d : DriverView). d.announced) e; told_back = ap (λ (d : DriverView). d.told_back) e; announced_back = ap (λ (d : DriverView). d.announced_back) e }
 
+-- after such a step all was offered as before
 pub offers_on : (s0 s1 s2 : TurnState) (t : Exchange) → OffersBy s0 s1 t → StaysAtDesk s1.driver s2.driver → OffersBy s0 s2 t
 offers_on s0 s1 s2 t o d = record {
   outcomes = λ c. subst (λ (os : List (List Outcome)). GivesSome (at_place c s0.driver.told) (at_place c os) (caller_outcomes c s0.machine.unplaced) (caller_outcomes c t.still_told)) (sym d.told) (o.outcomes c);
@@ -130,6 +135,7 @@ placed {old} {new} p = record { still_told = new.machine.unplaced; still_heard =
 line_still : (s0 s1 : TurnState) → s1.line ≡ s0.line → s1.line.received ≡ s0.line.received ++ []
 line_still s0 s1 e = ap (λ (l : LineView). l.received) e ∙ sym (append-nil s0.line.received)
 
+-- first what waits is placed
 pub went_placed : (s0 s1 : TurnState) (moved : Bool) (p : Places s0 s1 moved) → Went s0 s1 (placed p) 0 []
 went_placed s0 s1 moved p =
     let line : s1.line ≡ s0.line = ap (λ (s : TurnState). s.line) p.stays in
@@ -200,6 +206,7 @@ went_step s0 s1 s2 t n m xs ys none w leads adds line driver unfed ended =
 adds_still : (t : Exchange) (k1 k2 : Machine) (n : ℕ) (xs : List Act) → AddsTo t k1 n xs → k2.unplaced ≡ k1.unplaced → k2.unannounced ≡ k1.unannounced → AddsTo t k2 n xs
 adds_still t k1 k2 n xs a told heard = record { outcomes = told ∙ a.outcomes; lines = ap (map heard_as) heard ∙ a.lines; may = a.may; few_got = a.few_got }
 
+-- octets are written
 pub went_wrote : (s0 s1 s2 : TurnState) (t : Exchange) (n : ℕ) (xs : List Act) (moved : Bool) → t.next ≡ None → t.write ≡ None → t.read ≡ None → Went s0 s1 t n xs → (k : Writes s1 s2 moved)
     → Went s0 s2 (record t { write = k.write }) n xs
 went_wrote s0 s1 s2 t n xs moved none unwritten unread w k =
@@ -234,6 +241,7 @@ counted_both n None (Some r) = refl
 counted_both n (Some w) None = refl
 counted_both n (Some w) (Some r) = omega arith
 
+-- the line is read, and what came is fed
 pub went_read : (s0 s1 s2 : TurnState) (t : Exchange) (n : ℕ) (xs : List Act) (moved : Bool) → t.next ≡ None → t.read ≡ None → s1.machine.unfed ≡ s0.machine.unfed → Went s0 s1 t n xs → (k : ReadsOn s1 s2 moved)
     → Went s0 s2 (record t { read = k.read }) n xs
 went_read s0 s1 s2 t n xs moved none unread same_unfed w k =
@@ -263,6 +271,7 @@ went_read s0 s1 s2 t n xs moved none unread same_unfed w k =
     one_alone : (n : ℕ) → n + 0 ≡ n
     one_alone n = omega arith
 
+-- a request is asked for last
 pub went_took : (s0 s1 s2 : TurnState) (t : Exchange) (n : ℕ) (xs : List Act) (moved : Bool) → t.next ≡ None → Went s0 s1 t n xs → (k : TakesOne s1 s2 moved)
     → Went s0 s2 (record t { next = k.next }) (n + 0) (xs ++ k.acts)
 unfolding Leads AddsAll
@@ -313,6 +322,7 @@ few_calls n m None (Some r) e = omega (arith, e)
 few_calls n m (Some w) None e = omega (arith, e)
 few_calls n m (Some w) (Some r) e = omega (arith, e)
 
+-- two calls on the line at most; the desk's end keeps what it has, and an end that was given stays
 pub has_turned : (s0 s : TurnState) (t : Exchange) (n : ℕ) (acts : List Act) → Went s0 s t n acts → HasTurned s0 s
 has_turned s0 s t n acts w = record {
   calls = few_calls s0.line.calls s.line.calls t.write t.read w.calls;

@@ -334,6 +334,7 @@ new_goes_on s past q l distinct = by_any (is_stopped_by (outcomes past) q) refl
         let its = any_part (λ (o : Outcome). is_for q o) (λ (o : Outcome). ends_stop o.answer) (outcomes past) (and_parts (is_stop q) (list_any (λ (o : Outcome). is_for q o && ends_stop o.answer) (outcomes past)) e).1 in
         absurd (let both : true ≡ false = sym its ∙ no_outcome q (taken_requests past) (outcomes past) (distinct_ends (taken_requests past) q distinct).1 (all_answer s past l) in cc)
 
+-- a request that is taken ends no Stop
 pub took_none : (s : Setting) (v : Core) (past : List Act) (q : Request) → v.station.role ≡ Initiator → MayCome s v past (Took q) → Lawful s past → Saids (calls s past (Took q)) → are_distinct (taken_requests past ++ q ∷ []) ≡ true → NoneEnds past (Took q ∷ calls s past (Took q))
 took_none s v past q role m l said distinct none =
     let acts = Took q ∷ calls s past (Took q) in

@@ -89,6 +89,7 @@ passes b d m e first w ps vs took told announced says r p t q a says_so =
 
 -- ## Passes
 
+-- a ring that was given some, and then some of the rest and of what came behind, was given some of it all
 pub gives_on : {A : Type 0} (before mid now waited between waits later : List A) → GivesSome before mid waited between → GivesSome mid now (between ++ later) waits → GivesSome before now (waited ++ later) waits
 gives_on before mid now waited between waits later g h = record {
   given = g.given ++ h.given;
@@ -96,6 +97,7 @@ gives_on before mid now waited between waits later g h = record {
   rest_are = append_assoc g.given h.given waits ∙ (ap (λ xs. g.given ++ xs) h.rest_are ∙ (sym (append_assoc g.given between later) ∙ ap (λ xs. xs ++ later) g.rest_are));
 }
 
+-- the same where nothing came behind
 pub gives_then : {A : Type 0} (before mid now waited between waits : List A) → GivesSome before mid waited between → GivesSome mid now between waits → GivesSome before now waited waits
 gives_then before mid now waited between waits g h = record {
   given = g.given ++ h.given;
@@ -103,6 +105,7 @@ gives_then before mid now waited between waits g h = record {
   rest_are = append_assoc g.given h.given waits ∙ (ap (λ xs. g.given ++ xs) h.rest_are ∙ g.rest_are);
 }
 
+-- passes one after the other turn away all that each of them did
 pub turns_on : TurnsOn
 unfolding TurnsOn
 turns_on old mid new before between after first second g h = record {

@@ -36,6 +36,7 @@ moved_is (TurnAnswer.Waiting c) e = cc
 moved_is (TurnAnswer.Blocked k) e = cc
 moved_is TurnAnswer.Idle e = cc
 
+-- where an earlier poll gave an end the session has come to that end
 pub given_is : (c : Course) (end : Result Ended SessionFault) → end_given c ≡ Some end → c ≡ course.Ended end
 given_is course.GoesOn end e = cc
 given_is course.Stopped end e = cc

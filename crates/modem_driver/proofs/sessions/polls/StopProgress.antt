@@ -24,10 +24,12 @@ use Rattle.modem_driver.specs.Endings.{Begins, HasCome, HasEnded, KeepsEnd, cour
 use Rattle.modem_core.specs.Stops.{asker_of, ends_stop, has_stopped, is_answered, is_end_of, is_stop, is_stopped_by}
 use Rattle.modem_core.proofs.sessions.steps.LongerHistories.{outcomes_after}
 
+-- an act of the program tells that a Stop has ended just where the act of the history does
 pub any_of : (s : Asker) (acts : List code.Act) → list_any (λ (a : code.Act). is_end_of s (act_of a)) acts ≡ list_any (is_end_of s) (map act_of acts)
 any_of s [] = refl
 any_of s (a ∷ acts) = ap (λ (c : Bool). is_end_of s (act_of a) || c) (any_of s acts)
 
+-- what is noted is the same for the same Stop and the same acts
 pub noted : (c new : Course) (o p : Option Asker) (xs ys : List code.Act) → new ≡ course_after c (is_answered o (map act_of xs)) → o ≡ p → xs ≡ ys → new ≡ course_after c (is_answered p (map act_of ys))
 noted c new o p xs ys e stop acts =
     e ∙ (ap (λ (x : Option Asker). course_after c (is_answered x (map act_of xs))) stop ∙ ap (λ (zs : List code.Act). course_after c (is_answered p (map act_of zs))) acts)
@@ -94,6 +96,7 @@ stopped_one (Held d) past h = h
 stopped_one (Freed d) past h = h
 stopped_one Given past h = h
 
+-- a Stop that was answered stays so, whatever acts follow
 pub stopped_after : (acts past : List Act) → has_stopped past ≡ true → has_stopped (after past acts) ≡ true
 stopped_after [] past h = h
 stopped_after (a ∷ acts) past h = stopped_after acts (a ∷ past) (stopped_one a past h)
@@ -104,6 +107,7 @@ lost_since (a ∷ acts) past h = lost_since acts (a ∷ past) (or_right (is_loss
 
 -- ## How far it has come stays so
 
+-- a list begins itself
 pub begins_whole : {X : Type 0} (xs : List X) → Begins xs xs
 begins_whole xs = record { rest = []; joins = append-nil xs }
 
@@ -115,12 +119,14 @@ pub record Grows (v w : SessionView) : Type 0 where
   pub sent : Begins v.line.sent w.line.sent
   pub told : (c : ℕ) → Begins (at_place c v.desk.told) (at_place c w.desk.told)
 
+-- where nothing was written or told
 pub grows_none : (v w : SessionView) → w.line.sent ≡ v.line.sent → w.desk.told ≡ v.desk.told → Grows v w
 grows_none v w sent told = record {
   sent = subst (λ (xs : List ℕ). Begins v.line.sent xs) (sym sent) (begins_whole v.line.sent);
   told = λ c. subst (λ (oss : List (List Outcome)). Begins (at_place c v.desk.told) (at_place c oss)) (sym told) (begins_whole (at_place c v.desk.told));
 }
 
+-- where octets were written, and nothing was told
 pub grows_sent : (v w : SessionView) (more : List ℕ) → w.line.sent ≡ v.line.sent ++ more → w.desk.told ≡ v.desk.told → Grows v w
 grows_sent v w more sent told = record {
   sent = record { rest = more; joins = sym sent };
@@ -141,6 +147,7 @@ ended_on b v w past acts g h = record {
 abbrev pub NoneEnds : (past acts : List Act) → Type 0
 NoneEnds past acts = has_stopped past ≡ false → has_stopped (after past acts) ≡ false
 
+-- where no Stop ends, a session that goes on has come as far as before
 pub come_on : (b : Beginning) (v w : SessionView) (past acts : List Act) (c : Course) → NoneEnds past acts → Grows v w → HasCome b v past c → HasCome b w (after past acts) c
 come_on b v w past acts GoesOn none g h = none h
 come_on b v w past acts Stopped none g h = stopped_after acts past h
@@ -230,6 +237,7 @@ stopped_by past acts (Some q) e h =
     let its : is_stopped_by all q ≡ true = and_from (is_stop q) (list_any (λ (o : Outcome). is_for q o && ends_stop o.answer) all) (found_tests is_stop (in_hand past) q e) told in
     any_taken (is_stopped_by all) acts past (hand_taken (is_stopped_by all) past (any_found is_stop (is_stopped_by all) (in_hand past) q e its))
 
+-- a session has come as far as is noted: an answer to the Stop in hand takes it on, and nothing else does
 pub come_noted : (b : Beginning) (v w : SessionView) (past acts : List Act) (hand : List Request) (c : Course) → in_hand past ≡ hand → (is_answered (option_map asker_of (find is_stop hand)) acts ≡ false → NoneEnds past acts) → Grows v w → HasCome b v past c
     → HasCome b w (after past acts) (course_after c (is_answered (option_map asker_of (find is_stop hand)) acts))
 come_noted b v w past acts hand GoesOn e none g h = by_answer (is_answered (option_map asker_of (find is_stop hand)) acts) refl

@@ -19,13 +19,16 @@ use Rattle.modem_driver.proofs.sessions.polls.StopProgress.{NoneEnds}
 
 -- ## Outcomes that end none
 
+-- by this outcome a Stop has ended
 abbrev pub ends : Outcome → Bool
 ends o = ends_stop o.answer
 
+-- by what is told, if anything, a Stop has ended
 abbrev pub ends_by : Option Answer → Bool
 ends_by None = false
 ends_by (Some why) = ends_stop why
 
+-- where neither of two would end one, whichever is told doesn't
 pub unless_ends : (c : Bool) (x y : Option Answer) → ends_by x ≡ false → ends_by y ≡ false → ends_by (if c then x else y) ≡ false
 unless_ends true x y h k = h
 unless_ends false x y h k = k
@@ -45,6 +48,7 @@ later_ends P v now a (r ∷ rs) h k =
     by_answer None e k = k
     by_answer (Some why) e k = ap (λ (c : Bool). c || list_any ends (outcomes_told (filter_map (told_later v now a) rs))) e ∙ k
 
+-- tests that are the same of each are the same of any
 pub any_same : {X : Type 0} (p q : X → Bool) (xs : List X) → ((x : X) → p x ≡ q x) → list_any p xs ≡ list_any q xs
 any_same p q [] h = refl
 any_same p q (x ∷ xs) h = ap (λ (c : Bool). c || list_any p xs) (h x) ∙ ap (λ (c : Bool). q x || c) (any_same p q xs h)
@@ -63,6 +67,7 @@ and_or : (c x y : Bool) → (c && (x || y)) ≡ ((c && x) || (c && y))
 and_or true x y = refl
 and_or false x y = refl
 
+-- outcomes end a request's Stop where the first do or the others do
 pub stopped_both : (os ps : List Outcome) (q : Request) → is_stopped_by (os ++ ps) q ≡ (is_stopped_by os q || is_stopped_by ps q)
 stopped_both os ps q =
     ap (λ (c : Bool). is_stop q && c) (list_any-append (λ (o : Outcome). is_for q o && ends_stop o.answer) os ps)
@@ -80,16 +85,19 @@ and_none false y e = refl
 pub stopped_still : (os ps : List Outcome) (q : Request) → list_any ends ps ≡ false → is_stopped_by (os ++ ps) q ≡ is_stopped_by os q
 stopped_still os ps q h = stopped_both os ps q ∙ or_none (is_stopped_by os q) (is_stopped_by ps q) (and_none (is_stop q) _ (none_for q ps h))
 
+-- where acts tell nothing that ends a Stop, those that have ended stay the same
 pub still_stopped : (acts past : List Act) (qs : List Request) → list_any ends (outcomes_told acts) ≡ false → list_any (is_stopped_by (outcomes (after past acts))) qs ≡ list_any (is_stopped_by (outcomes past)) qs
 still_stopped acts past qs h =
     any_same (is_stopped_by (outcomes (after past acts))) (is_stopped_by (outcomes past)) qs
     (λ q. ap (λ (os : List Outcome). is_stopped_by os q) (outcomes_after acts past) ∙ stopped_still (outcomes past) (outcomes_told acts) q h)
 
+-- and where they take no request either, none has ended by them
 pub none_ends : (acts past : List Act) → taken_requests (after past acts) ≡ taken_requests past → list_any ends (outcomes_told acts) ≡ false → NoneEnds past acts
 none_ends acts past same h none = ap (list_any (is_stopped_by (outcomes (after past acts)))) same ∙ (still_stopped acts past (taken_requests past) h ∙ none)
 
 -- ## Stops in hand
 
+-- no more of those that are kept are Stops
 pub stops_left : (keep : Request → Bool) (qs : List Request) → length (filter is_stop (filter keep qs)) ≤ length (filter is_stop qs)
 stops_left keep [] = omega arith
 stops_left keep (q ∷ qs) = by_tests (keep q) (is_stop q) refl (stops_left keep qs)
@@ -104,6 +112,7 @@ stops_left keep (q ∷ qs) = by_tests (keep q) (is_stop q) refl (stops_left keep
 out : {P : Type 0} → false ≡ true → P
 out e = cc
 
+-- by what is said in a call no more Stops are in hand
 pub said_stops : (more past : List Act) → Saids more → length (filter is_stop (in_hand (after past more))) ≤ length (filter is_stop (in_hand past))
 said_stops [] past h = omega arith
 said_stops (Told o ∷ more) past h =

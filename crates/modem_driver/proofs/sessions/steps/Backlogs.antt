@@ -136,6 +136,7 @@ pub record ChecksSo (first now : Machine) (number : ℕ) (moved : Bool) : Type 0
   pub flowed : (b : Beginning) (l : LineView) (e : DriverView) (past : List Act) → FitsMachine b l e first past → NoneDue b (after past acts) first.unannounced number ⊎ LacksMscRoom b (after past acts)
   pub stays : now ≡ record first { core = now.core }
 
+-- at first none but 0 was checked
 pub checks_first : (k : Machine) → ChecksSo k k 1 false
 unfolding MachineGoes
 checks_first k = record {
@@ -183,6 +184,7 @@ flowed_more b past acts us number (inl none) one = ⊎_elim (λ (here : due_by (
         (λ (y : (m == number) ≡ false × m ≢ number). let other = y.1 in one.others m (backlog_in m us) y.1 ∙ none m least (omega (arith, other, lt)))
         (eqb_tells m number)
 
+-- the next connection was checked
 pub checks_more : (first now next : Machine) (number : ℕ) (moved earlier : Bool) → ChecksOne number now next moved → ChecksSo first now number earlier → ChecksSo first next (number + 1) (earlier || moved)
 unfolding MachineGoes
 checks_more first now next number moved earlier one so = record {
@@ -266,6 +268,7 @@ all_flowed : (first now : Machine) (l : LineView) (d : DriverView) (b : Beginnin
 all_flowed first now l d b past acts same live f (inl none) = inl (holds_by b (seen_by l (end_of d) now) (after past acts) first.unannounced same live (laws_of f.session.history).lawful none)
 all_flowed first now l d b past acts same live f (inr full) = inr full
 
+-- once all 62 were, backlogs are checked
 pub checks_all : (first now : Machine) (number : ℕ) (moved : Bool) → number ≡ 62 → ChecksSo first now number moved → (l : LineView) (d : DriverView) → Checks (turn_state l d first) (turn_state l d now) moved
 unfolding MachineGoes
 checks_all first now number moved last any l d = by_last (subst (λ (n : ℕ). ChecksSo first now n moved) last any)

@@ -41,6 +41,7 @@ FitsMachine b l d k past = FitsWith b (seen_by l (end_of d) k) (MachineFits b l 
 pub callers_taken : (b : Beginning) (l : LineView) (d : DriverView) (k : Machine) (past : List Act) → FitsMachine b l d k past → list_all (is_caller b.callers) (taken_requests past) ≡ true
 callers_taken b l d k past f = sym (ap (list_all (is_caller b.callers)) (since_are b (seen_by l (end_of d) k) past f.session)) ∙ f.session.requests.callers
 
+-- what the session fits is a history of whole calls
 pub is_run : (b : Beginning) (l : LineView) (d : DriverView) (k : Machine) (past : List Act) → FitsMachine b l d k past → IsRun (driving b) past
 is_run b l d k past f = record {
   lawful = (laws_of f.session.history).lawful;
@@ -49,6 +50,7 @@ is_run b l d k past f = record {
   numbers = uses_once (taken_requests past) (distinct_taken b (seen_by l (end_of d) k) past f.session);
 }
 
+-- an act that takes no request may come after it
 pub may_come : (b : Beginning) (l : LineView) (d : DriverView) (k : Machine) (past : List Act) (a : Act) → FitsMachine b l d k past → taken_requests (a ∷ past) ≡ taken_requests past → MayCome (driving b) k.core past a
 may_come b l d k past a f same = record {
   setting = f.inside.setting;
@@ -84,6 +86,7 @@ few_told b l d old new past more a f bare goes said =
     let told = ap (length {A = Outcome}) (bare.told_is more) in
     omega arith
 
+-- the session fits the history with the act and all that it called for
 pub call_fits : (b : Beginning) (l : LineView) (d : DriverView) (old new : Machine) (past more : List Act) (a : Act)
     → FitsMachine b l d old past → IsBare a past → GoesOn (driving b) new.core past a (a ∷ more) → HoldsFit new.core (after past (a ∷ more)) → AreDelays new.delays (a ∷ past) → Saids more → Hear (driving b) more → KeepsMore old new (a ∷ more)
     → new.unwritten ≡ old.unwritten → new.faulty ≡ old.faulty → HasCome b (seen_by l (end_of d) new) (after past (a ∷ more)) new.course

@@ -66,6 +66,7 @@ firsts_are {X} key n (x ∷ xs) = by_test (key x == n) refl (firsts_are key n xs
 
 -- ## Kinds
 
+-- behind the last of the kinds there is none
 pub none_beyond : (ks : List UrcKind) (i : ℕ) (k : UrcKind) → length ks ≤ i → get_elem? ks i ≡ some k → ⊥
 none_beyond [] i k far e = some-ne-none k (sym e)
 none_beyond (m ∷ ks) zero k far e = omega arith
@@ -78,6 +79,7 @@ has_at (m ∷ ks) (suc i) k e = Contains-append_right (m ∷ []) ks k (has_at ks
 
 -- ## What was told and announced
 
+-- what each caller was told, with what still waits, is what it was to be told
 pub told_more : (b : Beginning) (old new : SessionView) (past : List Act) → FitsTold b old past → ((c : ℕ) → Gave caller_of old.desk.told new.desk.told old.unplaced new.unplaced c c)
     → list_all (is_callers b.callers) new.unplaced ≡ true → FitsTold b new past
 told_more b old new past f gave callers = record {
@@ -92,6 +94,7 @@ told_more b old new past f gave callers = record {
   callers = callers;
 }
 
+-- and so it is with what each listener was announced
 pub heard_more : (b : Beginning) (old new : SessionView) (past : List Act) → FitsHeard b old past
     → ((i : ℕ) (k : UrcKind) → get_elem? b.kinds i ≡ some k → Gave place_of old.desk.announced new.desk.announced old.unannounced new.unannounced (kind_place k) i)
     → list_all (λ (u : Urc). is_listened b.kinds u.kind) new.unannounced ≡ true → Stay place_of old.unannounced new.unannounced
@@ -182,6 +185,7 @@ placed_fits l d e old ps vs told announced p b past f =
       };
     }
 
+-- so what waits is placed
 pub places : (d m e : DriverView) (old : Machine) (ps : List Outcome) (vs : List Urc) (told announced : Bool) → Placed caller_of IsRingOf (IsCaller d.desk) (caller_rings d) (caller_rings m) old.unplaced ps told → TellsAlone d m
     → Placed place_of (IsListenerOf m.desk.kinds) (IsHeard m.desk.kinds) (listener_rings m) (listener_rings e) old.unannounced vs announced → AnnouncesAlone m e
     → (l : LineView) → Places (turn_state l d old) (turn_state l e (record old { unplaced = ps; unannounced = vs })) (told || announced)

@@ -98,6 +98,7 @@ gotten old core fed room w acts f handles held keeps enough at_hand bound over b
       got = ap gots same ∙ ap (λ (fs : List Frame). fs ++ f ∷ []) (said_none more said);
     }
 
+-- the core handled it, and what that told and announced waits
 pub gets_moved : (old : Machine) (core : Core) (fed : Deframing) (room : ℕ) (w : WaitingLists) (acts : List Act) (f : Frame)
     → Handles old.core core (Got f) acts → KeepsHeld old.core core (Got f) acts → Keeps (record { outcomes = old.unplaced; lines = old.unannounced; room = room }) w acts → length (lines_heard acts) ≤ room
     → old.deframer.next ≡ Some f → fed.n1 ≡ old.deframer.n1 → HandsOver old.deframer fed
@@ -128,12 +129,14 @@ pub record Remains (v : Machine) : Type 0 where
   pub busy : (f : Frame) → v.deframer.next ≡ Some f → ¬ CoreIsIdle v.core
   pub full : (f : Frame) → v.deframer.next ≡ Some f → HasRoom v.core (Got f) false
 
+-- none is at hand
 pub none_at_hand : (v : Machine) → v.deframer.next ≡ None → Remains v
 none_at_hand v none = record { busy = λ f e. absurd (apart f (sym none ∙ e)); full = λ f e. absurd (apart f (sym none ∙ e)) }
   where
     apart : (f : Frame) → None ≡ Some f → ⊥
     apart f e = cc
 
+-- there is no room for what it calls for
 pub stays_at_hand : (v : Machine) (f : Frame) → Some f ≡ v.deframer.next → ¬ CoreIsIdle v.core → HasRoom v.core (Got f) false → Remains v
 stays_at_hand v f at_hand idle full = record {
   busy = λ g e. idle;
@@ -164,6 +167,7 @@ still_gets old stays l d = record {
   stays = refl;
 }
 
+-- then nothing is done
 pub gets_none : (old : Machine) (core : Core) (fed : Deframing) (outcomes : List Outcome) (lines : List Urc) → Remains old → core ≡ old.core → fed ≡ old.deframer → outcomes ≡ old.unplaced → lines ≡ old.unannounced
     → MachineGets old (record old { core = core; deframer = fed; unplaced = outcomes; unannounced = lines }) false
 gets_none old core fed outcomes lines stays same_core same_fed same_outcomes same_lines =

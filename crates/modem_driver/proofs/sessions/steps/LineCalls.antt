@@ -54,6 +54,7 @@ none_before (Some f) p stays e = absurd (both (stays f refl) e)
 
 -- ## Writing
 
+-- where no octets wait nothing is written
 pub writes_none : (l : LineView) (old : Machine) → old.unwritten ≡ [] → MachineWrites l l old old false
 unfolding MachineWrites Leads
 writes_none l old none d = record {
@@ -72,6 +73,7 @@ writes_none l old none d = record {
   stays = refl;
 }
 
+-- where some wait the line took some of them, or none
 pub writes_some : (l m : LineView) (old : Machine) (count : ℕ) → old.unwritten ≢ [] → count ≤ length old.unwritten → m.received ≡ l.received → m.sent ≡ l.sent ++ take count old.unwritten → m.failures ≡ l.failures → m.calls ≡ one_more l.calls → m.stalled_writes ≡ counted_if_none (length old.unwritten) count l.stalled_writes → m.empty_reads ≡ l.empty_reads
     → MachineWrites l m old (record old { unwritten = drop count old.unwritten }) (nat_lt 0 count)
 unfolding MachineWrites Leads MachineMoves
@@ -91,6 +93,7 @@ writes_some l m old count some few received sent failures calls stalled empty d 
   stays = refl;
 }
 
+-- or the call failed
 pub writes_failing : (l m : LineView) (old : Machine) → old.unwritten ≢ [] → m.received ≡ l.received → m.sent ≡ l.sent → m.failures ≡ l.failures + 1 → m.calls ≡ one_more l.calls → m.empty_reads ≡ l.empty_reads
     → MachineWrites l m old (record old { faulty = true }) false
 unfolding MachineWrites Leads MachineMoves
@@ -149,10 +152,12 @@ fed_there l old fed count some takes bound few more stays d = record {
     no_fewer : count ≡ 0 → 0 < count → ⊥
     no_fewer e h = omega (arith, e, h)
 
+-- where octets wait to be fed the line isn't read, and some of them or none are fed
 pub reads_fed : (l : LineView) (old new : Machine) (count : ℕ) → old.unfed ≢ [] → Feeds old new count → MachineReads l l old new (nat_lt 0 count)
 reads_fed l old new count some k =
     subst (λ (v : Machine). MachineReads l l old v (nat_lt 0 count)) (sym k.stays) (fed_there l old new.deframer count some k.takes k.bound k.few k.some k.frame_stays)
 
+-- where none wait the line was read, and gave none
 pub reads_none : (l m : LineView) (old : Machine) → old.unfed ≡ [] → m.received ≡ l.received ++ [] → m.sent ≡ l.sent → m.failures ≡ l.failures → m.calls ≡ one_more l.calls → m.empty_reads ≡ counted_if_none 512 0 l.empty_reads → m.stalled_writes ≡ l.stalled_writes → MachineReads l m old (record old { unfed = [] }) false
 unfolding MachineReads Leads MachineMoves
 reads_none l m old none received sent failures calls empty stalled d = record {
@@ -181,6 +186,7 @@ reads_none l m old none received sent failures calls empty stalled d = record {
     or_no true = refl
     or_no false = refl
 
+-- or the call failed
 pub reads_failing : (l m : LineView) (old : Machine) → old.unfed ≡ [] → m.received ≡ l.received → m.sent ≡ l.sent → m.failures ≡ l.failures + 1 → m.calls ≡ one_more l.calls → m.stalled_writes ≡ l.stalled_writes → MachineReads l m old (record old { faulty = true }) false
 unfolding MachineReads Leads MachineMoves
 reads_failing l m old none received sent failures calls stalled d = record {

@@ -57,6 +57,7 @@ fail_one us (Held d) h = h
 fail_one us (Freed d) h = h
 fail_one us Given h = h
 
+-- and so all of its acts
 pub fail_all : (us : List Urc) (acts : List Act) → list_all (may_act us) acts ≡ true → list_all (may_fail us) acts ≡ true
 fail_all us [] h = refl
 fail_all us (a ∷ acts) h =
@@ -115,6 +116,7 @@ lost_ends s v =
     ap (λ (fs : List Frame). list_any ends (outcomes_told (map Sent fs ++ tolds v (states_now s v (Lost ∷ map Sent fs)) Lost))) (no_frames s v)
     ∙ later_ends (Unit {0}) v (states_now s v (Lost ∷ [])) Lost v.waiting (λ r _. answer_ends v (states_now s v (Lost ∷ [])) r r.ask) (λ _. tt)
 
+-- all in hand are told, and what they are told waits
 pub loses : (old : Machine) (core : Core) (room : ℕ) (w : WaitingLists) (acts : List Act)
     → Handles old.core core Lost acts → KeepsHeld old.core core Lost acts → Keeps (record { outcomes = old.unplaced; lines = old.unannounced; room = room }) w acts → old.faulty ≡ true → old.core.lost ≡ false
     → MachineLoses old (record old { core = core; unplaced = w.outcomes; unannounced = w.lines })

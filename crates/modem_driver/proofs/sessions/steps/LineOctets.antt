@@ -37,6 +37,7 @@ session_with b old new past f desk unplaced unannounced loss received sent = rec
   heard = heard_part b old new past [] f.heard (ap (λ (e : EndView). e.announced) desk) (unannounced ∙ sym (append-nil (map heard_as old.unannounced))) refl;
 }
 
+-- where no fewer calls have failed the history's loss still has its cause
 pub loss_with : (b : Beginning) (old new : SessionView) (past : List Act) → SessionFits b old past → old.line.failures ≤ new.line.failures → FitsLoss b new past
 loss_with b old new past f more = record {
   one = f.loss.one;
@@ -45,6 +46,7 @@ loss_with b old new past f more = record {
 
 -- ## Feeding
 
+-- the first of them that wait go into the deframer
 pub feed_goes : (old : Machine) (fed : Deframing) (count : ℕ) → TakesIn old.deframer (take count old.unfed) fed → fed.n1 ≡ old.deframer.n1 → MachineGoes old (record old { unfed = drop count old.unfed; deframer = fed }) []
 unfolding MachineGoes
 feed_goes old fed count takes bound b l d past f =
@@ -120,6 +122,7 @@ inside_faulty b l m d old new past f core delays faulty more come = record {
     by_old false e = let same = f.sound e in omega arith
     by_old true e = let before = f.by_fault e in omega arith
 
+-- octets that came wait to be fed
 pub read_goes : (l m : LineView) (old : Machine) (came : List ℕ) → old.unfed ≡ [] → m.received ≡ l.received ++ came → m.sent ≡ l.sent → m.failures ≡ l.failures
     → MachineMoves l m old (record old { unfed = came })
 unfolding MachineMoves
@@ -156,6 +159,7 @@ fault_goes l m old received sent failures b d past f =
       inside = inside_faulty b l m d old new past f.inside refl refl refl failures (come_on b v w past [] old.course (λ h. h) (grows_none v w sent refl) f.inside.come);
     }
 
+-- octets that were taken wait no more
 pub write_goes : (l m : LineView) (old : Machine) (count : ℕ) → m.received ≡ l.received → m.sent ≡ l.sent ++ take count old.unwritten → m.failures ≡ l.failures
     → MachineMoves l m old (record old { unwritten = drop count old.unwritten })
 unfolding MachineMoves

@@ -173,6 +173,7 @@ counts false f = refl
 
 -- ## The step
 
+-- the core stands in each history that the session fits
 pub stands_in : (b : Beginning) (l : LineView) (d : DriverView) (k : Machine) (past : List Act) → FitsMachine b l d k past → StandsIn (driving b) k.core past
 stands_in b l d k past f = record { setting = f.inside.setting; fits = f.inside.fits; run = is_run b l d k past f }
 
@@ -241,6 +242,7 @@ out_fits old c f out none short goes on holds writes b l d past fit =
 goes_now : (b : Beginning) (l : LineView) (d : DriverView) (old : Machine) (o : Outgoing) (past : List Act) → old.unwritten ≡ [] → Some o ≡ next_out (driving b) past → Some o ≡ goes_in b (view_of (turn_state l d old)) past
 goes_now b l d old o past none next = next ∙ ap (λ (xs : List ℕ). if length xs == 0 then next_out (driving b) past else None) (sym none)
 
+-- the next frame goes into the empty output
 pub send_goes : (old : Machine) (o : Outgoing) (out : List ℕ) → old.unwritten ≡ [] → length o.frame.info ≤ 1024 → GoesOut old.core (Some o) → CoreGoesOn old.core → KeepsHeldOut old.core → out ≢ [] → (length o.frame.info ≤ most_info 1024 o.frame.kind → out ≡ spelled o.frame)
     → MachineSends old (record old { core = gone_on old.core; unwritten = out }) o.fresh
 unfolding MachineSends Leads AddsAll GoesOut CoreGoesOn
@@ -319,8 +321,10 @@ send_none old core same goes idle none l d =
 
 -- ## Whether octets wait
 
+-- where their count is 0 no octets wait
 pub none_wait : (xs : List ℕ) → (length xs == 0) ≡ true → xs ≡ []
 none_wait xs h = nil_from_length xs (eqb-true (length xs) 0 h)
 
+-- and else some do
 pub some_wait : (xs : List ℕ) → (length xs == 0) ≡ false → xs ≢ []
 some_wait xs h e = unsound (sym (ap (λ (ys : List ℕ). length ys == 0) e) ∙ h)

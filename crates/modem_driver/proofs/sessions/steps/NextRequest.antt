@@ -41,6 +41,7 @@ pub record Gives (d e : DriverView) (o : Option Request) : Type 0 where
 caller_of : (d : DriverView) (q : Request) → q.caller < length d.desk.rings → list_all (is_caller (length d.desk.rings)) (q ∷ []) ≡ true
 caller_of d q h = grind arith
 
+-- what the desk's end promises of its next request, if it gave one
 pub gives : (d e : DriverView) (o : Option Request) → e.desk ≡ d.desk → e.told ≡ d.told → e.announced ≡ d.announced → (e.free ≡ d.free) × (e.free_lines ≡ d.free_lines) → (e.told_back ≡ d.told_back) × (e.announced_back ≡ d.announced_back)
     → MatchOption o (RisesByOne d.found_none e.found_none) (λ _. e.found_none ≡ d.found_none) → AreNumbered e.taken
     → MatchOption o (e.taken ≡ d.taken) (λ q. (e.taken ≡ d.taken ++ q ∷ []) × (q.caller < length d.desk.rings)) → AreFormed (option_to_list o) → Gives d e o
@@ -104,6 +105,7 @@ none_adds l d e k waiting b past f = record {
   few_got = omega arith;
 }
 
+-- the desk gave none
 pub takes_none : (l : LineView) (d e : DriverView) (k : Machine) → Gives d e None → TakesOne (turn_state l d k) (turn_state l e k) false
 takes_none l d e k g = record {
   next = Some None;
@@ -124,6 +126,7 @@ takes_none l d e k g = record {
   stays = refl;
 }
 
+-- the desk wasn't asked, since requests in hand and outcomes that wait are 128
 pub asks_none : (l : LineView) (d : DriverView) (k : Machine) → 128 ≤ length k.core.hand + length k.unplaced → TakesOne (turn_state l d k) (turn_state l d k) false
 asks_none l d k full = record {
   next = None;
@@ -163,6 +166,7 @@ next_taken b l d e k q room g = record {
   announced_stays = g.announced;
 }
 
+-- the desk gave one, and it was taken
 pub takes_some : (l : LineView) (d e : DriverView) (old new : Machine) (q : Request) → length old.core.hand + length old.unplaced < 128 → Gives d e (Some q) → MachineTakes old new q → TakesOne (turn_state l d old) (turn_state l e new) true
 unfolding Leads AddsAll
 takes_some l d e old new q room g t = record {

@@ -44,6 +44,7 @@ use Rattle.modem_core.proofs.sessions.steps.ListenedLines.{calls_hear}
 use Rattle.modem_driver.proofs.sessions.steps.WaitingDeliveries.{received_part, sent_part}
 use Rattle.modem_driver.proofs.sessions.polls.StopsInHand.{ends, none_ends}
 
+-- the core may be asked in each history that the session fits
 pub may_ask : (b : Beginning) (l : LineView) (d : DriverView) (k : Machine) (past : List Act) → FitsMachine b l d k past → MayAsk (driving b) k.core past
 may_ask b l d k past f = record { setting = f.inside.setting; fits = f.inside.fits; holds = f.inside.holds; run = is_run b l d k past f }
 
@@ -71,6 +72,7 @@ true_false e = cc
 out : {P : Type 0} → false ≡ true → P
 out e = cc
 
+-- what is said in a call a turn may have
 pub said_may : (us : List Urc) (more : List Act) → Saids more → list_all (may_act us) more ≡ true
 said_may us [] h = refl
 said_may us (Sent f ∷ more) h = said_may us more (and_parts (is_said (Sent f)) (list_all is_said more) h).1
@@ -356,6 +358,7 @@ no_acts acts e = nil_from_length acts (eqb-true (length acts) 0 (not_false (leng
     not_false true h = refl
     not_false false h = absurd (true_false h)
 
+-- the core did what the backlog called for
 pub checks_one : (old : Machine) (core : Core) (n : ℕ) (acts : List Act) (x : Option Bool) → acts ≡ acts_due n x → Flows old.core core n (backlog_in n old.unannounced) acts → ChecksOne n old (record old { core = core }) (not (length acts == 0))
 unfolding MachineGoes Flows
 checks_one old core n acts x are flows = record {
@@ -398,6 +401,7 @@ checks_none old n h looks = record {
   stays = refl;
 }
 
+-- no backlog of the connection calls for anything
 pub checks_never : (old : Machine) (n : ℕ) → NeverDue old.core n → ChecksOne n old old false
 unfolding NeverDue
 checks_never old n never =
@@ -422,6 +426,7 @@ no_msc b past n signals none d = by_open (is_opened ((seen (driving b) past).sta
     by_open true h = full h
     by_open false h = absurd (true_false h)
 
+-- what the backlog calls for has no place in the control queue
 pub checks_full : (old : Machine) (n : ℕ) → HasNoRoom old.core n (backlog_in n old.unannounced) → ChecksOne n old old false
 unfolding HasNoRoom
 checks_full old n full = checks_none old n (λ b l d past f empty.

@@ -133,6 +133,7 @@ takes_all old core room q w acts role handles held keeps b l d later past f next
       adds = λ waiting. record { outcomes = unplaced; lines = lines; may = said_may waiting more said; few_got = said_few more 0 said };
     })
 
+-- the core took it, and what that told waits
 pub takes : (old : Machine) (core : Core) (room : ℕ) (q : Request) (w : WaitingLists) (acts : List Act) → old.core.station.role ≡ Initiator
     → Handles old.core core (Took q) acts → KeepsHeld old.core core (Took q) acts → Keeps (record { outcomes = old.unplaced; lines = old.unannounced; room = room }) w acts
     → MachineTakes old (record old { core = core; unplaced = w.outcomes; unannounced = w.lines }) q

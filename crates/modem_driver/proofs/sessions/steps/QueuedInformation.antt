@@ -127,6 +127,7 @@ one_more : (s : Setting) (past : List Act) (f : Frame) (b : Bool) → Plains (qu
 one_more s past f true h n = all_both is_plain (queue (wire past)) [] h refl
 one_more s past f false h n = all_both is_plain (queue (wire past)) (f ∷ []) h (all_more is_plain f [] (next_plain (owed s past) f (owed_plain s past) n) refl)
 
+-- so it is in every lawful history
 pub queue_plain : (s : Setting) (past : List Act) → Lawful s past → list_all is_plain (queue (wire past)) ≡ true
 unfolding Lawful
 queue_plain s [] h = refl

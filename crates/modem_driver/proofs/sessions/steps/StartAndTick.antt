@@ -36,6 +36,7 @@ use Rattle.modem_history.specs.Lawful.{Lawful}
 unsound : {P : Type 0} → true ≡ false → P
 unsound e = cc
 
+-- what a session that begins keeps fits the empty history
 pub machine_begins : (rules : Rules) (dialect : Dialect) → dialect ≡ dialect_of rules → (n1 : ℕ) (ks : List UrcKind) (k : Machine) (d : DriverView) → k ≡ machine_by rules n1 ks → ((m : UrcKind) → Contains ks m ↔ Contains d.desk.kinds m) → Fits k.core [] → HoldsFit k.core []
     → (l : LineView) → MachineFits (beginning_by dialect n1 l d) l d k []
 machine_begins rules dialect is n1 ks k d e same fits holds l = record {
@@ -65,6 +66,7 @@ pub least_n1 : {T E : Type 0} (n : ℕ) (x : T) (e : E) → IsErrOf (Ok x) e ↔
 least_n1 zero x e h = absurd (let g : Ok x ≡ Err e = h.1 (inl (lit< tt)) in cc)
 least_n1 (suc n) x e h = omega arith
 
+-- and so does what is seen of it
 pub begins_over : (rules : Rules) (dialect : Dialect) (n1 : ℕ) (ks : List UrcKind) (k : Machine) (l : LineView) (d : DriverView) → 1 ≤ n1 → k ≡ machine_by rules n1 ks → MachineFits (beginning_by dialect n1 l d) l d k [] → FitsMachine (beginning_by dialect n1 l d) l d k []
 unfolding BeginsFitting
 begins_over rules dialect n1 ks k l d low e inside =
@@ -77,6 +79,7 @@ begins_over rules dialect n1 ks k l d low e inside =
 tick_bare : (past : List Act) → IsBare Tick past
 tick_bare past = record { taken_is = refl; given_is = refl; hand_is = refl; room_is = λ h. h; turn_is = λ s h. (tt, h); told_is = λ more. refl; heard_is = λ more. refl }
 
+-- a tick: the core handled it, what it told waits, and its ticks are counted
 pub tick_goes : (old : Machine) (core : Core) (delays : List (Option Delay)) (room : ℕ) (w : WaitingLists) (acts : List Act)
     → Handles old.core core Tick acts → KeepsHeld old.core core Tick acts → Keeps (record { outcomes = old.unplaced; lines = old.unannounced; room = room }) w acts → CountsTick old.delays delays old.core.hand → old.core.lost ≡ false
     → MachineTicks old (record old { core = core; unplaced = w.outcomes; unannounced = w.lines; delays = delays; course = course_after old.course (is_answered (option_map asker_of (find is_stop old.core.hand)) acts) })
@@ -128,6 +131,7 @@ unfolding MachineGoes Ticks
 session_ticks {X} look x d s old new e h = subst (λ (v : SessionState X). Ticks look v (record { line = x; driver = d; machine = new })) e
     (record { acts = h.acts; goes = λ b. h.goes b (look x) d; tick = λ b. h.tick b (look x) d })
 
+-- so it is where a session could be made
 pub all_begin : (rules : Rules) (n1 : ℕ) (r : Result Machine SessionError) (d : DriverView) (ks : List UrcKind) → ks ≡ d.desk.kinds
     → IfOk r (λ k. k ≡ machine_by rules n1 ks) → IfOk r (λ k. Fits k.core []) → IfOk r (λ k. HoldsFit k.core [])
     → IfOk r (λ k. (l : LineView) → MachineFits (beginning_by (dialect_of rules) n1 l d) l d k [])

@@ -20,12 +20,15 @@ formed_both : (qs rs : List Request) → AreFormed qs → AreFormed rs → AreFo
 formed_both [] rs h k = k
 formed_both (q ∷ qs) rs h k = (h.0, formed_both qs rs h.1 k)
 
+-- where desk and requests stay none was taken
 pub takes_same : (d e : DriverView) → e.desk ≡ d.desk → e.taken ≡ d.taken → TakesMore d e
 takes_same d e desk taken = record { desk = desk; more = []; taken = taken ∙ sym (append-nil d.taken); callers = refl; formed = tt }
 
+-- nor where nothing happened
 pub takes_none : (d : DriverView) → TakesMore d d
 takes_none d = takes_same d d refl refl
 
+-- some were taken, and then others
 pub takes_then : (d e f : DriverView) → TakesMore d e → TakesMore e f → TakesMore d f
 takes_then d e f a b =
     let callers : list_all (is_caller (length d.desk.rings)) b.more ≡ true = subst (λ (x : DeskId). list_all (is_caller (length x.rings)) b.more ≡ true) a.desk b.callers in
@@ -50,12 +53,15 @@ lost_driver SessionFault.Line old new h = ap (λ (s : TurnState). s.driver) h.0
 lost_driver SessionFault.NoMemory old new h = absurd h
 lost_driver SessionFault.Failed old new h = ap (λ (s : TurnState). s.driver) h.0
 
+-- checking backlogs leaves the desk's end
 pub checked_driver : {s1 s2 : TurnState} {m2 : Bool} → Checks s1 s2 m2 → s2.driver ≡ s1.driver
 checked_driver {s1} {s2} {m2} k = ap (λ (s : TurnState). s.driver) k.stays
 
+-- so do sending and writing behind that
 pub wrote_driver : {s1 s2 s3 s4 : TurnState} {m2 m3 m4 : Bool} → Checks s1 s2 m2 → SendsOn s2 s3 m3 → Writes s3 s4 m4 → s4.driver ≡ s1.driver
 wrote_driver {s1} {s2} {s3} {s4} {m2} {m3} {m4} k n w = ap (λ (s : TurnState). s.driver) w.stays ∙ (ap (λ (s : TurnState). s.driver) n.stays ∙ checked_driver k)
 
+-- and handling a frame and reading
 pub read_driver : {s1 s2 s3 s4 s5 s6 : TurnState} {m2 m3 m4 m5 m6 : Bool} → Checks s1 s2 m2 → SendsOn s2 s3 m3 → Writes s3 s4 m4 → Gets s4 s5 m5 → ReadsOn s5 s6 m6 → s6.driver ≡ s1.driver
 read_driver {s1} {s2} {s3} {s4} {s5} {s6} {m2} {m3} {m4} {m5} {m6} k n w g r = ap (λ (s : TurnState). s.driver) r.stays ∙ (ap (λ (s : TurnState). s.driver) g.stays ∙ wrote_driver k n w)
 

@@ -34,6 +34,7 @@ ticks_after (Held n ∷ more) past h d who = out h
 ticks_after (Freed n ∷ more) past h d who = out h
 ticks_after (Given ∷ more) past h d who = out h
 
+-- so what is kept stays right
 pub delays_after : (delays : List (Option Delay)) (more past : List Act) → Saids more → AreDelays delays past → AreDelays delays (after past more)
 delays_after delays more past said are d small who = are d small who ∙ sym (ticks_after more past said d who)
 
@@ -61,6 +62,7 @@ counted_so delay (Some x) who = by_test (is_same who x) refl
     by_test true h = ap (λ (y : Asker). one_more (ticks_kept delay y)) (sym (same_asker who x h))
     by_test false h = refl
 
+-- what is counted at a tick is right after it
 pub delays_tick : (old new : List (Option Delay)) (hand : List Request) (past : List Act) → in_hand past ≡ hand → CountsTick old new hand → AreDelays old past → AreDelays new (Tick ∷ past)
 delays_tick old new hand past is counts are d small who =
     ap (λ (e : Option Delay). ticks_kept e who) (counts d small)
@@ -73,12 +75,14 @@ pub record CountedSo (old now : List (Option Delay)) (hand : List Request) (n : 
   pub long : length now ≡ 62
   pub below : (d : ℕ) → d < n → delay_at now d ≡ delay_after (delay_at old d) (first_command d hand)
 
+-- at first none is counted
 pub counted_none : (old : List (Option Delay)) (hand : List Request) → length old ≡ 62 → CountedSo old old hand 0
 counted_none old hand long = record { long = long; below = λ d small. absurd (none d small) }
   where
     none : (d : ℕ) → d < 0 → ⊥
     none d small = omega (arith, small)
 
+-- one connection more is counted
 pub counted_more : (old now : List (Option Delay)) (hand : List Request) (n : ℕ) (delay : Option Delay) → n < 62 → delay ≡ delay_after (delay_at old n) (first_command n hand)
     → CountedSo old now hand n → CountedSo old (slice_set now n delay) hand (n + 1)
 counted_more old now hand n delay small is so = record {
@@ -93,11 +97,13 @@ counted_more old now hand n delay small is so = record {
 
 -- ## The beginning
 
+-- before the first tick no command has waited
 pub delays_none : AreDelays (replicate 62 None) []
 delays_none d small who = ap (λ (e : Option Delay). ticks_kept e who) (get_or-replicate 62 d None None small)
 
 -- ## What is answered
 
+-- the ticks that are answered for a connection are those of the history
 pub shown_so : (k : Machine) (past : List Act) → AreDelays k.delays past → in_hand past ≡ k.core.hand → (d : ℕ) → d < 62 → ticks_shown k.delays k.core.hand d ≡ waiting_ticks d past
 shown_so k past are is d small =
     each (first_command d k.core.hand) ∙ ap (λ (qs : List Request). option_map (λ who. ticks_waited d who past) (first_command d qs)) (sym is)
@@ -106,10 +112,12 @@ shown_so k past are is d small =
     each None = refl
     each (Some who) = ap (λ (n : ℕ). Some n) (are d small who)
 
+-- so they are of a session
 pub session_shows : {X : Type 0} (look : X → LineView) (s : SessionState X) (d : ℕ) (says : Option ℕ) → d < 62 → says ≡ ticks_shown s.machine.delays s.machine.core.hand d
     → (b : Beginning) (past : List Act) → FitsAll b look s past → says ≡ waiting_ticks d past
 session_shows look s d says small is b past f = is ∙ shown_so s.machine past f.inside.delays_are f.inside.fits.hand_is d small
 
+-- and of an endpoint
 pub endpoint_shows : (e : EndpointState) (n : ℕ) (says : Option ℕ) → n < 62 → says ≡ ticks_shown e.machine.delays e.machine.core.hand n
     → (b : Beginning) (l : LineView) (d : DriverView) (past : List Act) → EndpointFits b l d e past → says ≡ waiting_ticks n past
 endpoint_shows e n says small is b l d past f = is ∙ shown_so e.machine past f.stands.inside.delays_are f.stands.inside.fits.hand_is n small

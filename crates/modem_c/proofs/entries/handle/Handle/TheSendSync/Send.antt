@@ -20,6 +20,7 @@ held : (a : Global) (p : Ptr) (h : Option Entering.the_row.Denot) → Keyless (h
 held a p None = tt
 held a p (Some e) = (lies Entering.the_row entering p e, heap.frees.frees a (raw (lone Entering.the_row.mir)) p)
 
+-- it may be sent to another thread
 pub send : IsSend the_row
 send =
     let all : AllSend (fields the_type) = (search sendable, (allocator.the_field_send, tt)) in
