@@ -14,7 +14,7 @@ use std::collections::VecDeque;
 use std::marker::Model;
 
 /// How many places of kinds there are.
-pub(crate) const KINDS: usize = 263;
+pub(crate) const KIND_PLACES: usize = 263;
 
 /// So many lines of one connection hold it.
 const MANY: usize = 256;
@@ -24,7 +24,7 @@ const MANY: usize = 256;
 pub(crate) struct LineQueue {
     lines: VecDeque<Urc>,
     channels: [usize; Dlci::COUNT],
-    kinds: [usize; KINDS],
+    kinds: [usize; KIND_PLACES],
 }
 
 impl Model for LineQueue {
@@ -76,7 +76,7 @@ impl LineQueue {
         LineQueue {
             lines: VecDeque::new(alloc),
             channels: [0; Dlci::COUNT],
-            kinds: [0; KINDS],
+            kinds: [0; KIND_PLACES],
         }
     }
 
@@ -86,7 +86,7 @@ impl LineQueue {
         ensures { result.items ≡ lines.items }
     {
         let mut channels = [0; Dlci::COUNT];
-        let mut kinds = [0; KINDS];
+        let mut kinds = [0; KIND_PLACES];
         let many = lines.len();
         for place in 0..many {
             let line = &lines[place];

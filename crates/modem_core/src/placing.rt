@@ -2,7 +2,7 @@
 ghost use Rattle.std.specs.Prelude.{◌≡◌, ◌<◌, false};
 ghost use Rattle.modem_core.specs.Placing.{LeavesAll, OffersFirst, Placed, TellsAlone, AnnouncesAlone, caller_of, place_of, IsRingOf, IsCaller, IsListenerOf, IsHeard, caller_rings, listener_rings};
 
-use crate::line_queue::KINDS;
+use crate::line_queue::KIND_PLACES;
 use crate::waiting::Waiting;
 use modem_desk::DriverEnd;
 
@@ -57,7 +57,7 @@ impl Waiting {
     /// The first line is offered to the listener of its kind, unless one of that kind was handed back
     /// before. One that is handed back, or isn't offered, goes behind the others. Whether it was
     /// announced.
-    fn offer_line(&mut self, driver: &mut DriverEnd, held_up: &mut [bool; KINDS]) -> bool
+    fn offer_line(&mut self, driver: &mut DriverEnd, held_up: &mut [bool; KIND_PLACES]) -> bool
         ensures offers { OffersFirst place_of (IsListenerOf driver.old.desk.kinds)
             (IsHeard driver.old.desk.kinds) (listener_rings driver.old) (listener_rings driver.new)
             held_up.old held_up.new self.old.lines self.new.lines result }
@@ -81,7 +81,7 @@ impl Waiting {
     }
 
     /// Whether a line waits of a kind that is listened to and of which none was handed back.
-    fn may_offer(&self, driver: &DriverEnd, held_up: &[bool; KINDS]) -> bool
+    fn may_offer(&self, driver: &DriverEnd, held_up: &[bool; KIND_PLACES]) -> bool
         ensures { result ≡ false → LeavesAll driver.now.desk.kinds held_up.now self.now.lines }
     {
         driver.kinds().iter().any(|kind| !held_up[kind.place()] && self.lines.of_kind(*kind) > 0)
@@ -100,7 +100,7 @@ impl Waiting {
         if many == 0 {
             return false;
         }
-        let mut held_up = [false; KINDS];
+        let mut held_up = [false; KIND_PLACES];
         let mut moved = false;
         for place in 0..many {
             moved |= self.offer_line(driver, &mut held_up);

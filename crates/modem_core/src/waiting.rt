@@ -82,15 +82,6 @@ impl Waiting {
         }
     }
 
-    /// Makes room for so many more lines.
-    pub(crate) fn make_room(&mut self, more: usize) -> Result<(), AllocError>
-        ensures outcomes { self.new.outcomes ≡ self.old.outcomes }
-        ensures lines { self.new.lines ≡ self.old.lines }
-        ensures room { OnOk result (more ≤ self.new.room) }
-    {
-        self.lines.reserve(more)
-    }
-
     /// What an act tells or announces waits behind the others.
     fn put(&mut self, act: Act)
         ensures { Puts self.old self.new (act_of act) }

@@ -1,15 +1,8 @@
 -- How a session ends: a Stop is answered by Stopped or NoAnswer, and then all is written and placed.
-use Rattle.std.specs.Prelude.{◌≡◌, ℕ, ◌==◌, ◌&&◌, Bool, true, false, List, ◌++◌, Option, Some, None, Result, Ok, Err}
-use Rattle.std.specs.List.{list_any}
-use Rattle.modem_desk.specs.declared.request.Ask.{Ask}
-use Rattle.modem_desk.specs.declared.request.Ask.TheVariants.{Stop}
-use Rattle.modem_desk.specs.declared.request.Request.{Request}
-use Rattle.modem_desk.specs.declared.request.Answer.{Answer}
-use Rattle.modem_desk.specs.declared.request.Answer.TheVariants.{Stopped, NoAnswer}
-use Rattle.modem_desk.specs.declared.request.Outcome.{Outcome}
-use Rattle.modem_history.specs.Acts.{Act, Told, after, is_for}
+use Rattle.std.specs.Prelude.{◌≡◌, ℕ, Bool, true, false, List, ◌++◌, Result, Ok, Err}
+use Rattle.modem_history.specs.Acts.{Act, after}
 use Rattle.modem_history.specs.Calls.{is_lost}
-use Rattle.modem_history.specs.Wholes.{taken_requests, outcomes}
+use Rattle.modem_history.specs.Wholes.{outcomes}
 use Rattle.modem_history.specs.Sessions.{Beginning, SessionView, sents, octets_of_frames, caller_outcomes, at_place}
 use Rattle.modem_core.specs.Stops.{has_stopped}
 use Rattle.modem_driver.specs.declared.machine.course.Course.{Course}

@@ -1,15 +1,12 @@
 -- Turns of a session: how each ends.
-use Rattle.std.specs.Prelude.{◌≡◌, ◌≢◌, ℕ, ◌+◌, ◌<◌, ◌≤◌, nat_le, length, drop, None, Some, Bool, true, false, List, [], ◌∷◌, take, slice_index_or}
-use Rattle.std.specs.List.{list_all}
+use Rattle.std.specs.Prelude.{◌≡◌, ◌≢◌, ℕ, ◌+◌, ◌<◌, ◌≤◌, length, drop, None, Some, Bool, true, false, [], take, slice_index_or}
 use mathlib.Core.Option.{some}
 use lib.ListN.{get_elem?}
 use Rattle.mux_frame.specs.Frames.{Frame}
 use Rattle.mux_frame.specs.Deframing.{TakesIn}
 use Rattle.at_text.specs.declared.unsolicited.UrcKind.{UrcKind}
-use Rattle.modem_desk.specs.declared.request.Outcome.{Outcome}
-use Rattle.modem_desk.specs.declared.request.Urc.{Urc}
 use Rattle.modem_desk.specs.Ends.{DriverView}
-use Rattle.modem_history.specs.Sessions.{LineView, at_place, caller_outcomes}
+use Rattle.modem_history.specs.Sessions.{LineView, at_place}
 use Rattle.modem_history.specs.Turns.{TurnAnswer, TurnFault}
 use Rattle.modem_history.specs.EveryTurn.{GoesTurn, GoesFault}
 use Rattle.modem_driver.specs.declared.session.error.SessionFault.{SessionFault}

@@ -22,13 +22,11 @@ use Rattle.modem_history.specs.Placing.{marks}
 use Rattle.modem_history.specs.Wholes.{is_first, is_said}
 use Rattle.modem_core.specs.declared.event.Event.{Event}
 use Rattle.modem_history.specs.Lawful.{When}
-use Rattle.modem_history.specs.Sessions.{Beginning, SessionView, driving}
 use Rattle.modem_history.specs.GoingOut.{SendsInTurn, waits_on, may_send, from_on, next_to_send, data_of, out_by, next_out}
 use Rattle.modem_core.specs.Replays.{Piece, acts_in, first_of, after_call, with_piece, GoOutInTurn, ArePieces, Replays, AreFull, ends_command, is_full}
 use Rattle.modem_core.specs.ReplayRows.{half_frames, NoReplayOfAny}
 use Rattle.modem_core.proofs.replays.FirstActs.{brought_first}
 use Rattle.modem_core.proofs.replays.Pieces.{turn_found, next_live, frame_out, data_next}
-use Rattle.modem_history.proofs.rules.MadeLaws.{laws_of}
 
 -- ## What waits ends with a CR
 

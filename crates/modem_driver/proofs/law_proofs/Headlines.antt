@@ -34,7 +34,7 @@ use Rattle.modem_history.proofs.outcomes.OutcomeCounts.{answers_once, lawful_par
 use Rattle.modem_history.proofs.outcomes.OwnAnswers.{tells_own}
 use Rattle.modem_history.proofs.outcomes.SingleOutcomes.{of_its_caller, uses_once}
 use Rattle.modem_history.proofs.requests.UntoldRequests.{all_answer, hand_is}
-use Rattle.modem_driver.specs.Headline.{AnswersOwn, Announces, HasEnd, HasOnePlace, HearsEach, Holds, InSubmittedOrder, IsHeadline, IsSettled, NoneAfterClose, Run, outcomes_of}
+use Rattle.modem_driver.specs.Headline.{AnswersOwn, Announces, HasEnd, HasOnePlace, HearsEach, Holds, InSubmittedOrder, IsHeadline, IsSettled, NoneAfterClose, Run, SendsFull, outcomes_of}
 use Rattle.modem_core.proofs.replays.FullFrames.{turns_are_full}
 use Rattle.modem_driver.proofs.law_proofs.GrownHistories.{fits_in}
 use Rattle.modem_driver.proofs.law_proofs.RequestNumbers.{numbered_once}
@@ -275,7 +275,7 @@ headline run s =
       holds = holds_each run s e;
     }
 
--- so it is of every session
+-- in every history of a session all data frames of a command but the last have N1 octets
 pub sends_full : (b : Beginning) (v : SessionView) (past : List Act) → SendsFull b v past
 unfolding SendsFull
 sends_full b v past f = turns_are_full (driving b) past (laws_of f.history).in_turn

@@ -205,7 +205,7 @@ got_was s d past f n o =
     let t = standings s.role d (wire past) in
     open_left t.own.is_open (not (ends t.zero.is_open d (station.Got f))) (or_right (opens_now s.role d (wire past) (station.Got f)) _ n (open_first s d past (Got f) o))
 
--- a frame without data on an open connection
+-- the frame is data on an open connection
 abbrev pub is_read : Setting → List Act → Frame → Bool
 is_read s past f = is_opened ((seen s past).state f.dlci) && is_data_frame f
 

@@ -4,7 +4,6 @@ use Rattle.std.specs.Prelude.{List}
 use Rattle.modem_desk.specs.declared.request.Urc.{Urc}
 use Rattle.modem_history.specs.Acts.{Tick}
 use Rattle.modem_driver.specs.declared.machine.course.Course.{Course}
-use Rattle.modem_driver.specs.declared.machine.Machine.TheInside.{Inside}
 use Rattle.modem_core.specs.Doing.{acts_since, stop_in}
 use Rattle.modem_driver.specs.Endings.{course_after}
 use Rattle.modem_core.specs.Stops.{is_answered}
