@@ -1,5 +1,6 @@
 -- How a run ends without its whole output: for which cause, what stands on the output then, and what is said beside it.
 use Rattle.std.specs.Prelude.{◌≡◌, ◌≢◌, ◌⊎◌, ◌<◌, ℕ, Bool, List, Option, IfSome}
+use Rattle.mux_frame.specs.Spelling.{IsBadN1}
 use Rattle.ctl_run.specs.Bench.{IsNoSubmission}
 use Rattle.ctl_text.specs.Input.{input_lines}
 use Rattle.ctl_text.specs.Writing.{IsBegun}
@@ -43,7 +44,7 @@ IsRunStop n1 IsBad Has input Stop.Input = Unit {0}
 IsRunStop n1 IsBad Has input Stop.Output = Unit {0}
 IsRunStop n1 IsBad Has input Stop.Line = ⊥
 IsRunStop n1 IsBad Has input (Stop.GaveUp cause) = ⊥
-IsRunStop n1 IsBad Has input Stop.BadN1 = (n1 < 31) ⊎ (32767 < n1)
+IsRunStop n1 IsBad Has input Stop.BadN1 = IsBadN1 n1
 IsRunStop n1 IsBad Has input Stop.BadCallers = ⊥
 IsRunStop n1 IsBad Has input Stop.BadCut = ⊥
 IsRunStop n1 IsBad Has input (Stop.Dialect fault) = ⊥

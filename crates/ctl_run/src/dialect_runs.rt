@@ -1,6 +1,7 @@
 //! A replay at a modem with codes of its own.
 ghost use Rattle.std.specs.Prelude.{◌≡◌, ◌≢◌, ℕ, ◌≤◌, ◌<◌, ◌⊎◌, map, Err, IfErr, IfOk, IfSome, IsErrOf, false};
 ghost use Rattle.std.specs.String.{string_bytes};
+ghost use Rattle.mux_frame.specs.Spelling.{IsBadN1};
 ghost use Rattle.modem_history.specs.Acts.{act_of};
 ghost use Rattle.modem_history.specs.Wholes.{UsesOnce};
 ghost use Rattle.modem_core.specs.DialectReplays.{ReplaysBy};
@@ -103,10 +104,10 @@ pub fn replay_with_dialect_run_explained<R: Read, W: Write, E: Write>(
     ensures nothing { result ≡ 1 → HasGivenUp explained output.old output.new (E.contents faults.old)
         (E.contents faults.new) result }
     ensures refused { result ≡ 2
-        → ((n1 < 31) ⊎ (32767 < n1))
+        → IsBadN1 n1
         ⊎ IfSome (R.remaining input.old) (λ text. HasBad IsNoOrder EventFault (input_lines text)) }
     ensures bad { result ≡ 2 → output.new ≡ output.old }
-    ensures bad_n1 { (n1 < 31) ⊎ (32767 < n1) → (result ≡ 2) × (input.new ≡ input.old) }
+    ensures bad_n1 { IsBadN1 n1 → (result ≡ 2) × (input.new ≡ input.old) }
     ensures silent { result ≡ 0 → faults.new ≡ faults.old }
 {
     let Some(n1) = N1::new(n1) else {
@@ -135,10 +136,10 @@ pub fn replay_with_dialect_run<R: Read, W: Write, E: Write>(
     ensures nothing { result ≡ 1 → HasGivenUp false output.old output.new (E.contents faults.old)
         (E.contents faults.new) result }
     ensures refused { result ≡ 2
-        → ((n1 < 31) ⊎ (32767 < n1))
+        → IsBadN1 n1
         ⊎ IfSome (R.remaining input.old) (λ text. HasBad IsNoOrder EventFault (input_lines text)) }
     ensures bad { result ≡ 2 → output.new ≡ output.old }
-    ensures bad_n1 { (n1 < 31) ⊎ (32767 < n1) → (result ≡ 2) × (input.new ≡ input.old) }
+    ensures bad_n1 { IsBadN1 n1 → (result ≡ 2) × (input.new ≡ input.old) }
     ensures silent { result ≡ 0 → faults.new ≡ faults.old }
 {
     replay_with_dialect_run_explained(alloc, input, output, faults, n1, dialect, false)

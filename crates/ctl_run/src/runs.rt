@@ -1,6 +1,7 @@
 //! The subcommands, each over a reader and two writers.
 ghost use Rattle.std.specs.Prelude.{◌≡◌, ◌≢◌, ℕ, ◌≤◌, ◌<◌, ◌⊎◌, map, Ok, Err, IfOk, IfSome, IsErrOf, OnErr, MatchResult, true, false};
 ghost use Rattle.std.specs.String.{string_bytes};
+ghost use Rattle.mux_frame.specs.Spelling.{IsBadN1};
 ghost use Rattle.mux_frame.specs.Frames.{kept_frame};
 ghost use Rattle.mux_frame.specs.Reading.{Reads};
 ghost use Rattle.modem_history.specs.Acts.{act_of};
@@ -107,10 +108,10 @@ pub fn replay_run_explained<R: Read, W: Write, E: Write>(
     ensures nothing { result ≡ 1 → HasGivenUp explained output.old output.new (E.contents faults.old)
         (E.contents faults.new) result }
     ensures refused { result ≡ 2
-        → ((n1 < 31) ⊎ (32767 < n1))
+        → IsBadN1 n1
         ⊎ IfSome (R.remaining input.old) (λ text. HasBad IsNoOrder EventFault (input_lines text)) }
     ensures bad { result ≡ 2 → output.new ≡ output.old }
-    ensures bad_n1 { (n1 < 31) ⊎ (32767 < n1) → (result ≡ 2) × (input.new ≡ input.old) }
+    ensures bad_n1 { IsBadN1 n1 → (result ≡ 2) × (input.new ≡ input.old) }
     ensures silent { result ≡ 0 → faults.new ≡ faults.old }
 {
     let Some(n1) = N1::new(n1) else {
@@ -139,10 +140,10 @@ pub fn replay_run<R: Read, W: Write, E: Write>(
     ensures nothing { result ≡ 1 → HasGivenUp false output.old output.new (E.contents faults.old)
         (E.contents faults.new) result }
     ensures refused { result ≡ 2
-        → ((n1 < 31) ⊎ (32767 < n1))
+        → IsBadN1 n1
         ⊎ IfSome (R.remaining input.old) (λ text. HasBad IsNoOrder EventFault (input_lines text)) }
     ensures bad { result ≡ 2 → output.new ≡ output.old }
-    ensures bad_n1 { (n1 < 31) ⊎ (32767 < n1) → (result ≡ 2) × (input.new ≡ input.old) }
+    ensures bad_n1 { IsBadN1 n1 → (result ≡ 2) × (input.new ≡ input.old) }
     ensures silent { result ≡ 0 → faults.new ≡ faults.old }
 {
     replay_run_explained(alloc, input, output, faults, n1, false)
@@ -166,10 +167,10 @@ pub fn frames_run_explained<R: Read, W: Write, E: Write>(
     ensures nothing { result ≡ 1 → HasGivenUp explained output.old output.new (E.contents faults.old)
         (E.contents faults.new) result }
     ensures refused { result ≡ 2
-        → ((n1 < 31) ⊎ (32767 < n1))
+        → IsBadN1 n1
         ⊎ IfSome (R.remaining input.old) (λ text. HasBad IsNoDump DumpFault (input_lines text)) }
     ensures bad { result ≡ 2 → output.new ≡ output.old }
-    ensures bad_n1 { (n1 < 31) ⊎ (32767 < n1) → (result ≡ 2) × (input.new ≡ input.old) }
+    ensures bad_n1 { IsBadN1 n1 → (result ≡ 2) × (input.new ≡ input.old) }
     ensures silent { result ≡ 0 → faults.new ≡ faults.old }
 {
     let Some(n1) = N1::new(n1) else {
@@ -197,10 +198,10 @@ pub fn frames_run<R: Read, W: Write, E: Write>(
     ensures nothing { result ≡ 1 → HasGivenUp false output.old output.new (E.contents faults.old)
         (E.contents faults.new) result }
     ensures refused { result ≡ 2
-        → ((n1 < 31) ⊎ (32767 < n1))
+        → IsBadN1 n1
         ⊎ IfSome (R.remaining input.old) (λ text. HasBad IsNoDump DumpFault (input_lines text)) }
     ensures bad { result ≡ 2 → output.new ≡ output.old }
-    ensures bad_n1 { (n1 < 31) ⊎ (32767 < n1) → (result ≡ 2) × (input.new ≡ input.old) }
+    ensures bad_n1 { IsBadN1 n1 → (result ≡ 2) × (input.new ≡ input.old) }
     ensures silent { result ≡ 0 → faults.new ≡ faults.old }
 {
     frames_run_explained(alloc, input, output, faults, n1, false)

@@ -6,7 +6,7 @@ use Rattle.modem_sim.specs.declared.script.Step.{Step}
 use Rattle.modem_sim.specs.declared.state.ModemState.{ModemState}
 use Rattle.mux_frame.specs.Frames.{Frame}
 use Rattle.mux_frame.specs.Reading.{Reads}
-use Rattle.mux_frame.specs.Spelling.{flag}
+use Rattle.mux_frame.specs.Spelling.{flag, IsBadN1}
 use Rattle.modem_sim.specs.Acts.{Act, End}
 use Rattle.modem_sim.specs.Heard.{modem_after}
 use Rattle.modem_sim.specs.Steps.{started_with_words}
@@ -111,7 +111,7 @@ has_bad_pin (Some pin) = not (is_pin pin)
 
 -- this option is bad: N1 isn't 31 to 32767; or it is, and the PIN isn't 4 to 8 digits
 abbrev pub IsBadBy : SimOptions → BadOption → Type 0
-IsBadBy options BadOption.N1 = (options.n1 < 31) ⊎ (32767 < options.n1)
+IsBadBy options BadOption.N1 = IsBadN1 options.n1
 IsBadBy options BadOption.Pin = (31 ≤ options.n1) × (options.n1 ≤ 32767) × (has_bad_pin options.pin ≡ true)
 
 -- N1 isn't 31 to 32767, or the PIN isn't 4 to 8 digits

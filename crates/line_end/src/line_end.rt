@@ -1,10 +1,10 @@
 //! One end of a line.
-ghost use Rattle.std.specs.Prelude.{◌≡◌, ◌≢◌, ◌↔◌, ◌⊎◌, ◌+◌, ◌-◌, ◌<◌, ◌≤◌, ◌==◌, ◌++◌, [], true, None, Some, length, min, option_map, take, drop, IfOk, IfSome, IsErrOf, IsSome, OnErr, OnOk};
+ghost use Rattle.std.specs.Prelude.{◌≡◌, ◌≢◌, ◌↔◌, ◌+◌, ◌-◌, ◌<◌, ◌≤◌, ◌==◌, ◌++◌, [], true, None, Some, length, min, option_map, take, drop, IfOk, IfSome, IsErrOf, IsSome, OnErr, OnOk};
 ghost use Rattle.std.specs.Borrow.{sem};
 ghost use Rattle.std.specs.Io.BufRead.{Rests};
 ghost use Rattle.mux_frame.specs.Deframing.{Deframes, HandsOver, TakesIn, ring_room};
 ghost use Rattle.mux_frame.specs.Frames.{Frame, frame_of};
-ghost use Rattle.mux_frame.specs.Spelling.{most_info, spelled};
+ghost use Rattle.mux_frame.specs.Spelling.{most_info, spelled, IsBadN1};
 ghost use Rattle.serial_line.specs.Counts.{counted_if_none, one_more};
 ghost use Rattle.line_end.specs.LineEnds.{new_end};
 
@@ -46,7 +46,7 @@ impl LineEnd {
     pub fn new(alloc: Global, n1: u16) -> Result<LineEnd, FrameError>
         ensures ok { IfOk result (λ e. e ≡ new_end n1) }
         ensures past { IfOk result (λ e. Deframes [] [] e.deframer) }
-        ensures bad_n1 { IsErrOf result FrameError.BadN1 ↔ ((n1 < 31) ⊎ (32767 < n1)) }
+        ensures bad_n1 { IsErrOf result FrameError.BadN1 ↔ IsBadN1 n1 }
         ensures others { result ≢ Err FrameError.TooLong }
     {
         let deframer = Deframer::new(alloc, n1)?;

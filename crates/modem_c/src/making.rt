@@ -1,5 +1,6 @@
 //! Makes and frees drivers.
-ghost use Rattle.std.specs.Prelude.{◌≡◌, ◌≢◌, ◌<◌, ◌≤◌, ◌⊎◌, ◌↔◌, None, IfSome};
+ghost use Rattle.std.specs.Prelude.{◌≡◌, ◌≢◌, ◌<◌, ◌≤◌, ◌↔◌, None, IfSome};
+ghost use Rattle.mux_frame.specs.Spelling.{IsBadN1};
 ghost use Rattle.at_text.specs.Rules.{dialect_of};
 ghost use Rattle.modem_driver.specs.Endpoints.{Begins, BeginsBy, endpoint_by, new_endpoint};
 ghost use Rattle.modem_c.specs.Calls.{Holds, endpoint_of};
@@ -53,7 +54,7 @@ pub extern "C" fn cimbaloty_new(
     ensures has_driver { (result ≡ HAS_DRIVER) ↔ (endpoint_of c.old ≢ None) }
     ensures bad_kinds { endpoint_of c.old ≡ None → ((result ≡ BAD_KINDS) ↔ (127 < kinds)) }
     ensures bad_n1 { endpoint_of c.old ≡ None → kinds ≤ 127
-        → ((result ≡ BAD_N1) ↔ ((n1 < 31) ⊎ (32767 < n1))) }
+        → ((result ≡ BAD_N1) ↔ IsBadN1 n1) }
     ensures refused { result ≢ OK → endpoint_of c.new ≡ endpoint_of c.old }
     ensures others { result ≢ OK → result ≢ NO_MEMORY → result ≢ BAD_N1 → result ≢ HAS_DRIVER
         → result ≡ BAD_KINDS }
@@ -136,7 +137,7 @@ pub extern "C" fn cimbaloty_new_with_dialect(
     ensures has_driver { (result ≡ HAS_DRIVER) ↔ (endpoint_of c.old ≢ None) }
     ensures bad_kinds { endpoint_of c.old ≡ None → ((result ≡ BAD_KINDS) ↔ (127 < kinds)) }
     ensures bad_n1 { endpoint_of c.old ≡ None → kinds ≤ 127
-        → ((result ≡ BAD_N1) ↔ ((n1 < 31) ⊎ (32767 < n1))) }
+        → ((result ≡ BAD_N1) ↔ IsBadN1 n1) }
     ensures no_dialect { endpoint_of c.old ≡ None → kinds ≤ 127 → 31 ≤ n1 → n1 ≤ 32767
         → ((result ≡ NO_DIALECT) ↔ (rules_of d.old ≡ None)) }
     ensures refused { result ≢ OK → endpoint_of c.new ≡ endpoint_of c.old }

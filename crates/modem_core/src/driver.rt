@@ -1,11 +1,12 @@
 //! The core: the driver without line, desk, threads and clock.
-ghost use Rattle.std.specs.Prelude.{◌≡◌, ◌≢◌, ◌↔◌, ◌+◌, ◌<◌, ◌≤◌, ◌⊎◌, List, [], length, replicate, map, find, option_map, vec_capacity, true, IfOk, IsErrOf, OnOk, OnErr};
+ghost use Rattle.std.specs.Prelude.{◌≡◌, ◌≢◌, ◌↔◌, ◌+◌, ◌<◌, ◌≤◌, List, [], length, replicate, map, find, option_map, vec_capacity, true, IfOk, IsErrOf, OnOk, OnErr};
 ghost use Rattle.modem_history.specs.Acts.{Act as Happening, act_of, Lost};
 ghost use Rattle.modem_core.specs.Stops.{asker_of, is_stop};
 ghost use Rattle.modem_core.specs.Cores.{core_by, new_core, state_shown, Fits, Handles};
 ghost use Rattle.modem_core.specs.Holding.{HoldsFit, KeepsHeld};
 ghost use Rattle.modem_core.specs.Doing.{Does, QueuesAtMost};
 ghost use Rattle.std.specs.VecDeque.{deque_capacity};
+ghost use Rattle.mux_frame.specs.Spelling.{IsBadN1};
 ghost use Rattle.modem_core.specs.declared.error.CoreError.TheVariants as CoreError;
 
 use crate::act_list::{ActList, none_told, push_told};
@@ -66,7 +67,7 @@ impl Core {
         ensures ok { IfOk result (λ c. c ≡ new_core n1 kinds.now) }
         ensures past { IfOk result (λ c. Fits c []) }
         ensures held { IfOk result (λ c. HoldsFit c []) }
-        ensures bad_n1 { IsErrOf result CoreError.BadN1 ↔ ((n1 < 31) ⊎ (32767 < n1)) }
+        ensures bad_n1 { IsErrOf result CoreError.BadN1 ↔ IsBadN1 n1 }
         ensures others { result ≢ Err CoreError.NoRoom }
     {
         let standard = Dialect::standard(alloc);
@@ -84,7 +85,7 @@ impl Core {
         ensures ok { IfOk result (λ c. c ≡ core_by dialect.now n1 kinds.now) }
         ensures past { IfOk result (λ c. Fits c []) }
         ensures held { IfOk result (λ c. HoldsFit c []) }
-        ensures bad_n1 { IsErrOf result CoreError.BadN1 ↔ ((n1 < 31) ⊎ (32767 < n1)) }
+        ensures bad_n1 { IsErrOf result CoreError.BadN1 ↔ IsBadN1 n1 }
         ensures others { result ≢ Err CoreError.NoRoom }
     {
         let station = match Station::new(alloc, Role::Initiator, n1) {

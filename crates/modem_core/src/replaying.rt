@@ -1,7 +1,7 @@
 //! Plays a list of events.
-ghost use Rattle.std.specs.Prelude.{◌≡◌, ◌≢◌, ◌↔◌, ◌<◌, ◌≤◌, ◌⊎◌, ◌++◌, [], ◌∷◌, map, length, None, OnOk, IfOk, IsErrOf, Err};
+ghost use Rattle.std.specs.Prelude.{◌≡◌, ◌≢◌, ◌↔◌, ◌<◌, ◌≤◌, ◌++◌, [], ◌∷◌, map, length, None, OnOk, IfOk, IsErrOf, Err};
 ghost use Rattle.mux_frame.specs.Frames.{frame_of};
-ghost use Rattle.mux_frame.specs.Spelling.{most_info};
+ghost use Rattle.mux_frame.specs.Spelling.{most_info, IsBadN1};
 ghost use Rattle.modem_history.specs.Acts.{act_of, Took, Got, Tick, Lost};
 ghost use Rattle.modem_history.specs.Wholes.{UsesOnce};
 ghost use Rattle.modem_core.specs.Cores.{Core as Kept};
@@ -196,7 +196,7 @@ pub(crate) fn handle(
 /// request, frame, tick and loss everything goes out that may. The acts are promised where no caller uses a number twice.
 /// Refusals: 2 BadN1 where N1 isn't 31 to 32767 (27.010, 5.7.2), 1 NoMemory. NoRoom doesn't come.
 pub fn replay(alloc: Global, n1: u16, events: &[Event]) -> Result<Vec<Act>, CoreError>
-    ensures bad_n1 { IsErrOf result CoreError.BadN1 ↔ ((n1 < 31) ⊎ (32767 < n1)) }
+    ensures bad_n1 { IsErrOf result CoreError.BadN1 ↔ IsBadN1 n1 }
     ensures others { result ≢ Err CoreError.NoRoom }
     ensures ok { IfOk result (λ acts.
         UsesOnce (requests events.now) → Replays n1 events.now (map act_of acts.items)) }

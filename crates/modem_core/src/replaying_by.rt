@@ -1,5 +1,6 @@
 //! A replay at a modem with codes of its own.
-ghost use Rattle.std.specs.Prelude.{◌≡◌, ◌≢◌, ◌↔◌, ◌<◌, ◌⊎◌, map, IfOk, IsErrOf, Err};
+ghost use Rattle.std.specs.Prelude.{◌≡◌, ◌≢◌, ◌↔◌, ◌<◌, map, IfOk, IsErrOf, Err};
+ghost use Rattle.mux_frame.specs.Spelling.{IsBadN1};
 ghost use Rattle.modem_history.specs.Acts.{act_of};
 ghost use Rattle.modem_history.specs.Wholes.{UsesOnce};
 ghost use Rattle.modem_core.specs.DialectReplays.{ReplaysBy, every_kind};
@@ -37,7 +38,7 @@ pub fn replay_with_dialect(
     dialect: &Dialect,
     events: &[Event],
 ) -> Result<Vec<Act>, CoreError>
-    ensures bad_n1 { IsErrOf result CoreError.BadN1 ↔ ((n1 < 31) ⊎ (32767 < n1)) }
+    ensures bad_n1 { IsErrOf result CoreError.BadN1 ↔ IsBadN1 n1 }
     ensures others { result ≢ Err CoreError.NoRoom }
     ensures ok { IfOk result (λ acts.
         UsesOnce (requests events.now) → ReplaysBy dialect.now n1 events.now (map act_of acts.items)) }

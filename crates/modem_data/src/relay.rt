@@ -1,5 +1,6 @@
 //! A relay between the line and a driver, with connections that carry data.
 ghost use Rattle.std.specs.Prelude.{◌≡◌, ◌≢◌, ◌⊎◌, ◌↔◌, ◌==◌, ◌≤◌, ◌<◌, ◌-◌, ◌++◌, [], ℕ, Bool, List, length, take, drop, min, None, true, false, Err, IfOk, OnOk, OnErr};
+ghost use Rattle.mux_frame.specs.Spelling.{IsBadN1};
 ghost use Rattle.mux_station.specs.Opening.{is_open};
 ghost use Rattle.modem_data.specs.declared.error.DataError.TheVariants as error;
 ghost use Rattle.modem_data.specs.DataLanes.{most_to_go};
@@ -70,7 +71,7 @@ impl Relay {
     /// Nothing has passed the client's end of the line, the initiator's (27.010, 5.2.1.2). As `with_role` has it, and refused so.
     pub fn new(alloc: Global, n1: u16, named: &[Dlci]) -> Result<Relay, DataError>
         ensures past { IfOk result (λ v. BeginsRelay n1 (numbers named.now) v) }
-        ensures bad_n1 { result ≡ Err error.BadN1 → (n1 < 31) ⊎ (32767 < n1) }
+        ensures bad_n1 { result ≡ Err error.BadN1 → IsBadN1 n1 }
         ensures many { result ≡ Err error.TooMany → 8 < length named.now }
         ensures control { result ≡ Err error.ControlChannel → IsAmong (numbers named.now) (length named.now) 0 }
         ensures twice { result ≡ Err error.Twice → IsTwice (numbers named.now) }
@@ -87,7 +88,7 @@ impl Relay {
     #[tactic(auto, using(crate::proofs::Relays::begins))]
     pub fn with_role(alloc: Global, role: Role, n1: u16, named: &[Dlci]) -> Result<Relay, DataError>
         ensures past { IfOk result (λ v. BeginsAs role n1 (numbers named.now) v) }
-        ensures bad_n1 { result ≡ Err error.BadN1 → (n1 < 31) ⊎ (32767 < n1) }
+        ensures bad_n1 { result ≡ Err error.BadN1 → IsBadN1 n1 }
         ensures many { result ≡ Err error.TooMany → 8 < length named.now }
         ensures control { result ≡ Err error.ControlChannel → IsAmong (numbers named.now) (length named.now) 0 }
         ensures twice { result ≡ Err error.Twice → IsTwice (numbers named.now) }

@@ -1,5 +1,6 @@
 -- What calls from C do, said of the relay that is held.
 use Rattle.std.specs.Prelude.{◌≡◌, ◌⊎◌, ℕ, ◌<◌, List, [], length, Option, None, Some, slice_index_or}
+use Rattle.mux_frame.specs.Spelling.{IsBadN1}
 use Rattle.modem_data.specs.declared.begin.Begin.{Begin}
 use Rattle.modem_data.specs.declared.begin.Begin.TheVariants.{AtOnce, ByConnect, ByPrompt, ByOwnConnect}
 use Rattle.modem_data.specs.declared.begin.Until.{Until}
@@ -54,7 +55,7 @@ pub record HasHigh (octets : List ℕ) : Type 0 where
 -- to 32767; 5, there are more than 8 connections; 3, 0 is among them; 4, one is named twice.
 abbrev pub IsRefused : (n1 : ℕ) (octets : List ℕ) → (number : ℕ) → Type 0
 IsRefused n1 octets number =
-    (number ≡ 1) ⊎ (((number ≡ 18) × HasHigh octets) ⊎ (((number ≡ 2) × ((n1 < 31) ⊎ (32767 < n1)))
+    (number ≡ 1) ⊎ (((number ≡ 18) × HasHigh octets) ⊎ (((number ≡ 2) × IsBadN1 n1)
     ⊎ (((number ≡ 5) × (8 < length octets)) ⊎ (((number ≡ 3) × IsAmong octets (length octets) 0) ⊎ ((number ≡ 4) × IsTwice octets)))))
 
 -- one frame more was made for the line, if none waited, and these octets went, or none did

@@ -1,6 +1,7 @@
 //! A driver that its caller drives: octets in, octets out, answers polled. It has no line, no desk, no
 //! thread and no clock.
-ghost use Rattle.std.specs.Prelude.{◌≡◌, ◌↔◌, ◌<◌, ◌⊎◌, None, Some, IfOk, IsErrOf};
+ghost use Rattle.std.specs.Prelude.{◌≡◌, ◌↔◌, ◌<◌, None, Some, IfOk, IsErrOf};
+ghost use Rattle.mux_frame.specs.Spelling.{IsBadN1};
 ghost use Rattle.modem_driver.specs.Endpoints.{endpoint_by, new_endpoint, Begins, BeginsBy};
 ghost use Rattle.at_text.specs.Rules.{dialect_of};
 ghost use Rattle.modem_driver.specs.declared.session.error.SessionError.TheVariants as why;
@@ -98,7 +99,7 @@ impl Endpoint {
     ) -> Result<Endpoint, SessionError>
         ensures ok { IfOk result (λ e. e ≡ new_endpoint n1 kinds.now first) }
         ensures begins { IfOk result (λ e. Begins n1 kinds.now e) }
-        ensures bad_n1 { IsErrOf result why.BadN1 ↔ ((n1 < 31) ⊎ (32767 < n1)) }
+        ensures bad_n1 { IsErrOf result why.BadN1 ↔ IsBadN1 n1 }
     {
         let machine = Machine::new(alloc, n1, kinds)?;
         Ok(Endpoint {
@@ -117,7 +118,7 @@ impl Endpoint {
     ) -> Result<Endpoint, SessionError>
         ensures ok { IfOk result (λ e. e ≡ endpoint_by dialect.now n1 kinds.now first) }
         ensures begins { IfOk result (λ e. BeginsBy (dialect_of dialect.now) n1 kinds.now e) }
-        ensures bad_n1 { IsErrOf result why.BadN1 ↔ ((n1 < 31) ⊎ (32767 < n1)) }
+        ensures bad_n1 { IsErrOf result why.BadN1 ↔ IsBadN1 n1 }
     {
         let machine = Machine::with_dialect(alloc, n1, dialect, kinds)?;
         Ok(Endpoint {

@@ -1,5 +1,6 @@
 //! What a session keeps beside its line and its desk's end.
-ghost use Rattle.std.specs.Prelude.{◌≡◌, ◌≢◌, ◌↔◌, ◌+◌, ◌<◌, ◌≤◌, ◌⊎◌, ◌++◌, [], true, false, length, option_to_list, None, IfOk, IsErrOf, OnOk, OnErr};
+ghost use Rattle.std.specs.Prelude.{◌≡◌, ◌≢◌, ◌↔◌, ◌+◌, ◌<◌, ◌≤◌, ◌++◌, [], true, false, length, option_to_list, None, IfOk, IsErrOf, OnOk, OnErr};
+ghost use Rattle.mux_frame.specs.Spelling.{IsBadN1};
 ghost use Rattle.line_end.specs.LineEnds.{new_end};
 ghost use Rattle.modem_core.specs.Cores.{Fits};
 ghost use Rattle.modem_driver.specs.Endings.{KeepsEnd};
@@ -71,7 +72,7 @@ impl Model for Machine {
 fn ends(alloc: Global, n1: u16) -> Result<(LineEnd, Waiting), SessionError>
     ensures ok { IfOk result (λ e. e.0 ≡ new_end n1) }
     ensures none { IfOk result (λ e. (e.1.outcomes ≡ []) × (e.1.lines ≡ [])) }
-    ensures bad_n1 { IsErrOf result why.BadN1 ↔ ((n1 < 31) ⊎ (32767 < n1)) }
+    ensures bad_n1 { IsErrOf result why.BadN1 ↔ IsBadN1 n1 }
 {
     let line_end = match LineEnd::new(alloc, n1) {
         Ok(line_end) => line_end,
@@ -88,7 +89,7 @@ impl Machine {
         ensures ok { IfOk result (λ k. k ≡ new_machine n1 kinds.now) }
         ensures past { IfOk result (λ k. Fits k.core []) }
         ensures held { IfOk result (λ k. HoldsFit k.core []) }
-        ensures bad_n1 { IsErrOf result why.BadN1 ↔ ((n1 < 31) ⊎ (32767 < n1)) }
+        ensures bad_n1 { IsErrOf result why.BadN1 ↔ IsBadN1 n1 }
     {
         let standard = Dialect::standard(alloc);
         Machine::with_dialect(alloc, n1, &standard, kinds)
@@ -104,7 +105,7 @@ impl Machine {
         ensures ok { IfOk result (λ k. k ≡ machine_by dialect.now n1 kinds.now) }
         ensures past { IfOk result (λ k. Fits k.core []) }
         ensures held { IfOk result (λ k. HoldsFit k.core []) }
-        ensures bad_n1 { IsErrOf result why.BadN1 ↔ ((n1 < 31) ⊎ (32767 < n1)) }
+        ensures bad_n1 { IsErrOf result why.BadN1 ↔ IsBadN1 n1 }
     {
         let (line_end, waiting) = ends(alloc, n1)?;
         let Ok(core) = Core::with_dialect(alloc, n1, dialect, kinds) else {

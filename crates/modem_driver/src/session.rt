@@ -1,6 +1,7 @@
 //! A driver at its line and its desk.
-ghost use Rattle.std.specs.Prelude.{◌≡◌, ◌≢◌, ◌↔◌, ◌<◌, ◌⊎◌, [], true, IfOk, IfErr, IsErr, IsErrOf, OnOk, OnErr};
+ghost use Rattle.std.specs.Prelude.{◌≡◌, ◌≢◌, ◌↔◌, ◌<◌, [], true, IfOk, IfErr, IsErr, IsErrOf, OnOk, OnErr};
 ghost use Rattle.std.specs.Borrow.{Lends, sem};
+ghost use Rattle.mux_frame.specs.Spelling.{IsBadN1};
 ghost use Rattle.modem_history.specs.Sessions.{LineView};
 ghost use Rattle.modem_driver.specs.SessionStates.{beginning_by, beginning_of, has_lost_line, machine_by, line_by, end_of, FitsAll, MachineFits, SessionEnds, KeepsItsEnd, Ticks};
 ghost use Rattle.at_text.specs.Rules.{dialect_of};
@@ -74,7 +75,7 @@ fn begin(
     ensures fresh { IfOk result (λ k. k ≡ machine_by dialect.now n1 driver.now.desk.kinds) }
     ensures begins { IfOk result (λ k. (l : LineView)
         → MachineFits (beginning_by (dialect_of dialect.now) n1 l driver.now) l driver.now k []) }
-    ensures bad_n1 { IsErrOf result why.BadN1 ↔ ((n1 < 31) ⊎ (32767 < n1)) }
+    ensures bad_n1 { IsErrOf result why.BadN1 ↔ IsBadN1 n1 }
 {
     Machine::with_dialect(alloc, n1, dialect, driver.kinds())
 }
@@ -97,8 +98,8 @@ impl<L: SerialLine, R: Wait + Drop> Session<L, R> {
             FitsAll (beginning_of n1 (line_by L.received L.sent L.calls L.failures L.empty_reads L.stalled_writes line) driver)
             (line_by L.received L.sent L.calls L.failures L.empty_reads L.stalled_writes) s []) }
         ensures same { IfOk result (λ s. (s.line ≡ line) × (s.driver ≡ driver)) }
-        ensures bad_n1 { (IfErr result (λ e. e.why ≡ why.BadN1 → ((n1 < 31) ⊎ (32767 < n1))))
-            × (((n1 < 31) ⊎ (32767 < n1)) → IsErr result × IfErr result (λ e. e.why ≡ why.BadN1)) }
+        ensures bad_n1 { (IfErr result (λ e. e.why ≡ why.BadN1 → IsBadN1 n1))
+            × (IsBadN1 n1 → IsErr result × IfErr result (λ e. e.why ≡ why.BadN1)) }
         ensures back { IfErr result (λ e. (e.line ≡ line) × (e.driver ≡ driver)) }
     {
         let standard = Dialect::standard(alloc);
@@ -118,8 +119,8 @@ impl<L: SerialLine, R: Wait + Drop> Session<L, R> {
             FitsAll (beginning_by (dialect_of dialect.now) n1 (line_by L.received L.sent L.calls L.failures L.empty_reads L.stalled_writes line) driver)
             (line_by L.received L.sent L.calls L.failures L.empty_reads L.stalled_writes) s []) }
         ensures same { IfOk result (λ s. (s.line ≡ line) × (s.driver ≡ driver)) }
-        ensures bad_n1 { (IfErr result (λ e. e.why ≡ why.BadN1 → ((n1 < 31) ⊎ (32767 < n1))))
-            × (((n1 < 31) ⊎ (32767 < n1)) → IsErr result × IfErr result (λ e. e.why ≡ why.BadN1)) }
+        ensures bad_n1 { (IfErr result (λ e. e.why ≡ why.BadN1 → IsBadN1 n1))
+            × (IsBadN1 n1 → IsErr result × IfErr result (λ e. e.why ≡ why.BadN1)) }
         ensures back { IfErr result (λ e. (e.line ≡ line) × (e.driver ≡ driver)) }
     {
         match begin(alloc, &driver, n1, dialect) {

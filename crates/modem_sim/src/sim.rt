@@ -1,6 +1,7 @@
 //! A simulated modem at its line.
 ghost use Rattle.std.specs.Prelude.{◌≡◌, ◌≢◌, ◌↔◌, ◌⊎◌, ◌+◌, ◌<◌, ◌≤◌, [], true, false, None, Ok, Err, IfOk, IfErr, IsErr, OnOk, OnErr, IsErrOf};
 ghost use Rattle.std.specs.Borrow.{Lends, sem};
+ghost use Rattle.mux_frame.specs.Spelling.{IsBadN1};
 ghost use Rattle.modem_sim.specs.Acts.{end_of};
 ghost use Rattle.modem_sim.specs.Sims.{FitsSim, SimGoes, end_given, failed_by, has_ended, has_failed, modem_of, sight};
 ghost use Rattle.modem_sim.specs.Turns.{GoesTurn, WantsMemory};
@@ -79,8 +80,8 @@ impl<L: SerialLine> Sim<L> {
         ensures line { IfOk result (λ s. s.line ≡ line) }
         ensures sound { IfOk result (λ s. has_failed s ≡ false) }
         ensures goes_on { IfOk result (λ s. end_given s ≡ None) }
-        ensures bad_n1 { (IfErr result (λ r. r.why ≡ SimError.BadN1 → ((n1 < 31) ⊎ (32767 < n1))))
-            × (((n1 < 31) ⊎ (32767 < n1)) → IsErr result × IfErr result (λ r. r.why ≡ SimError.BadN1)) }
+        ensures bad_n1 { (IfErr result (λ r. r.why ≡ SimError.BadN1 → IsBadN1 n1))
+            × (IsBadN1 n1 → IsErr result × IfErr result (λ r. r.why ≡ SimError.BadN1)) }
         ensures others { IfErr result (λ r. (r.why ≡ SimError.BadN1) ⊎ (r.why ≡ SimError.NoMemory)) }
         ensures back { IfErr result (λ r. (r.line ≡ line) × (r.modem ≡ modem) × (r.script ≡ script)) }
     {

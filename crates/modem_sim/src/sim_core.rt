@@ -1,7 +1,7 @@
 //! A simulated modem's end of the line, without the line.
 ghost use Rattle.std.specs.Prelude.{◌≡◌, ◌↔◌, ◌⊎◌, ◌<◌, ◌≤◌, ◌==◌, ◌&&◌, ◌++◌, ℕ, List, [], length, replicate, true, false, is_none, IfOk, OnOk, OnErr, IsErrOf};
 ghost use Rattle.mux_frame.specs.Frames.{frame_of};
-ghost use Rattle.mux_frame.specs.Spelling.{most_info};
+ghost use Rattle.mux_frame.specs.Spelling.{most_info, IsBadN1};
 ghost use Rattle.mux_station.specs.States.{is_opened};
 ghost use Rattle.mux_station.specs.Stations.{channel_at, new_station, seen_in, setting_of};
 ghost use Rattle.mux_station.specs.Sending.{got_refused};
@@ -94,7 +94,7 @@ impl Parts {
         ensures station { IfOk result (λ p. p.station ≡ new_station Role.Responder n1) }
         ensures past { IfOk result (λ p. FitsThere p.station []) }
         ensures boxes { IfOk result (λ p. p.channels.items ≡ replicate 62 fresh_box) }
-        ensures bad_n1 { IsErrOf result SimError.BadN1 ↔ ((n1 < 31) ⊎ (32767 < n1)) }
+        ensures bad_n1 { IsErrOf result SimError.BadN1 ↔ IsBadN1 n1 }
         ensures others { OnErr result (IsErrOf result SimError.BadN1 ⊎ IsErrOf result SimError.NoMemory) }
     {
         let station = match Station::new(alloc, Role::Responder, n1) {

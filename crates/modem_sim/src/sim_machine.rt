@@ -1,5 +1,6 @@
 //! What a simulated modem keeps beside its line.
 ghost use Rattle.std.specs.Prelude.{◌≡◌, ◌≢◌, ◌↔◌, ◌⊎◌, ◌+◌, ◌<◌, ◌≤◌, [], ◌++◌, length, take, drop, true, false, None, IfOk, OnOk, OnErr, IsErrOf};
+ghost use Rattle.mux_frame.specs.Spelling.{IsBadN1};
 ghost use Rattle.modem_sim.specs.Cores.{HasNoneToDo, HasPassed, HasReleased, SaysNext};
 ghost use Rattle.modem_sim.specs.Sims.{BeginsAt, Receives, SimMachineFits, SimMachineGoes, is_ended};
 ghost use Rattle.modem_sim.specs.Stills.{Feeds, FeedsNone, LoadsBy, LoadsNone, ReadsOnce, TakesFrame, TakesNone, Writes};
@@ -56,7 +57,7 @@ impl Room {
             (λ r. BeginsAt n1 r.parts.station r.parts.channels.items r.n1 r.line_end.unfed
             r.line_end.deframer r.line_end.unwritten) }
         ensures sound { IfOk result (λ r. r.line_end.failed ≡ false) }
-        ensures bad_n1 { IsErrOf result SimError.BadN1 ↔ ((n1 < 31) ⊎ (32767 < n1)) }
+        ensures bad_n1 { IsErrOf result SimError.BadN1 ↔ IsBadN1 n1 }
         ensures others { OnErr result (IsErrOf result SimError.BadN1 ⊎ IsErrOf result SimError.NoMemory) }
     {
         let parts = Parts::new(alloc, n1)?;

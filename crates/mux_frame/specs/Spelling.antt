@@ -1,5 +1,5 @@
 -- How frames are spelled (27.010, 5.2.1).
-use Rattle.std.specs.Prelude.{◌≡◌, ℕ, ◌+◌, ◌*◌, ◌/◌, ◌%◌, ◌<◌, ◌≤◌, nat_lt, List, [], ◌∷◌, ◌++◌, length, if◌then◌else◌}
+use Rattle.std.specs.Prelude.{◌≡◌, ℕ, ◌+◌, ◌*◌, ◌/◌, ◌%◌, ◌<◌, ◌≤◌, ◌⊎◌, nat_lt, List, [], ◌∷◌, ◌++◌, length, if◌then◌else◌}
 use Rattle.mux_frame.specs.CheckOctet.{check_octet_of}
 use Rattle.mux_frame.specs.Frames.{Frame}
 use Rattle.mux_frame.specs.declared.frame.Kind.{Kind}
@@ -36,6 +36,10 @@ long_indicator n = (2 * (n % 128)) ∷ (n / 128) ∷ []
 pub data Indicates : List ℕ → ℕ → Type 0 where
   short : (n : ℕ) → n < 128 → Indicates (short_indicator n) n
   long : (n : ℕ) → n < 32768 → Indicates (long_indicator n) n
+
+-- N1 is out of range, which is 31 to 32767: its default, and the most that a length indicator says (27.010, 5.7.2 and 5.2.1.5)
+abbrev pub IsBadN1 : ℕ → Type 0
+IsBadN1 n1 = (n1 < 31) ⊎ (32767 < n1)
 
 -- how much information a frame of this kind may have, where UIH may have n1 (27.010, 5.2.1.4 and 5.7.2)
 abbrev pub most_info : ℕ → Kind → ℕ

@@ -1,10 +1,10 @@
 //! Reads frames from octets as they come (27.010, 5.2.3, 5.2.5 and 5.2.6.1).
-ghost use Rattle.std.specs.Prelude.{◌≡◌, ◌≢◌, ◌↔◌, ◌⊎◌, ◌+◌, ◌-◌, ◌<◌, ◌≤◌, ◌++◌, [], ◌∷◌, List, ℕ, None, Some, length, min, option_map, take, IfOk, IfSome, IsErrOf, IsSome, OnErr, OnOk};
+ghost use Rattle.std.specs.Prelude.{◌≡◌, ◌≢◌, ◌↔◌, ◌+◌, ◌-◌, ◌<◌, ◌≤◌, ◌++◌, [], ◌∷◌, List, ℕ, None, Some, length, min, option_map, take, IfOk, IfSome, IsErrOf, IsSome, OnErr, OnOk};
 ghost use Rattle.std.specs.Borrow.{sem};
 ghost use Rattle.std.specs.Io.BufRead.{Rests};
 ghost use Rattle.mux_frame.specs.Deframing.{Deframes, HandsOver, TakesIn, ring_room};
 ghost use Rattle.mux_frame.specs.Frames.{Frame, frame_of};
-ghost use Rattle.mux_frame.specs.Spelling.{most_info};
+ghost use Rattle.mux_frame.specs.Spelling.{most_info, IsBadN1};
 
 use crate::error::FrameError;
 use crate::frame::FrameView;
@@ -62,7 +62,7 @@ impl Deframer {
     pub fn new(alloc: Global, n1: u16) -> Result<Deframer, FrameError>
         ensures ok { IfOk result (λ d. d ≡ record { n1 = n1; undecided = []; next = None }) }
         ensures past { IfOk result (λ d. Deframes [] [] d) }
-        ensures bad_n1 { IsErrOf result FrameError.BadN1 ↔ ((n1 < 31) ⊎ (32767 < n1)) }
+        ensures bad_n1 { IsErrOf result FrameError.BadN1 ↔ IsBadN1 n1 }
         ensures others { result ≢ Err FrameError.TooLong }
     {
         let Some(n1) = N1::new(n1) else {

@@ -1,6 +1,7 @@
 //! N1, the most octets of information (27.010, 5.7.2).
-ghost use Rattle.std.specs.Prelude.{◌≡◌, ◌<◌, ◌≤◌, ◌↔◌, ◌⊎◌, IfSome};
+ghost use Rattle.std.specs.Prelude.{◌≡◌, ◌<◌, ◌≤◌, ◌↔◌, IfSome};
 ghost use Rattle.std.specs.Option.{IsNone};
+ghost use Rattle.mux_frame.specs.Spelling.{IsBadN1};
 
 /// The most octets of information that a frame may have: 31 to 32767.
 #[derive(Clone, Copy)]
@@ -12,7 +13,7 @@ pub struct N1 {
 impl N1 {
     /// N1 of so many octets; `None` unless they are 31 to 32767.
     pub fn new(octets: u16) -> Option<N1>
-        ensures none { IsNone result ↔ ((octets < 31) ⊎ (32767 < octets)) }
+        ensures none { IsNone result ↔ IsBadN1 octets }
         ensures octets { IfSome result (λ n1. n1.octets ≡ octets) }
     {
         if octets < 31 || octets > 32767 {

@@ -1,5 +1,6 @@
 //! How many frames there are in octets.
-ghost use Rattle.std.specs.Prelude.{◌≡◌, ◌≢◌, ◌<◌, ◌↔◌, ◌⊎◌, None, IfOk, IsErrOf};
+ghost use Rattle.std.specs.Prelude.{◌≡◌, ◌≢◌, ◌<◌, ◌↔◌, None, IfOk, IsErrOf};
+ghost use Rattle.mux_frame.specs.Spelling.{IsBadN1};
 ghost use Rattle.mux_frame_c.specs.Counting.{CountsOn, IsCountOf};
 
 use mux_frame::{Deframer, FrameError};
@@ -35,7 +36,7 @@ fn count_frames(deframer: &mut Deframer, mut counts: Counts) -> Counts
 #[tactic(auto, using(crate::proofs::FrameCounts::counted_none, crate::proofs::FrameCounts::counted_more, crate::proofs::FrameCounts::counted_all))]
 pub(crate) fn count_octets(alloc: Global, n1: u16, octets: &[u8]) -> Result<Counts, FrameError>
     ensures ok { IfOk result (λ counts. IsCountOf n1 octets.now counts) }
-    ensures bad_n1 { IsErrOf result FrameError.BadN1 ↔ ((n1 < 31) ⊎ (32767 < n1)) }
+    ensures bad_n1 { IsErrOf result FrameError.BadN1 ↔ IsBadN1 n1 }
     ensures others { result ≢ Err FrameError.TooLong }
 {
     let mut deframer = Deframer::new(alloc, n1)?;

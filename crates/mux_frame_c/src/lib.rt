@@ -2,6 +2,7 @@
 #![tactic(auto)]
 
 ghost use Rattle.std.specs.Prelude.{◌≡◌, ◌≢◌, ◌<◌, ◌↔◌, ◌⊎◌};
+ghost use Rattle.mux_frame.specs.Spelling.{IsBadN1};
 ghost use Rattle.mux_frame_c.specs.Counting.{IsCountOf};
 
 mod counts;
@@ -24,7 +25,7 @@ pub extern "C" fn mux_frame_c_count(
 ) -> u8
     ensures counted { result ≡ 0 → IsCountOf n1 octets.now counts.new }
     ensures refused { result ≢ 0 → counts.new ≡ counts.old }
-    ensures bad_n1 { result ≡ 3 ↔ ((n1 < 31) ⊎ (32767 < n1)) }
+    ensures bad_n1 { result ≡ 3 ↔ IsBadN1 n1 }
     ensures others { (result ≡ 0) ⊎ (result ≡ 2) ⊎ (result ≡ 3) }
 {
     match count_octets(alloc, n1, octets) {

@@ -1,5 +1,6 @@
 //! One end of the line.
 ghost use Rattle.std.specs.Prelude.{◌≡◌, ◌↔◌, ◌⊎◌, ◌<◌, [], List, IfOk, OnErr, IsErrOf};
+ghost use Rattle.mux_frame.specs.Spelling.{IsBadN1};
 ghost use Rattle.mux_station.specs.Acts.{Act as Happened};
 ghost use Rattle.mux_station.specs.States.{state_of};
 ghost use Rattle.mux_station.specs.Stopping.{is_stopped};
@@ -66,7 +67,7 @@ impl Station {
     pub fn new(alloc: Global, role: Role, n1: u16) -> Result<Station, StationError>
         ensures ok { IfOk result (λ s. s ≡ new_station role n1) }
         ensures past { IfOk result (λ s. StationFits s []) }
-        ensures bad_n1 { IsErrOf result StationError.BadN1 ↔ ((n1 < 31) ⊎ (32767 < n1)) }
+        ensures bad_n1 { IsErrOf result StationError.BadN1 ↔ IsBadN1 n1 }
         ensures others { OnErr result
             (IsErrOf result StationError.BadN1 ⊎ IsErrOf result StationError.NoMemory) }
     {

@@ -1,5 +1,6 @@
 //! Makes and frees entries.
 ghost use Rattle.std.specs.Prelude.{◌≡◌, ◌≢◌, ◌<◌, ◌≤◌, ◌↔◌, ◌⊎◌, ◌+◌, None, Some, IfOk, IfSome};
+ghost use Rattle.mux_frame.specs.Spelling.{IsBadN1};
 ghost use Rattle.at_text.specs.Commands.{refusal_of};
 ghost use Rattle.at_text.specs.Numbers.{text_error_number};
 ghost use Rattle.at_text.specs.declared.error.TextError.{TextError};
@@ -95,7 +96,7 @@ pub extern "C" fn cimbaloty_enter_begin_at(
 ) -> u8
     ensures made { result ≡ OK → Enters e.new (λ s. s ≡ entry_begun text.now n1 left) }
     ensures has_entry { (result ≡ HAS_ENTRY) ↔ (entry_of e.old ≢ None) }
-    ensures bad_n1 { entry_of e.old ≡ None → ((result ≡ BAD_N1) ↔ ((n1 < 31) ⊎ (32767 < n1))) }
+    ensures bad_n1 { entry_of e.old ≡ None → ((result ≡ BAD_N1) ↔ IsBadN1 n1) }
     ensures bad_text { entry_of e.old ≡ None → 31 ≤ n1 → n1 ≤ 32767 → (why : TextError) → refusal_of text.now ≡ Some why
         → result ≡ TEXT + text_error_number why }
     ensures good_text { refusal_of text.now ≡ None → result < TEXT }

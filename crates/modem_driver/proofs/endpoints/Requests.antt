@@ -3,8 +3,9 @@ use Rattle.std.proofs.Common.{ap, sym, ◌∙◌, subst, arith}
 use Rattle.std.proofs.Math.Seq.{drop-length}
 use Rattle.std.proofs.lemmas.Bool.{and_from, and_parts}
 use Rattle.std.proofs.lemmas.List.Folds.{list_all-append}
-use Rattle.std.specs.Prelude.{◌≡◌, ℕ, ◌+◌, ◌<◌, ◌≤◌, true, List, [], ◌∷◌, ◌++◌, length, refl, Contains, Result, Ok, Err, OnErr, IsErrOf, ◌⊎◌, ◌↔◌}
+use Rattle.std.specs.Prelude.{◌≡◌, ℕ, ◌+◌, ◌<◌, ◌≤◌, true, List, [], ◌∷◌, ◌++◌, length, refl, Contains, Result, Ok, Err, OnErr, IsErrOf, ◌↔◌}
 use Rattle.std.specs.List.{list_all}
+use Rattle.mux_frame.specs.Spelling.{IsBadN1}
 use Rattle.at_text.specs.Dialects.{Dialect, standard}
 use Rattle.at_text.specs.Rules.{Rules, no_rules, dialect_of}
 use Rattle.at_text.proofs.NoRules.{no_rules_standard}
@@ -39,11 +40,11 @@ begins_so rules dialect is n1 ks k next low e fits holds l d same =
     }
 
 -- an endpoint whose N1 isn't refused begins, at a modem with these rules of its own
-pub begins : {T E : Type 0} (rules : Rules) (n1 : ℕ) (ks : List UrcKind) (k : Machine) (next : ℕ) (x : T) (e : E) → IsErrOf (Ok x) e ↔ ((n1 < 31) ⊎ (32767 < n1)) → k ≡ machine_by rules n1 ks → Fits k.core [] → HoldsFit k.core [] → BeginsBy (dialect_of rules) n1 ks (record { machine = k; next = next })
+pub begins : {T E : Type 0} (rules : Rules) (n1 : ℕ) (ks : List UrcKind) (k : Machine) (next : ℕ) (x : T) (e : E) → IsErrOf (Ok x) e ↔ IsBadN1 n1 → k ≡ machine_by rules n1 ks → Fits k.core [] → HoldsFit k.core [] → BeginsBy (dialect_of rules) n1 ks (record { machine = k; next = next })
 begins rules n1 ks k next x y range e fits holds = begins_so rules (dialect_of rules) refl n1 ks k next (least_n1 n1 x y range) e fits holds
 
 -- or at a standard modem
-pub begins_standard : {T E : Type 0} (n1 : ℕ) (ks : List UrcKind) (k : Machine) (next : ℕ) (x : T) (e : E) → IsErrOf (Ok x) e ↔ ((n1 < 31) ⊎ (32767 < n1)) → k ≡ new_machine n1 ks → Fits k.core [] → HoldsFit k.core [] → Begins n1 ks (record { machine = k; next = next })
+pub begins_standard : {T E : Type 0} (n1 : ℕ) (ks : List UrcKind) (k : Machine) (next : ℕ) (x : T) (e : E) → IsErrOf (Ok x) e ↔ IsBadN1 n1 → k ≡ new_machine n1 ks → Fits k.core [] → HoldsFit k.core [] → Begins n1 ks (record { machine = k; next = next })
 begins_standard n1 ks k next x y range e fits holds = begins_so no_rules standard (sym no_rules_standard) n1 ks k next (least_n1 n1 x y range) e fits holds
 
 -- ## Numbers

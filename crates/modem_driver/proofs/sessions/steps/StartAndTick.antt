@@ -1,6 +1,7 @@
 -- A session begins, and a tick.
 use Rattle.std.proofs.Common.{ap, sym, ◌∙◌, subst, arith, inl, lit<}
-use Rattle.std.specs.Prelude.{◌≡◌, Option, ◌↔◌, ℕ, ◌≤◌, true, false, List, [], ◌∷◌, length, refl, find, option_map, Contains, Result, Ok, Err, IfOk, IsErrOf, zero, suc, ◌<◌, ◌⊎◌}
+use Rattle.std.specs.Prelude.{◌≡◌, Option, ◌↔◌, ℕ, ◌≤◌, true, false, List, [], ◌∷◌, length, refl, find, option_map, Contains, Result, Ok, Err, IfOk, IsErrOf, zero, suc, ◌<◌}
+use Rattle.mux_frame.specs.Spelling.{IsBadN1}
 use Rattle.at_text.specs.declared.unsolicited.UrcKind.{UrcKind}
 use Rattle.at_text.specs.Dialects.{Dialect}
 use Rattle.at_text.specs.Rules.{Rules, dialect_of}
@@ -62,7 +63,7 @@ machine_begins rules dialect is n1 ks k d e same fits holds l = record {
 }
 
 -- where it isn't refused for its N1, a frame takes an octet at least
-pub least_n1 : {T E : Type 0} (n : ℕ) (x : T) (e : E) → IsErrOf (Ok x) e ↔ ((n < 31) ⊎ (32767 < n)) → 1 ≤ n
+pub least_n1 : {T E : Type 0} (n : ℕ) (x : T) (e : E) → IsErrOf (Ok x) e ↔ IsBadN1 n → 1 ≤ n
 least_n1 zero x e h = absurd (let g : Ok x ≡ Err e = h.1 (inl (lit< tt)) in cc)
 least_n1 (suc n) x e h = omega arith
 
