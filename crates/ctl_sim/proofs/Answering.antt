@@ -3,7 +3,7 @@ use Rattle.std.specs.Prelude.{◌≡◌, ℕ, false, List, Option, Some, None}
 use Rattle.std.proofs.Common.{ap}
 use Rattle.modem_sim.specs.declared.state.ModemState.{ModemState}
 use Rattle.modem_sim.specs.Pieces.{pieces_octets, reply}
-use Rattle.modem_sim.specs.Steps.{echoes}
+use Rattle.modem_sim.specs.LineSteps.{echoes}
 use Rattle.ctl_sim.specs.Plain.{said_entering, said_to}
 
 -- a line that doesn't enter the multiplexer gets the modem's reply

@@ -4,7 +4,7 @@ use Rattle.std.specs.Str.{bytes_eq}
 use Rattle.at_text.specs.Octets.{is_comma, is_digit}
 use Rattle.modem_sim.specs.CommandLines.{commands_in}
 use Rattle.modem_sim.specs.Reading.{lowered}
-use Rattle.modem_sim.specs.Steps.{is_too_long}
+use Rattle.modem_sim.specs.LineSteps.{is_too_long}
 use Rattle.mux_frame.specs.declared.n1.N1.{N1}
 
 -- N1 as a number

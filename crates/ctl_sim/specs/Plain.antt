@@ -4,7 +4,7 @@ use Rattle.at_text.specs.Lines.{cut, is_line_end}
 use Rattle.modem_sim.specs.CommandLines.{begins_with_at, is_letter_a, is_letter_t}
 use Rattle.modem_sim.specs.declared.state.ModemState.{ModemState}
 use Rattle.modem_sim.specs.Pieces.{framed, pieces_octets, reply}
-use Rattle.modem_sim.specs.Steps.{echoes, step}
+use Rattle.modem_sim.specs.LineSteps.{echoes, step}
 use Rattle.ctl_sim.specs.Entry.{mux_entry}
 
 -- ## Command lines

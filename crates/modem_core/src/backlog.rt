@@ -68,7 +68,7 @@ impl Core {
     }
 
     /// Whether no connection is held. Fewer than 256 waiting lines then call for nothing.
-    #[tactic(auto, using(crate::proofs::holds::HeldAndFreed::free_flows))]
+    #[tactic(auto, using(crate::proofs::holds::HoldsDue::free_flows))]
     pub fn holds_none(&self) -> bool
         ensures { result ≡ true → CallsForNothing self.now }
     {

@@ -7,7 +7,7 @@ use Rattle.mux_frame.specs.Deframing.{Deframes, IsDeframed}
 use Rattle.mux_station.specs.declared.role.Role.TheVariants.{Responder}
 use Rattle.modem_sim.specs.CommandLines.{begins_with_at, is_letter_a, is_letter_t}
 use Rattle.modem_sim.specs.Histories.{got}
-use Rattle.modem_sim.specs.Steps.{echoes_as}
+use Rattle.modem_sim.specs.LineSteps.{echoes_as}
 use Rattle.modem_data.specs.Switching.{is_connect}
 use Rattle.modem_data_endpoint.proofs.Besides.{behind_told}
 use Rattle.modem_data_sim.specs.SimLaws.{RepeatsNone, TellsSim}

@@ -5,7 +5,7 @@ use Rattle.mux_station.specs.declared.role.Role.TheVariants.{Responder}
 use Rattle.modem_sim.specs.Acts.{Act, End}
 use Rattle.modem_sim.specs.Histories.{got, sent}
 use Rattle.modem_sim.specs.Sims.{FitsSim, SimMachine, SimState}
-use Rattle.modem_sim.specs.Steps.{repeats}
+use Rattle.modem_sim.specs.LineSteps.{repeats}
 use Rattle.modem_sim.specs.declared.state.ModemState.{ModemState}
 use Rattle.modem_data.specs.Switching.{is_connect}
 use Rattle.modem_data.specs.Hops.{Relay, Hop}

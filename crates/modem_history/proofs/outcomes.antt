@@ -1,5 +1,6 @@
 -- Outcomes: one for each request, and its own answer in it.
 pub mod OutcomeCounts
+pub mod WholeCounts
 pub mod WindowAnswers
 pub mod OutcomesAndLines
 pub mod OwnAnswers

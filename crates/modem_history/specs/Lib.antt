@@ -26,6 +26,7 @@ pub mod GoodSessions
 pub mod BadSessions
 pub mod GoodTurns
 pub mod BadTurns
+pub mod BadWaits
 pub mod BadExchanges
 pub mod EveryTurnRows
 pub mod BacklogRows

@@ -11,7 +11,7 @@ ghost use Rattle.modem_history.specs.Sessions.{Beginning, SessionView};
 ghost use Rattle.modem_history.specs.SessionLaws.{BeginsFitting, CallsKeepHistory, CallsRunOn, FitsSays};
 ghost use Rattle.modem_history.specs.SessionRows.{Each, HasNone, IsRight, IsWrong, IsWrongTurn};
 ghost use Rattle.modem_history.specs.GoodTurns.{AreRightTurns};
-ghost use Rattle.modem_history.specs.BadTurns.{wrong_turns};
+ghost use Rattle.modem_history.specs.BadWaits.{wrong_turns};
 ghost use Rattle.modem_history.specs.BadExchanges.{IsWrongExchange, wrong_exchanges};
 ghost use Rattle.modem_history.specs.EveryTurnRows.{SeemsATurn, SkipsAStep, TakeTheirSteps, skipping_turns};
 ghost use Rattle.modem_history.specs.BacklogRows.{CountsByConnection, IsHeldOrFull, IsHeldRight, IsHeldWrong, IsNeither, MayHoldAndFree, held_or_full, neither_held_nor_full, rightly_held, wrongly_held};
@@ -37,7 +37,7 @@ ghost use Rattle.modem_history.specs.Wholes.{AnswersOnce, BeginsInTurn, CallGoes
 /// the accepted ones that are wholly sent, each begun where no window is open. Each outcome answers a request that was
 /// taken before it. Where no caller uses a number twice no request has two. Each answer that was told is that of the
 /// window of the last command, at the line that ended it.
-#[tactic(auto, using(crate::proofs::law_proofs::WholeHistories::beginning, crate::proofs::law_proofs::WholeHistories::call_goes_on, crate::proofs::commands::SentPrefixes::leaves_once, crate::proofs::connections::SendingAfterLoss::none_after_loss, crate::proofs::commands::BegunCommands::begins_in_turn, crate::proofs::outcomes::OutcomeCounts::answers_once, crate::proofs::outcomes::WindowAnswers::tells_answers))]
+#[tactic(auto, using(crate::proofs::law_proofs::WholeHistories::beginning, crate::proofs::law_proofs::WholeHistories::call_goes_on, crate::proofs::commands::SentPrefixes::leaves_once, crate::proofs::connections::SendingAfterLoss::none_after_loss, crate::proofs::commands::BegunCommands::begins_in_turn, crate::proofs::outcomes::WholeCounts::answers_once, crate::proofs::outcomes::WindowAnswers::tells_answers))]
 pub fn histories()
     ensures beginning { (s : Setting) (past : List Act) → Lawful s past → IsBeginning s past }
     ensures leaves { (s : Setting) (past : List Act) → Lawful s past → LeavesOnce s past }

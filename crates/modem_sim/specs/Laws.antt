@@ -12,7 +12,8 @@ use Rattle.modem_sim.specs.declared.contexts.PdpContext.{PdpContext}
 use Rattle.modem_sim.specs.declared.modem.ModemStart.{ModemStart}
 use Rattle.modem_sim.specs.declared.state.ModemState.{ModemState}
 use Rattle.modem_sim.specs.Contexts.{with_context}
-use Rattle.modem_sim.specs.Steps.{started, step}
+use Rattle.modem_sim.specs.Steps.{started}
+use Rattle.modem_sim.specs.LineSteps.{step}
 use Rattle.modem_sim.specs.Meanings.{meant}
 
 -- the state of a modem after lines

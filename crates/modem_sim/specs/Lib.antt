@@ -6,6 +6,7 @@ pub mod Words
 pub mod SettingTexts
 pub mod StateTexts
 pub mod Steps
+pub mod LineSteps
 pub mod Meanings
 pub mod Laws
 pub mod SettingLaws

@@ -8,7 +8,7 @@ use Rattle.modem_sim.specs.declared.script.StepAct.TheVariants.{Announce, Hold}
 use Rattle.modem_sim.specs.Acts.{Act, Wire, Did, End, wire}
 use Rattle.modem_sim.specs.declared.state.ModemState.{ModemState}
 use Rattle.modem_sim.specs.Heard.{modem_after, texts_with}
-use Rattle.modem_sim.specs.Steps.{any_through, step}
+use Rattle.modem_sim.specs.LineSteps.{any_through, step}
 use Rattle.modem_sim.specs.Pieces.{Piece, Announced, replies}
 
 abbrev pub is_empty : List (List ℕ) → Bool

@@ -3,7 +3,7 @@ use Rattle.std.specs.Prelude.{ℕ, Bool, List, [], ◌∷◌, ◌++◌, map, if�
 use Rattle.std.specs.List.{flat_map}
 use Rattle.at_text.specs.declared.answer.AnswerLine.{AnswerLine}
 use Rattle.modem_sim.specs.declared.state.ModemState.{ModemState}
-use Rattle.modem_sim.specs.Steps.{repeats, step}
+use Rattle.modem_sim.specs.LineSteps.{repeats, step}
 
 pub data Piece : Type 0 where
   -- a command, repeated

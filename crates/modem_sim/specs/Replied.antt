@@ -15,7 +15,7 @@ use Rattle.modem_sim.specs.declared.modem.ModemStart.{ModemStart}
 use Rattle.modem_sim.specs.declared.script.StepAct.TheVariants.{Announce}
 use Rattle.modem_sim.specs.declared.state.ModemState.{ModemState}
 use Rattle.modem_sim.specs.Laws.{IsStart, reached}
-use Rattle.modem_sim.specs.Steps.{step}
+use Rattle.modem_sim.specs.LineSteps.{step}
 use Rattle.modem_sim.specs.Acts.{Act, Did, End, wire}
 use Rattle.modem_sim.specs.Heard.{heard}
 use Rattle.modem_sim.specs.Pieces.{Piece, Echo, Answer, Announced, reply}

@@ -2,7 +2,8 @@
 use Rattle.std.specs.Prelude.{◌≡◌, ℕ, List, [], ◌∷◌, map, Some, None, codes}
 use Rattle.modem_sim.specs.declared.modem.ModemStart.{ModemStart}
 use Rattle.modem_sim.specs.declared.state.ModemState.{ModemState}
-use Rattle.modem_sim.specs.Steps.{started, step}
+use Rattle.modem_sim.specs.Steps.{started}
+use Rattle.modem_sim.specs.LineSteps.{step}
 
 -- the answers to lines, one after the other
 abbrev pub answers_to : ModemState → List (List ℕ) → List (List (List ℕ))

@@ -17,7 +17,7 @@ use Rattle.at_cmds.specs.Replies.{reply_of}
 use Rattle.modem_sim.specs.declared.modem.ModemStart.{ModemStart}
 use Rattle.modem_sim.specs.declared.state.ModemState.{ModemState}
 use Rattle.modem_sim.specs.Laws.{reached}
-use Rattle.modem_sim.specs.Steps.{step}
+use Rattle.modem_sim.specs.LineSteps.{step}
 
 abbrev pub Answer : Type 0
 Answer = Result Reply ReplyFault

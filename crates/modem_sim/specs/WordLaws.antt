@@ -10,7 +10,8 @@ use Rattle.modem_sim.specs.Laws.{after_lines}
 use Rattle.modem_sim.specs.Reading.{command_of}
 use Rattle.modem_sim.specs.declared.words.Word.TheVariants.{Dial}
 use Rattle.modem_sim.specs.OwnAnswers.{due_line, waits_on}
-use Rattle.modem_sim.specs.Steps.{announced, dialled, is_too_long, line_commands, line_of, nothing_ran, own_answer, ran_next, Ran, started_with_words, step}
+use Rattle.modem_sim.specs.Steps.{dialled, line_of, started_with_words}
+use Rattle.modem_sim.specs.LineSteps.{announced, is_too_long, line_commands, nothing_ran, own_answer, ran_next, Ran, step}
 use Rattle.modem_sim.specs.Words.{word_of}
 use Rattle.at_cmds.specs.declared.command.Command.TheVariants.{ContextQuery}
 

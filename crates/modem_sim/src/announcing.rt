@@ -1,7 +1,8 @@
 //! Reports of a registration, behind an answer or behind the next one.
 ghost use Rattle.std.specs.Prelude.{◌≡◌, ◌++◌, map, OnOk};
 ghost use Rattle.std.specs.List.{list_any};
-ghost use Rattle.modem_sim.specs.Steps.{all_reports, announced, any_through, line_of, report_texts, reports_held, reports_now, status_text};
+ghost use Rattle.modem_sim.specs.Steps.{line_of, status_text};
+ghost use Rattle.modem_sim.specs.LineSteps.{all_reports, announced, any_through, report_texts, reports_held, reports_now};
 
 use crate::answers::push_line;
 use crate::state::ModemState;

@@ -1,6 +1,6 @@
 //! The modem.
 ghost use Rattle.std.specs.Prelude.{◌≡◌, IfOk, OnOk, OnErr, IsErrOf};
-ghost use Rattle.modem_sim.specs.Steps.{line_through, repeats, with_late, worded_step};
+ghost use Rattle.modem_sim.specs.LineSteps.{line_through, repeats, with_late, worded_step};
 
 use crate::announcing::any_through;
 use crate::answers::{answer_of, error_answer, told};
@@ -81,7 +81,8 @@ impl Model for Modem {
 }
 
 impl Modem {
-    ghost use Rattle.modem_sim.specs.Steps.{echoes, obeyed, own_answer, own_step, own_said, standard_step, started, started_with_words, step};
+    ghost use Rattle.modem_sim.specs.Steps.{obeyed, standard_step, started, started_with_words};
+    ghost use Rattle.modem_sim.specs.LineSteps.{echoes, own_answer, own_step, own_said, step};
 
     /// A modem that was just started. It takes no memory.
     pub fn new(alloc: Global, start: ModemStart) -> Modem

@@ -1,7 +1,7 @@
 //! Command lines that come on a connection, and the replies to them.
 ghost use Rattle.std.specs.Prelude.{◌≡◌, ◌≤◌, ◌++◌, ◌∷◌, ◌||◌, [], length, OnOk, OnErr, IfOk, IsErrOf};
 ghost use Rattle.at_text.specs.Lines.{lines, kept_run};
-ghost use Rattle.modem_sim.specs.Steps.{any_through, step};
+ghost use Rattle.modem_sim.specs.LineSteps.{any_through, step};
 ghost use Rattle.modem_sim.specs.Outboxes.{any_call};
 ghost use Rattle.modem_sim.specs.Laws.{after_lines};
 ghost use Rattle.modem_sim.specs.Pieces.{framed, echoed, answers, pieces_octets, reply, replies};

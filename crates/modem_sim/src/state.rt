@@ -258,7 +258,8 @@ impl ModemState {
 }
 
 impl ModemState {
-    ghost use Rattle.modem_sim.specs.Steps.{activated, after_word_refusal, context_error, dialled, lock_error, radio_error, refusal_as, settled, switched, word_after, word_refusal};
+    ghost use Rattle.modem_sim.specs.Steps.{activated, after_word_refusal, context_error, dialled, lock_error, settled, switched, word_after, word_refusal};
+    ghost use Rattle.modem_sim.specs.LineSteps.{radio_error, refusal_as};
     ghost use Rattle.modem_sim.specs.Contexts.{is_defined};
 
     /// The error that choosing an operator is refused with, where it is.

@@ -4,7 +4,8 @@ ghost use Rattle.std.specs.Fmt.{decimal};
 ghost use Rattle.at_cmds.specs.Forms.{in_quotes};
 ghost use Rattle.modem_sim.specs.Reading.{command_of};
 ghost use Rattle.modem_sim.specs.SettingTexts.{context_forms, lock_text, named_oper_text, oper_name};
-ghost use Rattle.modem_sim.specs.Steps.{domain_name, line_commands, line_of, line_through, nothing_ran, ran_command, ran_next, ran_other, ran_word, refusal_as, registration_text, setting_told, status_text, through_by, told_as, word_code, word_refusal, word_told, worded_by, worded_step};
+ghost use Rattle.modem_sim.specs.Steps.{domain_name, line_of, registration_text, setting_told, status_text, told_as, word_code, word_refusal, word_told};
+ghost use Rattle.modem_sim.specs.LineSteps.{line_commands, line_through, nothing_ran, ran_command, ran_next, ran_other, ran_word, refusal_as, through_by, worded_by, worded_step};
 
 use crate::activity::{numbers_line, push_activity, push_contexts_named, push_whole_contexts};
 use crate::announcing::report;
@@ -29,7 +30,7 @@ struct Run {
 }
 
 impl Model for Run {
-    ghost use Rattle.modem_sim.specs.Steps.{Ran};
+    ghost use Rattle.modem_sim.specs.LineSteps.{Ran};
 
     ghost Value = { Ran };
 
@@ -382,7 +383,7 @@ impl Run {
 }
 
 impl Run {
-    ghost use Rattle.modem_sim.specs.Steps.{final_text, is_through};
+    ghost use Rattle.modem_sim.specs.LineSteps.{final_text, is_through};
 
     /// Whether the line put a call through.
     fn is_through(&self) -> bool

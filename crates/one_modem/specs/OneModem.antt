@@ -21,7 +21,7 @@ use Rattle.modem_sim.specs.Heard.{heard, texts_of}
 use Rattle.modem_sim.specs.Histories as modem_laws
 use Rattle.modem_sim.specs.Laws.{after_lines}
 use Rattle.modem_sim.specs.Replied.{AnnouncesUnsolicited, IsModem}
-use Rattle.modem_sim.specs.Steps.{step}
+use Rattle.modem_sim.specs.LineSteps.{step}
 
 -- ## One line
 

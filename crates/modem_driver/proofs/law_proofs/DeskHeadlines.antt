@@ -23,7 +23,8 @@ use Rattle.modem_history.proofs.law_proofs.SessionLaws.{distinct_taken}
 use Rattle.modem_history.specs.Sessions.{Beginning, EndView, Leftovers, SessionFits, SessionView, at_place, caller_outcomes, driving, heard_as, heards}
 use Rattle.modem_history.specs.Wholes.{is_same, outcomes, taken_requests}
 use Rattle.modem_history.proofs.commands.SentPrefixes.{leaves_once}
-use Rattle.modem_history.proofs.outcomes.OutcomeCounts.{answers_once, lawful_part, many, many_append, many_filtered}
+use Rattle.modem_history.proofs.outcomes.OutcomeCounts.{many, many_append}
+use Rattle.modem_history.proofs.outcomes.WholeCounts.{answers_once, lawful_part, many_filtered}
 use Rattle.modem_history.proofs.outcomes.SingleOutcomes.{of_its_caller, uses_once}
 use Rattle.modem_history.proofs.requests.UntoldRequests.{all_answer, hand_is}
 use Rattle.modem_driver.specs.DeskHeadline.{AnnouncedOver, DeskRun, Follow, HoldsOver, IsDeskHeadline, IsDeskSettled, IsSpell, Rest, RestsOf, Spell, SpellHeadline, outcomes_over}

@@ -30,7 +30,8 @@ use Rattle.modem_history.specs.Wholes.{TellsOwn, is_same, outcomes, taken_reques
 use Rattle.modem_history.proofs.lists.Filters.{swapped}
 use Rattle.modem_history.proofs.lines.HeardLines.{hears_all}
 use Rattle.modem_history.proofs.commands.SentPrefixes.{leaves_once}
-use Rattle.modem_history.proofs.outcomes.OutcomeCounts.{answers_once, lawful_part, many, many_append, many_filtered}
+use Rattle.modem_history.proofs.outcomes.OutcomeCounts.{many, many_append}
+use Rattle.modem_history.proofs.outcomes.WholeCounts.{answers_once, lawful_part, many_filtered}
 use Rattle.modem_history.proofs.outcomes.OwnAnswers.{tells_own}
 use Rattle.modem_history.proofs.outcomes.SingleOutcomes.{of_its_caller, uses_once}
 use Rattle.modem_history.proofs.requests.UntoldRequests.{all_answer, hand_is}

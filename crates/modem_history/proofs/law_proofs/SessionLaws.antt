@@ -14,7 +14,7 @@ use Rattle.std.proofs.Math.Seq.{drop-append_seam}
 use Rattle.modem_history.specs.Acts.{Act, after, is_for, in_hand}
 use Rattle.modem_history.specs.Wholes.{taken_requests, outcomes}
 use Rattle.modem_desk.specs.declared.request.Outcome.{Outcome}
-use Rattle.modem_history.proofs.outcomes.OutcomeCounts.{answers_once}
+use Rattle.modem_history.proofs.outcomes.WholeCounts.{answers_once}
 use Rattle.modem_history.proofs.outcomes.SingleOutcomes.{of_its_caller, uses_once}
 use Rattle.modem_history.proofs.calls.StatesAfterActs.{after_both}
 use Rattle.modem_history.proofs.requests.UntoldRequests.{hand_is}

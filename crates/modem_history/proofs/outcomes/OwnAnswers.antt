@@ -27,7 +27,8 @@ use Rattle.modem_history.specs.Begun.{begun_count}
 use Rattle.modem_history.specs.Wholes.{called, stands, taken_requests, begun_in, commands_for, CompleteCalls, IsOwnAnswer, HasOwnAnswer, TellsOwn}
 use Rattle.modem_history.proofs.law_proofs.WholeHistories.{beginning}
 use Rattle.modem_history.proofs.connections.ShutAfterLoss.{none_open}
-use Rattle.modem_history.proofs.outcomes.OutcomeCounts.{lawful_part, closed_tells_none, stays_closed, not_zero}
+use Rattle.modem_history.proofs.outcomes.OutcomeCounts.{closed_tells_none, stays_closed, not_zero}
+use Rattle.modem_history.proofs.outcomes.WholeCounts.{lawful_part}
 use Rattle.modem_history.proofs.requests.RequestsInHand.{for_itself}
 use Rattle.modem_history.proofs.commands.BegunCommands as begins
 use Rattle.modem_history.proofs.commands.BegunCommands.{begun_append, begun_lines, begun_counted, texts_counted}

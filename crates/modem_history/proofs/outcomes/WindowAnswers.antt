@@ -31,7 +31,7 @@ use Rattle.modem_history.specs.Calls.{Setting, HistoryView, seen_behind, calls_b
 use Rattle.modem_history.specs.Lawful.{Lawful, unsent, owed}
 use Rattle.modem_history.specs.Wholes.{called, stands, EndsWindow, HasAnswer, TellsAnswers}
 use Rattle.modem_history.proofs.law_proofs.WholeHistories.{beginning}
-use Rattle.modem_history.proofs.outcomes.OutcomeCounts.{lawful_part}
+use Rattle.modem_history.proofs.outcomes.WholeCounts.{lawful_part}
 use Rattle.modem_history.proofs.requests.RequestsInHand.{outcome_of}
 
 -- ## Answers that are no Done

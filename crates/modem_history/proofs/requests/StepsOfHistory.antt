@@ -23,7 +23,8 @@ use Rattle.modem_history.specs.Lawful.{Lawful, Complete, Gated, IsNext, When, ow
 use Rattle.modem_history.specs.Requests.{is_apart, are_distinct}
 use Rattle.modem_history.specs.Wholes.{taken_requests, is_same, UsesOnce, CompleteCalls, commands_for, StaysInStep}
 use Rattle.modem_history.proofs.law_proofs.WholeHistories.{not_true}
-use Rattle.modem_history.proofs.outcomes.OutcomeCounts.{one, many, many_append, many_without, many_filtered, data_on, is_data}
+use Rattle.modem_history.proofs.outcomes.OutcomeCounts.{one, many, many_append, many_without, data_on, is_data}
+use Rattle.modem_history.proofs.outcomes.WholeCounts.{many_filtered}
 use Rattle.modem_history.proofs.commands.BegunCommands.{opens_by_sent, opens_by_mark, data_ends_none, marks_of}
 use Rattle.modem_history.proofs.connections.NoSecondOpening.{is_asked}
 use Rattle.modem_history.proofs.calls.CallEnds.{ended, if_false}

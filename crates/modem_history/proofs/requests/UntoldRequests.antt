@@ -16,7 +16,7 @@ use Rattle.modem_history.specs.SessionLaws.{untold}
 use Rattle.modem_history.proofs.lists.Filters.{passed, taken_too}
 use Rattle.modem_history.proofs.requests.RequestsInHand.{all_apart}
 use Rattle.modem_history.proofs.requests.RequestsAfterCalls.{distinct_ends}
-use Rattle.modem_history.proofs.outcomes.OutcomeCounts.{answers_once}
+use Rattle.modem_history.proofs.outcomes.WholeCounts.{answers_once}
 
 both_true : (a b : Bool) → a ≡ true → b ≡ true → (a && b) ≡ true
 both_true true b h k = k

@@ -19,7 +19,8 @@ use Rattle.modem_history.specs.Acts.{Act, after}
 use Rattle.modem_history.specs.Sessions.{driving, gots, heard_as, backlog_in}
 use Rattle.modem_history.specs.SessionRows.{TurnRow, IsWrongTurn, Each, beginning, entry_answer, zero_came, one_came, ring_one, test_command_info, outcome_of, ring}
 use Rattle.modem_history.specs.Turns.{counted, calls_made, octets_read, octets_written, request_given, AllAreGot, IsOffer, Offers, Read, Write}
-use Rattle.modem_history.specs.BadTurns.{test_frame, wrong_turns, idle_with_frame, idle_with_unfed, idle_half_unfed, idle_with_unsent, idle_with_queued, idle_with_outcome, idle_with_line, idle_with_command, idle_after_read, idle_without_read, idle_though_told, idle_though_sent, idle_though_announced, idle_with_lost_frame, idle_with_dropped_request, idle_and_still_held, idle_and_failed, moved_by_nothing, moved_by_a_mark, unfed_grows, full_unoffered, full_but_taken, full_of_nothing, full_without_read, full_with_frame, full_with_unfed, full_with_test, full_though_told, full_though_read, full_though_taken, full_with_dropped_request, full_and_not_held, full_and_still_held, full_and_failed, waiting_but_told, waiting_for_another, waiting_for_the_greater, waiting_with_unsent, waiting_with_frame, waiting_without_read, waiting_for_none, waiting_untried, waiting_half_unfed, waiting_with_lost_frame, waiting_with_queued, waiting_with_command, waiting_and_not_held, waiting_and_still_held, waiting_and_failed, blocked_by_none, blocked_by_a_later, blocked_with_command, blocked_and_not_held, blocked_and_still_held, blocked_by_another, blocked_though_announced, blocked_untried, blocked_with_unsent, blocked_with_outcome, blocked_with_frame, blocked_half_unfed, blocked_without_read, blocked_with_queued, blocked_and_failed, tick_in_a_turn, loss_in_a_turn, failed_and_moved, three_calls, read_twice, read_while_unfed, two_frames, two_requests, told_at_once, held_too_early, moved_by_dropped_request}
+use Rattle.modem_history.specs.BadTurns.{test_frame, idle_with_frame, idle_with_unfed, idle_half_unfed, idle_with_unsent, idle_with_queued, idle_with_outcome, idle_with_line, idle_with_command, idle_after_read, idle_without_read, idle_though_told, idle_though_sent, idle_though_announced, idle_with_lost_frame, idle_with_dropped_request, idle_and_still_held, idle_and_failed, moved_by_nothing, moved_by_a_mark, unfed_grows, full_unoffered, full_but_taken, full_of_nothing, full_without_read, full_with_frame, full_with_unfed, full_with_test, full_though_told, full_though_read, full_though_taken, full_with_dropped_request, full_and_not_held, full_and_still_held, full_and_failed}
+use Rattle.modem_history.specs.BadWaits.{wrong_turns, waiting_but_told, waiting_for_another, waiting_for_the_greater, waiting_with_unsent, waiting_with_frame, waiting_without_read, waiting_for_none, waiting_untried, waiting_half_unfed, waiting_with_lost_frame, waiting_with_queued, waiting_with_command, waiting_and_not_held, waiting_and_still_held, waiting_and_failed, blocked_by_none, blocked_by_a_later, blocked_with_command, blocked_and_not_held, blocked_and_still_held, blocked_by_another, blocked_though_announced, blocked_untried, blocked_with_unsent, blocked_with_outcome, blocked_with_frame, blocked_half_unfed, blocked_without_read, blocked_with_queued, blocked_and_failed, tick_in_a_turn, loss_in_a_turn, failed_and_moved, three_calls, read_twice, read_while_unfed, two_frames, two_requests, told_at_once, held_too_early, moved_by_dropped_request}
 use Rattle.at_text.specs.Kinds.{kind_place}
 use Rattle.modem_history.proofs.rows.HistoryTests.{unquiet}
 use Rattle.modem_history.proofs.rows.TurnTests.{no_more}

@@ -7,7 +7,7 @@ use Rattle.at_text.specs.Lines.{is_line_end, lines, kept_run, cut, is_filled, un
 use Rattle.at_text.proofs.lines.UnfinishedLines.{no_run, has_end-take, has_end-unfinished, reads_on}
 use Rattle.modem_sim.specs.declared.state.ModemState.{ModemState}
 use Rattle.modem_sim.specs.Outboxes.{any_call}
-use Rattle.modem_sim.specs.Steps.{any_through, step}
+use Rattle.modem_sim.specs.LineSteps.{any_through, step}
 use Rattle.modem_sim.specs.Laws.{after_lines}
 use Rattle.modem_sim.specs.Pieces.{pieces_octets, reply, replies}
 use Rattle.modem_sim.proofs.law_proofs.Histories.{spelled-append}

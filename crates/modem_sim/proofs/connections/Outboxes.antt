@@ -8,7 +8,7 @@ use Rattle.mux_station.specs.Acts as station
 use Rattle.mux_station.specs.Opening.{opens_now, belongs}
 use Rattle.modem_sim.specs.declared.script.StepAct.TheVariants.{Announce, Flow, Hold, Disconnect, CloseDown}
 use Rattle.modem_sim.specs.declared.state.ModemState.{ModemState}
-use Rattle.modem_sim.specs.Steps.{repeats, step}
+use Rattle.modem_sim.specs.LineSteps.{repeats, step}
 use Rattle.modem_sim.specs.Acts.{Act, Wire, Did, End, wire, is_open_at_modem}
 use Rattle.modem_sim.specs.Heard.{modem_after, texts_with}
 use Rattle.modem_sim.specs.Pieces.{Piece, Echo, Answer, Announced, answers, echoed, reply, replies, asked_for}

@@ -16,7 +16,8 @@ use Rattle.modem_sim.specs.declared.words.Word.TheVariants.{Reset, Echo, Usual, 
 use Rattle.modem_sim.specs.Contexts.{active_after, becomes_active, is_active, is_defined, names, with_context}
 use Rattle.modem_sim.specs.Laws.{after_lines}
 use Rattle.modem_sim.specs.Reading.{command_of}
-use Rattle.modem_sim.specs.Steps.{activated, after_command, after_refusal, after_word_refusal, after_wrong_puk, context_made, is_too_long, line_commands, nothing_ran, own_answer, own_step, ran_command, ran_next, ran_other, ran_text, ran_unless, ran_word, refusal_as, refused_by, settled, step, step_as, word_after, word_refusal, worded_by, Ran}
+use Rattle.modem_sim.specs.Steps.{activated, after_command, after_refusal, after_word_refusal, after_wrong_puk, context_made, settled, word_after, word_refusal}
+use Rattle.modem_sim.specs.LineSteps.{is_too_long, line_commands, nothing_ran, own_answer, own_step, ran_command, ran_next, ran_other, ran_text, ran_unless, ran_word, refusal_as, refused_by, step, step_as, worded_by, Ran}
 use Rattle.modem_sim.specs.Words.{word_of}
 use Rattle.modem_sim.specs.WordLaws.{ActiveAreThere, KeepsActive}
 use Rattle.modem_sim.proofs.modem_steps.StandardModems.{carried_words}

@@ -8,7 +8,8 @@ use Rattle.modem_sim.specs.declared.state.Words.{Words}
 use Rattle.modem_sim.specs.declared.words.Word.TheVariants.{Dial}
 use Rattle.modem_sim.specs.Reading.{command_of}
 use Rattle.modem_data.specs.Switching.{is_connect}
-use Rattle.modem_sim.specs.Steps.{announced_as, answered_by, dialled, is_registered, line_of, lock_error, nothing_ran, ran_next, ran_other, is_through, ran_text, ran_unless, ran_word, reports_held, step, with_late, Ran, Step}
+use Rattle.modem_sim.specs.Steps.{dialled, is_registered, line_of, lock_error, Step}
+use Rattle.modem_sim.specs.LineSteps.{announced_as, answered_by, nothing_ran, ran_next, ran_other, is_through, ran_text, ran_unless, ran_word, reports_held, step, with_late, Ran}
 use Rattle.modem_sim.specs.WordLaws.{AnswersCalls, EndsAtCalls, HoldsBehindCalls, IsCall}
 use Rattle.modem_sim.proofs.law_proofs.WordedModems.{late_by, none_late, whole_line}
 

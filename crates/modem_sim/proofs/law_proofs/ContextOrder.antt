@@ -15,7 +15,8 @@ use Rattle.modem_sim.specs.declared.modem.ModemStart.{ModemStart}
 use Rattle.modem_sim.specs.declared.state.ModemState.{ModemState}
 use Rattle.modem_sim.specs.Contexts.{with_context}
 use Rattle.modem_sim.specs.Reading.{is_attention, command_of}
-use Rattle.modem_sim.specs.Steps.{Step, standard_step, started, step, step_by, refusal_of, obeyed_unless, after_refusal, after_command}
+use Rattle.modem_sim.specs.Steps.{Step, standard_step, started, step_by, refusal_of, obeyed_unless, after_refusal, after_command}
+use Rattle.modem_sim.specs.LineSteps.{step}
 use Rattle.modem_sim.specs.Laws.{after_lines, reached, SetsOne, AreInOrder, context_of}
 use Rattle.modem_sim.proofs.modem_steps.StandardModems.{step_standard, step_words}
 

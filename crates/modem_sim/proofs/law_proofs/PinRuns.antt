@@ -13,7 +13,8 @@ use Rattle.modem_sim.specs.declared.modem.ModemStart.{ModemStart}
 use Rattle.modem_sim.specs.declared.state.Lock.{Lock}
 use Rattle.modem_sim.specs.declared.state.Lock.TheVariants.{Ready, NeedPin, NeedPuk}
 use Rattle.modem_sim.specs.declared.state.ModemState.{ModemState}
-use Rattle.modem_sim.specs.Steps.{after_wrong_pin, attach_error, is_registered, lock_error, locked_by, obeyed_unless, pin_error, refusal_of, started, step}
+use Rattle.modem_sim.specs.Steps.{after_wrong_pin, attach_error, is_registered, lock_error, locked_by, obeyed_unless, pin_error, refusal_of, started}
+use Rattle.modem_sim.specs.LineSteps.{step}
 use Rattle.modem_sim.specs.Meanings.{meant, meant_unless, oper_reply, told_context, wanted_pin}
 use Rattle.modem_sim.specs.Laws.{IsStart, reached}
 use Rattle.modem_sim.specs.PinLaws.{ChangesNothingBefore, IsReadyAlways, KeepsPin, Locks, Opens, RefusesBefore, WantsPin, WrongTries, changes_network, no_line, no_try, tells_network, unlocked_start, wrong_try}

@@ -11,7 +11,8 @@ use Rattle.modem_sim.specs.declared.state.Lock.{Lock}
 use Rattle.modem_sim.specs.declared.state.Lock.TheVariants.{Ready, NeedPin, NeedPuk}
 use Rattle.modem_sim.specs.declared.state.ModemState.{ModemState}
 use Rattle.modem_sim.specs.Reading.{is_attention, command_of}
-use Rattle.modem_sim.specs.Steps.{after_command, after_refusal, after_wrong_pin, lock_error, obeyed, obeyed_unless, refusal_of, standard_step, started, step, step_by, Step}
+use Rattle.modem_sim.specs.Steps.{after_command, after_refusal, after_wrong_pin, lock_error, obeyed, obeyed_unless, refusal_of, standard_step, started, step_by, Step}
+use Rattle.modem_sim.specs.LineSteps.{step}
 use Rattle.modem_sim.specs.Meanings.{meant, meant_unless}
 use Rattle.modem_sim.specs.Laws.{IsStart, after_lines, reached}
 use Rattle.modem_sim.specs.SettingLaws.{Answer, IsSet, NoneSets, Tells, answered}

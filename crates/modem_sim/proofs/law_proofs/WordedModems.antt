@@ -13,7 +13,8 @@ use Rattle.at_cmds.specs.Cme.{cme_text}
 use Rattle.modem_sim.specs.OwnAnswers.{said_later, said_now, waits_on}
 use Rattle.modem_sim.specs.Reading.{is_attention, command_of}
 use Rattle.modem_data.specs.Switching.{is_connect}
-use Rattle.modem_sim.specs.Steps.{after_command, after_refusal, announced, answered_by, divided_by, is_through, is_too_long, line_commands, line_of, nothing_ran, own_answer, obeyed, obeyed_unless, Ran, ran_command, ran_text, lock_error, radio_error, refusal_as, refusal_of, refused_by, settled, standard_step, step, Step, told_as, told_texts, through_by, with_late, worded_by}
+use Rattle.modem_sim.specs.Steps.{after_command, after_refusal, line_of, obeyed, obeyed_unless, lock_error, refusal_of, settled, standard_step, Step, told_as, told_texts}
+use Rattle.modem_sim.specs.LineSteps.{announced, answered_by, divided_by, is_through, is_too_long, line_commands, nothing_ran, own_answer, Ran, ran_command, ran_text, radio_error, refusal_as, refused_by, step, through_by, with_late, worded_by}
 use Rattle.modem_sim.specs.StateTexts.{oper_text}
 use Rattle.modem_sim.specs.SettingTexts.{named_oper_text}
 use Rattle.modem_sim.specs.WordLaws.{AnswersAsStandard, IsAsStandard, bare}

@@ -10,7 +10,8 @@ use Rattle.modem_sim.specs.declared.state.ModemState.{ModemState}
 use Rattle.modem_sim.specs.declared.state.Words.{Words}
 use Rattle.modem_sim.specs.CommandLines.{begins_with_at}
 use Rattle.modem_sim.specs.Reading.{is_attention, command_of}
-use Rattle.modem_sim.specs.Steps.{after_command, after_refusal, echoes_as, line_through, obeyed_unless, own_answer, own_said, own_step, refusal_of, repeats, standard_step, started, step, step_as, step_by, with_late, worded_step, Step}
+use Rattle.modem_sim.specs.Steps.{after_command, after_refusal, obeyed_unless, refusal_of, standard_step, started, step_by, Step}
+use Rattle.modem_sim.specs.LineSteps.{echoes_as, line_through, own_answer, own_said, own_step, repeats, step, step_as, with_late, worded_step}
 use Rattle.modem_sim.specs.Laws.{after_lines, reached}
 
 -- a command that is carried out leaves the words

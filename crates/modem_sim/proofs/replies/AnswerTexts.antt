@@ -26,7 +26,8 @@ use Rattle.modem_sim.specs.declared.state.Lock.{Lock}
 use Rattle.modem_sim.specs.declared.state.Lock.TheVariants.{Ready, NeedPin, NeedPuk}
 use Rattle.modem_sim.specs.declared.state.ModemState.{ModemState}
 use Rattle.modem_sim.specs.Reading.{is_attention, command_of}
-use Rattle.modem_sim.specs.Steps.{Step, line_of, error_text, is_registered, refusal_of, told_texts, good_answer, obeyed_unless, step_by, step}
+use Rattle.modem_sim.specs.Steps.{Step, line_of, error_text, is_registered, refusal_of, told_texts, good_answer, obeyed_unless, step_by}
+use Rattle.modem_sim.specs.LineSteps.{step}
 use Rattle.modem_sim.specs.StateTexts.{pin_text, cell_text, reg_text, signal_text, oper_text, context_text, attached_text}
 use Rattle.modem_sim.specs.Laws.{IsStart}
 use Rattle.modem_sim.specs.Replied.{AnswersInLines, is_answer_line}

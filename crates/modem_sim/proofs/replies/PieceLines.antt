@@ -18,7 +18,7 @@ use Rattle.modem_history.proofs.commands.ReadCommands.{IsLine, line_more}
 use Rattle.modem_sim.specs.declared.modem.ModemStart.{ModemStart}
 use Rattle.modem_sim.specs.declared.script.StepAct.TheVariants.{Announce, Flow, Hold, Disconnect, CloseDown}
 use Rattle.modem_sim.specs.Laws.{IsStart, after_lines, reached}
-use Rattle.modem_sim.specs.Steps.{step}
+use Rattle.modem_sim.specs.LineSteps.{step}
 use Rattle.modem_sim.specs.Acts.{Act, Wire, Did, End, wire, is_open_at_modem}
 use Rattle.modem_sim.specs.Heard.{heard, texts_of, texts_with, modem_after}
 use Rattle.modem_sim.specs.Pieces.{Piece, Echo, Answer, Announced, framed, octets_of, pieces_octets, answers, echoed, reply, replies, asked_for}

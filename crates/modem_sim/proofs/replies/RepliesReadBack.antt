@@ -28,7 +28,8 @@ use Rattle.at_cmds.proofs.values_read.Parameters.{divided-quoted, put_text-ended
 use Rattle.modem_sim.specs.declared.state.Lock.{Lock}
 use Rattle.modem_sim.specs.declared.state.Lock.TheVariants.{Ready, NeedPin, NeedPuk}
 use Rattle.modem_sim.specs.declared.state.ModemState.{ModemState}
-use Rattle.modem_sim.specs.Steps.{Step, standard_step, line_of, error_text, lock_error, pin_error, attach_error, is_registered, refusal_of, told_texts, good_answer, obeyed_unless, step}
+use Rattle.modem_sim.specs.Steps.{Step, standard_step, line_of, error_text, lock_error, pin_error, attach_error, is_registered, refusal_of, told_texts, good_answer, obeyed_unless}
+use Rattle.modem_sim.specs.LineSteps.{step}
 use Rattle.modem_sim.specs.StateTexts.{pin_text, cell_text, reg_text, signal_text, oper_text, context_text, attached_text}
 use Rattle.modem_sim.specs.Reading.{lowered, is_attention, command_of}
 use Rattle.modem_sim.specs.declared.contexts.PdpContext.{PdpContext}

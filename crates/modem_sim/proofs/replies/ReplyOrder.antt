@@ -22,7 +22,7 @@ use Rattle.modem_history.proofs.connections.InformationGrowth.{is_got, opens_non
 use Rattle.modem_sim.specs.declared.script.StepAct.TheVariants.{Announce, Flow, Hold, Disconnect, CloseDown}
 use Rattle.modem_sim.specs.declared.state.ModemState.{ModemState}
 use Rattle.modem_sim.specs.Laws.{after_lines}
-use Rattle.modem_sim.specs.Steps.{step}
+use Rattle.modem_sim.specs.LineSteps.{step}
 use Rattle.modem_sim.specs.Acts.{Act, Wire, Did, End, wire, is_open_at_modem}
 use Rattle.modem_sim.specs.Heard.{heard, texts_of, modem_after}
 use Rattle.modem_sim.specs.Pieces.{Piece, Announced, reply, replies, asked_for}

@@ -7,7 +7,7 @@ use Rattle.at_cmds.specs.Values.{command_in}
 use Rattle.modem_sim.specs.CallRows.{CallsKeepQuiet}
 use Rattle.modem_sim.specs.CommandLines.{commands_in}
 use Rattle.modem_sim.specs.Reading.{command_of}
-use Rattle.modem_sim.specs.Steps.{line_commands}
+use Rattle.modem_sim.specs.LineSteps.{line_commands}
 use Rattle.modem_sim.specs.Words.{word_of}
 
 -- no line is announced in a call, but one may be elsewhere, without a call and behind one

@@ -43,7 +43,7 @@ use Rattle.modem_sim.specs.Laws.{after_lines}
 use Rattle.modem_sim.specs.Pieces.{framed}
 use Rattle.modem_sim.specs.Reading.{command_of}
 use Rattle.modem_sim.specs.Rows.{unlocked}
-use Rattle.modem_sim.specs.Steps.{step}
+use Rattle.modem_sim.specs.LineSteps.{step}
 use Rattle.modem_sim.proofs.rows.HistoryRowFacts.{GoodThere, called, due, end, gave, given_on, got, leaves, next_offer, offer, ready_one_allowed, ready_one_there}
 use Rattle.one_modem.specs.OneModem.{EndAct, IsOneLine, driver_past, driver_wire, modem_past, modem_wire}
 use Rattle.one_modem.specs.OneModemRows.{RightAnswer, RightLine, WrongAnswers, WrongLines, after, ask_mux, error_three, ringing, set_mode, two_commands}

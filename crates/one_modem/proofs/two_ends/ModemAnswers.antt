@@ -29,7 +29,7 @@ use Rattle.modem_sim.specs.Acts.{End, Wire, Did}
 use Rattle.modem_sim.specs.Heard.{heard, texts_of}
 use Rattle.modem_sim.specs.Laws.{after_lines, reached}
 use Rattle.modem_sim.specs.Replied.{IsFirstOf, IsModem, all_of, replied_on, written_for}
-use Rattle.modem_sim.specs.Steps.{step}
+use Rattle.modem_sim.specs.LineSteps.{step}
 use Rattle.modem_sim.proofs.connections.OctetReplies.{after_lines-append}
 use Rattle.modem_sim.proofs.replies.ReplyOrder.{all-append, replied_on-append}
 use Rattle.one_modem.specs.OneModem.{AtDriver, AtModem, EndAct, IsAnswerAt, driver_past, modem_past}

@@ -27,7 +27,7 @@ use Rattle.modem_sim.specs.Doing.{is_line}
 use Rattle.modem_sim.specs.Heard.{texts_of}
 use Rattle.modem_sim.specs.Laws.{EndsOnce, IsStart, after_lines, reached}
 use Rattle.modem_sim.specs.Pieces.{answers, echoed}
-use Rattle.modem_sim.specs.Steps.{step}
+use Rattle.modem_sim.specs.LineSteps.{step}
 use Rattle.modem_sim.specs.Replied.{all_of, is_answer_line, replied_on, text_of, written_for}
 use Rattle.modem_sim.proofs.replies.AnswerEnds.{reached_answers_well}
 use Rattle.modem_sim.proofs.connections.OctetReplies.{after_lines-append}

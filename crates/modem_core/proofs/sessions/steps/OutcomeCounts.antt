@@ -15,7 +15,7 @@ use Rattle.modem_history.specs.Wholes.{is_said, taken_requests, outcomes}
 use Rattle.modem_history.specs.SessionLaws.{untold}
 use Rattle.modem_history.specs.Turns.{outcomes_told}
 use Rattle.modem_history.proofs.calls.CalledActs.{Saids}
-use Rattle.modem_history.proofs.outcomes.OutcomeCounts.{answers_once}
+use Rattle.modem_history.proofs.outcomes.WholeCounts.{answers_once}
 use Rattle.modem_history.proofs.outcomes.SingleOutcomes.{uses_once}
 use Rattle.modem_history.proofs.requests.UntoldRequests.{hand_is}
 

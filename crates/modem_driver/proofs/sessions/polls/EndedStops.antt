@@ -33,7 +33,7 @@ use Rattle.modem_history.specs.Sessions.{Beginning, LineView, driving}
 use Rattle.modem_history.specs.Turns.{outcomes_told}
 use Rattle.modem_history.specs.Wholes.{outcomes, taken_requests}
 use Rattle.modem_history.proofs.calls.CallEnds.{ended, frames_in, now_in, now_is}
-use Rattle.modem_history.proofs.outcomes.OutcomeCounts.{answers_once}
+use Rattle.modem_history.proofs.outcomes.WholeCounts.{answers_once}
 use Rattle.modem_history.proofs.calls.CalledActs.{Saids}
 use Rattle.modem_history.proofs.outcomes.SingleOutcomes.{uses_once}
 use Rattle.modem_history.proofs.requests.CommandsInStep.{left_in}

@@ -1,6 +1,6 @@
 -- None of those so far puts a call through.
 use Rattle.std.specs.Prelude.{◌≡◌, false, take}
-use Rattle.modem_sim.specs.Steps.{any_through}
+use Rattle.modem_sim.specs.LineSteps.{any_through}
 use Rattle.modem_sim.proofs.announcing.any_through.Given as goal
 
 abbrev pub invariant-loop-line : goal.invariant-loop-line

@@ -1,6 +1,6 @@
 -- The commands that are left go on from what was done.
 use Rattle.std.specs.Prelude.{◌≡◌, fold, drop}
-use Rattle.modem_sim.specs.Steps.{nothing_ran, ran_next}
+use Rattle.modem_sim.specs.LineSteps.{nothing_ran, ran_next}
 use Rattle.modem_sim.proofs.wording.run_all.Given as goal
 
 abbrev pub invariant-loop-command : goal.invariant-loop-command

@@ -8,7 +8,7 @@ use Rattle.modem_core.specs.Cores.{Core}
 use Rattle.modem_core.specs.Holding.{Flows, TurnsFlow}
 use Rattle.modem_history.specs.declared.act.Act.{Act}
 use Rattle.modem_core.proofs.requests.AcceptedRequests.{ok_too}
-use Rattle.modem_core.proofs.holds.HeldAndFreed.{none_flows, some_flows, some_lacks, some_finds}
+use Rattle.modem_core.proofs.holds.HoldsDue.{none_flows, some_flows, some_lacks, some_finds}
 use Rattle.modem_core.proofs.driver.Core.backlog.Goals as goal
 
 pub returns-in-None-clause-past : goal.returns-in-None-clause-past

@@ -3,7 +3,7 @@ use Rattle.std.specs.Prelude.{◌≡◌, not, false}
 use Rattle.std.proofs.Common.{ap, sym, ◌∙◌, subst}
 use Rattle.mux_station.specs.declared.role.Role.TheVariants.{Initiator}
 use Rattle.modem_core.specs.Cores.{Core}
-use Rattle.modem_core.proofs.holds.HeldAndFreed.{never_open, never_lost}
+use Rattle.modem_core.proofs.holds.HoldsDue.{never_open, never_lost}
 use Rattle.modem_core.proofs.driver.Core.checks.Goals as goal
 
 pub returns-then-not-self : goal.returns-then-not-self

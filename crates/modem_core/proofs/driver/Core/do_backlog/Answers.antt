@@ -4,7 +4,7 @@ use Rattle.std.proofs.Common.{sym, subst}
 use Rattle.mux_station.specs.declared.role.Role.TheVariants.{Initiator}
 use Rattle.modem_core.specs.Cores.{Core}
 use Rattle.modem_core.specs.Holding.{Flows, acts_due}
-use Rattle.modem_core.proofs.holds.HeldAndFreed.{none_flows, some_flows, some_lacks}
+use Rattle.modem_core.proofs.holds.HoldsDue.{none_flows, some_flows, some_lacks}
 use Rattle.modem_core.proofs.driver.Core.do_backlog.Goals as goal
 
 pub returns-in_default-clause-past : goal.returns-in_default-clause-past

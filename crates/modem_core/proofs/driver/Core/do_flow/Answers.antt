@@ -7,7 +7,8 @@ use Rattle.mux_station.specs.Stations.{channel_at}
 use Rattle.modem_core.specs.Lanes.{Lane, turned}
 use Rattle.modem_core.specs.Cores.{Core, lane_at}
 use Rattle.modem_core.specs.Holding.{TurnsFlow, CannotTurn, acts_due}
-use Rattle.modem_core.proofs.holds.HeldAndFreed.{Flowing, turns_since, cannot_turn}
+use Rattle.modem_core.proofs.holds.HeldAndFreed.{Flowing}
+use Rattle.modem_core.proofs.holds.HoldsDue.{turns_since, cannot_turn}
 use Rattle.modem_core.proofs.driver.Core.do_flow.Goals as goal
 
 pub returns-in-Err-clause-no_room : goal.returns-in-Err-clause-no_room

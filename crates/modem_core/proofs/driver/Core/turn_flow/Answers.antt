@@ -13,7 +13,8 @@ use Rattle.modem_core.specs.Holding.{TurnsFlow, CannotTurn, CanTurn}
 use Rattle.modem_history.specs.declared.act.Act.{Act}
 use Rattle.modem_history.specs.declared.act.Act.TheVariants as code
 use Rattle.modem_core.proofs.requests.AcceptedRequests.{pushed_on}
-use Rattle.modem_core.proofs.holds.HeldAndFreed.{flow_frame, flow_written, lacks_room, finds_room}
+use Rattle.modem_core.proofs.holds.HeldAndFreed.{flow_frame}
+use Rattle.modem_core.proofs.holds.HoldsDue.{flow_written, lacks_room, finds_room}
 use Rattle.modem_core.proofs.driver.Core.turn_flow.Goals as goal
 
 pub returns-then-not-has_room_to_flow-clause-no_room : goal.returns-then-not-has_room_to_flow-clause-no_room
