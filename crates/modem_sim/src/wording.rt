@@ -50,7 +50,7 @@ fn command_of(alloc: Global, text: &[u8]) -> Result<Option<Command>, SimError>
 }
 
 /// The commands of a line, if it has an `AT`.
-#[tactic(auto, unfolding(crate::specs::Steps::line_commands))]
+#[tactic(auto, unfolding(crate::specs::LineSteps::line_commands))]
 fn line_commands(alloc: Global, line: &[u8]) -> Result<Option<Vec<Text>>, SimError>
     ensures read { IfOk result (λ read. option_map (λ commands. commands.items) read ≡ line_commands line.now) }
     ensures no_memory { OnErr result (IsErrOf result SimError.NoMemory) }
