@@ -1,6 +1,6 @@
 -- A drive on a device with files, from its beginning to its status.
 use Rattle.std.specs.Prelude.{◌≡◌, ◌≢◌, ◌⊎◌, ◌==◌, ℕ, ◌+◌, ◌<◌, ◌≤◌, Bool, true, false, List, [], ◌∷◌, ◌++◌, All, length, map, take, Option, None, Some, Result, Ok, Err, IfOk, refl, slice_index_or}
-use Rattle.std.proofs.Common.{ap, arith, inl, suc, sym, subst, true≢false, zero, ◌∙◌}
+use Rattle.std.proofs.Common.{ap, arith, inl, suc, sym, subst, zero, ◌∙◌}
 use Rattle.std.specs.Option.{unwrap_or}
 use denote.Ref.{Bor}
 use Rattle.std.proofs.lemmas.List.{map-append, take_all, take_more}
@@ -9,7 +9,6 @@ use Rattle.serial_line.specs.declared.stream_line.ZeroRead.TheVariants.{Ended}
 use Rattle.mux_frame.specs.declared.dlci.Dlci.{Dlci}
 use Rattle.at_text.specs.Rules.{Rules}
 use Rattle.modem_desk.specs.declared.settling.Settled.{Settled}
-use Rattle.ctl_text.specs.Writing.{IsBegun}
 use Rattle.modem_data.specs.PipeSets.{numbers}
 use Rattle.data_files.specs.Files.{FileState, FiledState, HasMoved, IsFresh, dlcis}
 use Rattle.data_files.specs.Moves.{HadTurns}
@@ -18,8 +17,8 @@ use Rattle.mux_capture.specs.Passing.{CaptureState}
 use Rattle.ctl_drive.specs.Asking.{NamesRead}
 use Rattle.ctl_drive.specs.CapturedLine.{CapturedState, CapturesUnlessFailed, captured_line}
 use Rattle.ctl_drive.specs.DataDrive.{DroveData}
-use Rattle.ctl_drive.specs.DataDevice.{DroveFiles, DroveFilesCaptured, DroveFilesDevice, DroveFilesLine, EndsFilesByFault, EndsWith, IsFileOf, RanFiles, SaysFull, full_text, full_texts, opened_file, opened_files}
-use Rattle.file_threads.specs.FileEnds.{FileEnd, IsWritten, SaysEnds, ends_texts}
+use Rattle.ctl_drive.specs.DataDevice.{DroveFiles, DroveFilesCaptured, DroveFilesDevice, DroveFilesLine, EndsFilesByFault, EndsWith, IsFileOf, RanFiles, opened_file, opened_files}
+use Rattle.file_threads.specs.FileEnds.{FileEnd, IsWritten, SaysEnds, SaysFull, ends_texts, full_texts}
 use Rattle.ctl_drive.specs.FileEnds.{NamesEnds}
 use Rattle.ctl_drive.specs.OnDevice.{SaysEnd, SaysFaultIf, capture_path, device_look, driven_status, end_status}
 use Rattle.file_threads.specs.Said.{AreSaid}
@@ -29,7 +28,6 @@ use Rattle.ctl_drive.specs.declared.running.Driven.{Driven}
 use Rattle.ctl_drive.specs.declared.settings.DataPath.{DataPath}
 use Rattle.ctl_drive.proofs.Asks.{names_nothing}
 use Rattle.ctl_drive.proofs.OnDevice.{by_status, capture_is}
-use Rattle.ctl_drive.proofs.Said.{said_last}
 
 -- ## Lists of paths
 
@@ -138,31 +136,6 @@ files_captured {X} look r s g t e k rules text n1 line first wrapped last files 
       same (drove both.0);
   captures = captures (sym failed_is ∙ both.1);
 }
-
--- ## Threads that have more to write
-
--- where all is written it was said of none
-pub full_none : (a : Option (List ℕ)) → SaysFull true a a
-full_none a = record { full = []; said = AreSaid.said_none a; none = (λ q. refl, λ q. refl) }
-
-not_none : (ds : List ℕ) (d : ℕ) → ds ++ d ∷ [] ≡ [] → ⊥
-not_none [] d q = cc
-not_none (x ∷ ds) d q = cc
-
--- one more has more to write
-pub full_more : (before all : Bool) (a b c x : Option (List ℕ)) (d : ℕ) → SaysFull before a b → IsBegun b c (full_text d) → all ≡ false → x ≡ c
-    → SaysFull all a x
-full_more before all a b c x d h begun not_all same = record {
-  full = h.full ++ d ∷ [];
-  said = subst (λ (z : Option (List ℕ)). AreSaid a z (full_texts (h.full ++ d ∷ []))) (sym same)
-      (subst (λ (ts : List (List ℕ)). AreSaid a c ts) (sym (map-append full_text h.full (d ∷ []))) (said_last a b c (full_texts h.full) (full_text d) h.said begun));
-  none = (λ q. absurd (true≢false (sym q ∙ not_all)), λ q. absurd (not_none h.full d q));
-}
-
--- this one is through
-pub full_same : (before all : Bool) (a b x : Option (List ℕ)) → SaysFull before a b → all ≡ before → x ≡ b → SaysFull all a x
-full_same before all a b x h same none =
-    subst (λ (y : Bool × Option (List ℕ)). SaysFull y.0 a y.1) (λ i. (sym same i, sym none i)) h
 
 -- ## The status
 

@@ -1,5 +1,5 @@
 -- A drive on a device, with files beside connections that carry data.
-use Rattle.std.specs.Prelude.{◌≡◌, ◌<◌, ◌⊎◌, ◌↔◌, ℕ, Bool, true, false, List, [], All, Option, None, Result, Ok, Err, IfOk, codes, length, map, slice_index_or}
+use Rattle.std.specs.Prelude.{◌≡◌, ◌<◌, ◌⊎◌, ℕ, Bool, true, false, List, All, Option, None, Result, Ok, Err, IfOk, length, map, slice_index_or}
 use Rattle.serial_line.specs.StreamLine.{StreamState, new_stream}
 use Rattle.serial_line.specs.declared.stream_line.ZeroRead.TheVariants.{Ended}
 use Rattle.at_text.specs.Rules.{Rules}
@@ -12,7 +12,7 @@ use Rattle.data_files.specs.Moves.{HadTurns}
 use Rattle.ctl_drive.specs.Asking.{NamesRead}
 use Rattle.ctl_drive.specs.CapturedLine.{CapturedState, CapturesAll, captured_line}
 use Rattle.ctl_drive.specs.DataDrive.{DroveData}
-use Rattle.file_threads.specs.FileEnds.{FileEnd, IsWritten, SaysEnds, data_text, ends_texts}
+use Rattle.file_threads.specs.FileEnds.{FileEnd, IsWritten, SaysEnds, ends_texts, full_texts}
 use Rattle.ctl_drive.specs.OnDevice.{device_look}
 use Rattle.file_threads.specs.Said.{AreSaid}
 use Rattle.ctl_drive.specs.Saying.{SaysFault, left_texts, path_for}
@@ -81,24 +81,11 @@ DroveFilesDevice captures rules text n1 files before after silent said was_bad l
 
 -- ## How it ends
 
--- of this connection it is said that its file isn't through with what came
-abbrev pub full_text : ℕ → List ℕ
-full_text dlci = data_text dlci (codes ": its file hasn't taken the last of what came, 66048 octets at most")
-
-abbrev pub full_texts : List ℕ → List (List ℕ)
-full_texts full = map full_text full
-
 -- a drive that came to this came to that: where threads had more to write there is a fault
 abbrev pub EndsWith : (is_written : Bool) → Result Driven DriveFault → Result Driven DriveFault → Type 0
 EndsWith is_written (Ok driven) ended = IfOk ended (λ d. (d.was_bad ≡ driven.was_bad) × (d.left ≡ driven.left)
     × (d.fault ≡ None → (driven.fault ≡ None) × (is_written ≡ true)))
 EndsWith is_written (Err why) ended = ended ≡ Err why
-
--- it was said of these connections, and of none just where all is written
-pub record SaysFull (is_written : Bool) (before after : Option (List ℕ)) : Type 0 where
-  pub full : List ℕ
-  pub said : AreSaid before after (full_texts full)
-  pub none : is_written ≡ true ↔ full ≡ []
 
 -- A device was driven so with files, without a fault. What came of each file was said behind the bad lines, and then how many requests
 -- were left, if any were.

@@ -16,11 +16,11 @@ use crate::on_device::{Opened, Threaded, judge_capture, open_all, start_threads}
 use crate::running::Driven;
 use crate::saying::{Paths, say_end, say_fault};
 use crate::settings::{DataPath, Settings};
-use crate::starting_files::{say_full, start_files};
+use crate::starting_files::start_files;
 use bell::Bell;
 use data_files::DataFile;
 use device_line::DeviceLine;
-use file_threads::{say_files, write_out};
+use file_threads::{say_files, say_full, write_out};
 use mux_capture::Capture;
 use mux_frame::Dlci;
 use serial_line::SerialLine;

@@ -5,6 +5,7 @@ ghost use Rattle.std.specs.String.{string_bytes};
 ghost use Rattle.ctl_drive.specs.Entry.{entry_for, entry_text, given_text};
 
 use at_text::Dialect;
+use file_threads::OfConnection;
 use modem_data::Begin;
 use mux_frame::Dlci;
 use std::alloc::{AllocError, Global};
@@ -45,6 +46,12 @@ pub struct DataPath<'a> {
     /// The path of a terminal, set up as a modem's is, which is read and written. Where data begins by a prompt it is the path of
     /// any file with the text and its end, 1A, which is read to its end.
     pub path: &'a str,
+}
+
+impl OfConnection for DataPath<'_> {
+    fn connection(&self) -> Dlci {
+        self.dlci
+    }
 }
 
 /// How long a connection may be without an answer to its command.

@@ -2,28 +2,23 @@
 ghost use Rattle.std.specs.Prelude.{◌≡◌, ◌++◌, [], ◌∷◌, IfErr, IfOk, None, OnOk};
 ghost use Rattle.serial_line.specs.StreamLine.{new_stream};
 ghost use Rattle.serial_line.specs.declared.stream_line.ZeroRead.TheVariants.{Ended};
-ghost use Rattle.ctl_drive.specs.DataDevice.{IsFileOf, SaysFull, opened_file, opened_files};
+ghost use Rattle.ctl_drive.specs.DataDevice.{IsFileOf, opened_file, opened_files};
 
 use crate::fault::DriveFault;
 use crate::settings::DataPath;
 use bell::Bell;
 use data_files::DataFile;
 use device_line::DeviceLine;
-use file_threads::{DeviceThreads, LOOKS, PAUSE, line_beside, open_device, say_of};
+use file_threads::{DeviceThreads, line_beside, open_device};
 use modem_data::{Begin, Until};
 use results::beside;
 use serial_line::ZeroRead;
 use std::alloc::AllocGlobal;
 use std::fs::File;
-use std::io::Write;
+use std::io;
 use std::rt::{Clock, Files};
 use std::sync::Wait;
 use std::thread::Threads;
-use std::time::Duration;
-use std::{io, thread};
-
-/// What is said of a thread that has more to write: its ring has room for 65,536 octets, and it takes 512 of them at once.
-const FULL: &str = ": its file hasn't taken the last of what came, 66048 octets at most";
 
 /// Why the file of this path can't be had.
 #[derive(Clone, Copy)]
@@ -123,46 +118,4 @@ where
         place += 1;
     }
     Ok((files, threads))
-}
-
-/// Whether all these threads are through.
-fn are_through(threads: &[DeviceThreads]) -> bool {
-    let mut all = true;
-    for one in threads {
-        all &= one.are_through();
-    }
-    all
-}
-
-/// Waits until all these threads are through, for ten seconds at most.
-fn wait_through<K: Clock>(clock: &K, threads: &[DeviceThreads]) {
-    for _ in 0..LOOKS {
-        if are_through(threads) {
-            return;
-        }
-        thread::sleep(clock, Duration::from_millis(PAUSE));
-    }
-}
-
-/// Waits until these threads are through, for ten seconds at most. Says of which connections they aren't, and whether all are.
-#[tactic(auto, using(crate::proofs::DataDevice::full_none))]
-pub fn say_full<K: Clock, E: Write>(
-    clock: &K,
-    faults: &mut E,
-    data_paths: &[DataPath<'_>],
-    threads: &[DeviceThreads],
-) -> bool
-    ensures { SaysFull result (E.contents faults.old) (E.contents faults.new) }
-{
-    wait_through(clock, threads);
-    let mut all = true;
-    let mut place = 0;
-    while place < threads.len() && place < data_paths.len() {
-        if !threads[place].are_through() {
-            say_of(faults, data_paths[place].dlci, FULL);
-            all = false;
-        }
-        place += 1;
-    }
-    all
 }

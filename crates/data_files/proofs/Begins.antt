@@ -1,6 +1,6 @@
 -- How a line with files begins.
 use Rattle.std.specs.Prelude.{◌≡◌, ℕ, ◌==◌, ◌<◌, ◌+◌, Bool, true, false, List, [], ◌∷◌, ◌++◌, All, length, take, if◌then◌else◌, refl, slice_index_or}
-use Rattle.std.proofs.Common.{ap, ap₂, arith, sym, ◌∙◌, subst}
+use Rattle.std.proofs.Common.{ap, arith, sym, ◌∙◌, subst}
 use Rattle.std.proofs.lemmas.List.{append-nil, take_more}
 use Rattle.std.proofs.lemmas.List.Elements.{All-weaker}
 use Rattle.mux_station.specs.declared.role.Role.{Role}
@@ -65,16 +65,28 @@ none_unsent d (f ∷ files) past e q =
     none_unsent d files (Passed (Began f.dlci f.how f.until) ∷ past) (nil_if (f.dlci == d) (given d (passes past)) e)
     (zero_if (f.dlci == d) (unsent_before d (passes past)) (to_go d (passes past)) q (none_to_go d (passes past) e))
 
-fresh_fits : {Y : Type 0} (g t : Y → List ℕ) (files : List (FileState Y)) (f : FileState Y) → IsFresh g t f → FileFits g t (passes (begun files [])) f
-fresh_fits g t files f h = record {
+-- of a file at which nothing has passed and nothing waits
+fresh_none : {Y : Type 0} (g t : Y → List ℕ) (f : FileState Y) → IsFresh g t f → FileFits g t [] f
+fresh_none g t f h = record {
   given_are =
-      sym (ap (λ (xs : List ℕ). f.before.received ++ xs) (ap₂ (λ (xs ys : List ℕ). xs ++ ys) (all_none_given f.dlci files []) h.none_waits)
+      sym (ap (λ (xs : List ℕ). f.before.received ++ xs) h.none_waits
       ∙ (append-nil f.before.received ∙ ap (λ (b : Before). b.received) h.before_is));
   read_are =
-      ap (λ (xs : List ℕ). f.before.sent ++ xs) (all_none_read f.dlci files [])
-      ∙ (append-nil f.before.sent ∙ (ap (λ (b : Before). b.sent) h.before_is ∙ sym (ap (λ (xs : List ℕ). t f.file ++ xs) h.none_read ∙ append-nil (t f.file))));
+      append-nil f.before.sent ∙ (ap (λ (b : Before). b.sent) h.before_is ∙ sym (ap (λ (xs : List ℕ). t f.file ++ xs) h.none_read ∙ append-nil (t f.file)));
   renewals_are = let none = h.none_renewed in omega (arith, none);
-  dropped_are = let none = h.none_dropped in let unsent = none_unsent f.dlci files [] refl refl in omega (arith, none, unsent);
+  dropped_are = let none = h.none_dropped in omega (arith, none);
+}
+
+-- fresh files fit the empty past
+pub all_fresh : {Y : Type 0} (g t : Y → List ℕ) (files : List (FileState Y)) → All (IsFresh g t) files → All (FileFits g t []) files
+all_fresh g t files fresh = All-weaker (IsFresh g t) (FileFits g t []) (fresh_none g t) files fresh
+
+none_fits : {Y : Type 0} (g t : Y → List ℕ) (files : List (FileState Y)) (f : FileState Y) → FileFits g t [] f → FileFits g t (passes (begun files [])) f
+none_fits g t files f h = record {
+  given_are = h.given_are ∙ ap (λ (xs : List ℕ). f.before.received ++ (xs ++ f.ungiven)) (sym (all_none_given f.dlci files []));
+  read_are = ap (λ (xs : List ℕ). f.before.sent ++ xs) (all_none_read f.dlci files []) ∙ h.read_are;
+  renewals_are = let none = h.renewals_are in omega (arith, none);
+  dropped_are = let none = h.dropped_are in let unsent = none_unsent f.dlci files [] refl refl in omega (arith, none, unsent);
 }
 
 first_fits : {X : Type 0} (r s : X → List ℕ) (role : Role) (n1 : ℕ) (ds : List ℕ) (line : X) (relay : Relay) → BeginsAs role n1 ds relay
@@ -109,10 +121,10 @@ begins_filed r s line relay role n1 files x b begins h e = record {
 
 -- and nothing has moved yet between its connections and its files
 pub has_begun : {X Y : Type 0} (r s : X → List ℕ) (g t : Y → List ℕ) (line : X) (relay : Relay) (role : Role) (n1 : ℕ) (files : List (FileState Y)) (x : DataLineState X) (b : Before)
-    → BeginsAs role n1 (dlcis files) relay → HasBegunTo r s files (new_data_line line relay) x → b ≡ before_of r s line → All (IsFresh g t) files
+    → BeginsAs role n1 (dlcis files) relay → HasBegunTo r s files (new_data_line line relay) x → b ≡ before_of r s line → All (FileFits g t []) files
     → HasMoved r s g t (record { line = x; files = files; role = role; n1 = n1; before = b })
-has_begun r s g t line relay role n1 files x b begins h e fresh = record {
+has_begun r s g t line relay role n1 files x b begins h e fits = record {
   past = begun files [];
   fits = (begins_filed r s line relay role n1 files x b begins h e).fits;
-  files = All-weaker (IsFresh g t) (FileFits g t (passes (begun files []))) (fresh_fits g t files) files fresh;
+  files = All-weaker (FileFits g t []) (FileFits g t (passes (begun files []))) (none_fits g t files) files fits;
 }

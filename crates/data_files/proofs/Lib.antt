@@ -4,5 +4,7 @@ mod Waiting
 mod Growing
 mod Renewing
 mod Begins
+mod Keeping
+mod Again
 mod Lifts
 pub mod Turns

@@ -45,6 +45,21 @@ pub line_goes : {X Y : Type 0} (r s : X → List ℕ) (g t : Y → List ℕ) (v 
 line_goes r s g t v x behind l h =
     by_hops r s g t v x l.hops (passing l.hops (all_kind (may_go behind) (may_pass false) l.hops (goes_passes behind) l.only)) (l.leads v.role v.n1 (dlcis v.files) v.before) h
 
+-- what the line itself gave and took stays
+pub line_same : {X Y : Type 0} (r s : X → List ℕ) (g t : Y → List ℕ) (v : FiledState X Y) (x : DataLineState X) (w : X) → x ≡ record v.line { line = w }
+    → r w ≡ r v.line.line → s w ≡ s v.line.line → HasMoved r s g t v → HasMoved r s g t (record v { line = x })
+line_same r s g t v x w e came went h = subst (λ (y : DataLineState _). HasMoved r s g t (record v { line = y })) (sym e) (record {
+  past = h.past;
+  fits = record {
+    relay_fits = h.fits.relay_fits;
+    came = came ∙ h.fits.came;
+    went = went ∙ h.fits.went;
+    read_are = h.fits.read_are;
+    sent_are = h.fits.sent_are;
+  };
+  files = h.files;
+})
+
 -- octets that the driver writes
 taken_before : (octets : List ℕ) (before past : List Hop) → with_taken octets (before ++ past) ≡ with_taken octets before ++ past
 taken_before [] before past = refl

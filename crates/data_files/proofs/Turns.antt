@@ -59,7 +59,8 @@ turn_back r s g t e k role n1 ds p u v f h reach turn = record {
 
 -- ## One behind the other
 
-turn_then : {X Y : Type 0} (r s : X → List ℕ) (g t : Y → List ℕ) (e k : Y → ℕ) (role : Role) (n1 : ℕ) (ds : List ℕ) (p : Before) (u : DataLineState X) (f h m : FileState Y)
+-- where the file grows behind its turn, both are one turn
+pub turn_then : {X Y : Type 0} (r s : X → List ℕ) (g t : Y → List ℕ) (e k : Y → ℕ) (role : Role) (n1 : ℕ) (ds : List ℕ) (p : Before) (u : DataLineState X) (f h m : FileState Y)
     → HadTurn r s g t e k role n1 ds p u f h → FileGrows g t e k h m → HadTurn r s g t e k role n1 ds p u f m
 turn_then r s g t e k role n1 ds p u f h m turn on = record {
   asked = λ none more. asked_later g t e k f h m (turn.asked none more) on;

@@ -2,7 +2,6 @@
 use Rattle.std.specs.Prelude.{◌≡◌, ◌⊎◌, ℕ, ◌+◌, ◌-◌, ◌<◌, ◌≤◌, Result, Err, false, List, ◌++◌, drop, take, length, min}
 use Rattle.std.proofs.Common.{ap, sym, ◌∙◌, subst, arith, inl, inr, true≢false, take-append-drop}
 use Rattle.std.proofs.lemmas.List.{append_assoc, length-append, length-drop, length-take, take_min}
-use Rattle.mux_station.specs.declared.role.Role.TheVariants.{Initiator}
 use Rattle.mux_station.specs.Opening.{is_open}
 use Rattle.modem_data.specs.declared.error.DataError.{DataError}
 use Rattle.modem_data.specs.declared.error.DataError.TheVariants as error

@@ -1,5 +1,5 @@
 -- A line some of whose connections carry the data of files, as contracts see it. A past is written newest first.
-use Rattle.std.specs.Prelude.{◌≡◌, ℕ, ◌+◌, ◌-◌, ◌^◌, ◌≤◌, ◌==◌, Bool, false, List, [], ◌∷◌, ◌++◌, All, map, min, if◌then◌else◌}
+use Rattle.std.specs.Prelude.{◌≡◌, ℕ, ◌+◌, ◌-◌, ◌^◌, ◌≤◌, ◌==◌, Bool, false, List, [], ◌∷◌, ◌++◌, All, length, map, min, take, if◌then◌else◌}
 use Rattle.mux_station.specs.declared.role.Role.{Role}
 use Rattle.modem_data.specs.declared.begin.Begin.{Begin}
 use Rattle.modem_data.specs.declared.begin.Until.{Until}
@@ -37,6 +37,18 @@ new_file received sent dlci how until file = record {
   unwritten = [];
   has_ended = false;
   is_broken = false;
+  is_over = false;
+  renewals = 0;
+  dropped = 0;
+}
+
+-- The same file for another line: what it gave and took before is all but what waits. Its counts begin anew.
+abbrev pub again : {Y : Type 0} → (received sent : Y → List ℕ) → FileState Y → FileState Y
+again received sent f = record f {
+  before = record {
+    received = take (length (received f.file) - length f.ungiven) (received f.file);
+    sent = sent f.file ++ f.unwritten;
+  };
   is_over = false;
   renewals = 0;
   dropped = 0;
@@ -91,7 +103,7 @@ pub record HasMoved {X Y : Type 0} (received sent : X → List ℕ) (gave took :
   pub fits : LineFits received sent v.role v.n1 (dlcis v.files) v.before v.line past
   pub files : All (FileFits gave took (passes past)) v.files
 
--- nothing has passed between a file and its connection
+-- nothing has passed between a file and its connection, and nothing waits
 pub record IsFresh {Y : Type 0} (received sent : Y → List ℕ) (f : FileState Y) : Type 0 where
   pub before_is : f.before ≡ before_of received sent f.file
   pub none_waits : f.ungiven ≡ []

@@ -5,7 +5,7 @@ use Rattle.mux_station.specs.Opening.{is_open}
 use Rattle.mux_station.specs.declared.role.Role.{Role}
 use Rattle.serial_line.specs.Counts.{one_more}
 use Rattle.modem_data.specs.DataLanes.{most_to_go}
-use Rattle.modem_data.specs.Switching.{takes_given}
+use Rattle.modem_data.specs.Switching.{is_behind_lines, takes_given}
 use Rattle.modem_data.specs.Passing.{Pass, Began, Gave, Read, IsOver, carries, to_go, unread, wire}
 use Rattle.modem_data.specs.PipeSets.{IsNotData, OfEachPast, PipeSet}
 use Rattle.modem_data.specs.Hops.{Hop, Hops, Passed, Relay, passes}
@@ -49,6 +49,21 @@ IsUnsent pipes d count = IsNotData pipes d ⊎ OfEachPast pipes (λ role past. c
 -- so many are all octets of data that wait to be read, up to 512
 unfoldable pub IsUnread : PipeSet → ℕ → (count : ℕ) → Type 0
 IsUnread pipes d count = OfEachPast pipes (λ role past. count ≡ min (unread role d past) 512)
+
+-- these were read of d, and stand behind what was there
+pub record KeepsOn (old new : Relay) (d : ℕ) (before after : List ℕ) : Type 0 where
+  pub octets : List ℕ
+  pub kept : after ≡ before ++ octets
+  pub read : Hops old new (Passed (Read d octets))
+
+-- as many came behind what was there as one piece of 512 has of what waited
+abbrev pub ReadsSome : PipeSet → ℕ → (before after : List ℕ) → Type 0
+ReadsSome pipes d before after = OfEachPast pipes (λ role past. length after ≡ length before + min (unread role d past) 512)
+
+-- as many came so, where no data is under way on d
+abbrev pub KeepsLeft : PipeSet → ℕ → (before after : List ℕ) → Type 0
+KeepsLeft pipes d before after = OfEachPast pipes (λ role past. is_behind_lines (carries role d past) ≡ false
+    → length after ≡ length before + min (unread role d past) 512)
 
 -- the lane of a file's connection is over and read, and begins anew; what it took and didn't send is dropped, and counted
 pub record Renews {X Y : Type 0} (old new : DataLineState X) (f g : FileState Y) : Type 0 where

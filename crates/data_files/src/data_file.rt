@@ -4,8 +4,8 @@ ghost use Rattle.mux_station.specs.declared.role.Role.{Role};
 ghost use Rattle.modem_data.specs.Passing.{IsOver, Pass};
 ghost use Rattle.modem_data.specs.PipeSets.{IsNotData, NoneOf, OfEachPast};
 ghost use Rattle.modem_data_line.specs.DataLines.{Before as Had};
-ghost use Rattle.data_files.specs.Files.{FileFits, new_file};
-ghost use Rattle.data_files.specs.Moves.{FileGrows, FileMoves, GaveFirst, GivesOn, HadTurn, IsAskedFile, IsOfferedFile, IsUnsent, KeepsUnread, ReadsOn, Renews, StaysOver};
+ghost use Rattle.data_files.specs.Files.{FileFits, again, new_file};
+ghost use Rattle.data_files.specs.Moves.{FileGrows, FileMoves, GaveFirst, GivesOn, HadTurn, IsAskedFile, IsOfferedFile, IsUnsent, KeepsLeft, KeepsUnread, ReadsOn, Renews, StaysOver};
 
 use crate::before::Before;
 use crate::unwritten::Unwritten;
@@ -108,7 +108,7 @@ impl<P: SerialLine + Drop> DataFile<P> {
             file,
             before,
             ungiven,
-            unwritten: Unwritten::new(),
+            unwritten: Unwritten::new(alloc),
             has_ended: false,
             is_broken: false,
             is_over: false,
@@ -118,7 +118,8 @@ impl<P: SerialLine + Drop> DataFile<P> {
     }
 
     /// The same file, whose connection carries one lane after the other: where one is over and all of its data was read, the next begins,
-    /// as the first did. What the file gave that a lane took and didn't send is dropped then, and counted.
+    /// as the first did. What came on a lane that is over and that the file hasn't taken is kept in memory until then, so that the next can
+    /// begin at once. What the file gave that a lane took and didn't send is dropped then, and counted.
     pub fn renewed(self) -> DataFile<P>
         ensures { result ≡ record self { renews = true } }
     {
@@ -135,6 +136,16 @@ impl<P: SerialLine> DataFile<P> {
         ensures { result.number ≡ self.now.dlci }
     {
         self.dlci
+    }
+
+    /// For another line, at which nothing has passed: what waits for the file and of it goes on there. Its counts begin anew.
+    pub(crate) fn begin_again(&mut self)
+        ensures { self.new ≡ again P.received P.sent self.old }
+    {
+        self.before = Before::but(&self.file, &self.ungiven, &self.unwritten);
+        self.is_over = false;
+        self.renewals = 0;
+        self.dropped = 0;
     }
 
     /// The file, for what comes after. Octets that wait are dropped.
@@ -323,8 +334,35 @@ impl<P: SerialLine> DataFile<P> {
         }
     }
 
+    /// Where data waits for the file and none is under way on the connection, reads what is left of a lane that is over, at most 512 octets, so
+    /// that the next can begin. Says whether some came. Refused for memory: then nothing is read.
+    fn keep<L: SerialLine>(&mut self, line: &mut DataLine<L>) -> Result<bool, DataError>
+        ensures moves { FileMoves L.received L.sent P.received P.sent line.old line.new self.old self.new }
+        ensures keeps { OnOk result (self.old.renews ≡ true → self.old.unwritten ≢ []
+            → KeepsLeft line.old.relay.pipes self.old.dlci self.old.unwritten self.new.unwritten) }
+        ensures some { IfOk result (λ some. some ≡ false → length self.new.unwritten ≤ length self.old.unwritten) }
+        ensures same { self.new ≡ record self.old { unwritten = self.new.unwritten; is_over = self.new.is_over } }
+        ensures beside { line.new ≡ record line.old { relay = line.new.relay } }
+        ensures more { length self.old.unwritten ≤ length self.new.unwritten }
+    {
+        if !self.renews || self.unwritten.is_empty() {
+            return Ok(false);
+        }
+        if line.is_behind_lines(self.dlci) {
+            return Ok(false);
+        }
+        let length = self.unwritten.len();
+        match self.unwritten.keep(line, self.dlci) {
+            Ok(over) => {
+                self.is_over = over;
+                Ok(self.unwritten.len() > length)
+            }
+            Err(error) => Err(error),
+        }
+    }
+
     /// Begins the next lane where one is due, moves octets between the connection and its file, both ways, and says whether anything
-    /// moved.
+    /// moved. What a lane that is over left is kept, where there is memory.
     pub(crate) fn move_on<L: SerialLine>(&mut self, line: &mut DataLine<L>) -> bool
         ensures moves { FileMoves L.received L.sent P.received P.sent line.old line.new self.old self.new }
         ensures beside { line.new ≡ record line.old { relay = line.new.relay } }
@@ -336,6 +374,7 @@ impl<P: SerialLine> DataFile<P> {
         let gave = self.give(line);
         let took = self.take(line);
         let wrote = self.write_file();
-        began | gave | took | wrote
+        let kept = matches!(self.keep(line), Ok(true));
+        began | gave | took | wrote | kept
     }
 }

@@ -1,9 +1,9 @@
 //! A line some of whose connections carry the data of files.
-ghost use Rattle.std.specs.Prelude.{◌≡◌, ◌+◌, ◌<◌, ◌≤◌, ◌++◌, All, length, take, IfOk, OnOk, OnErr, MatchResult};
+ghost use Rattle.std.specs.Prelude.{◌≡◌, ◌+◌, ◌<◌, ◌≤◌, ◌++◌, [], All, length, map, take, IfOk, OnOk, OnErr, MatchResult};
 ghost use Rattle.serial_line.specs.Counts.{one_more, counted_if_none};
 ghost use Rattle.modem_data.specs.Hops.{BeginsAs, BeginsRelay};
 ghost use Rattle.modem_data_line.specs.DataLines.{new_data_line};
-ghost use Rattle.data_files.specs.Files.{BeginsFiled, HasMoved, IsFresh, dlcis};
+ghost use Rattle.data_files.specs.Files.{BeginsFiled, FileFits, HasMoved, IsFresh, again, dlcis};
 ghost use Rattle.data_files.specs.Moves.{HadTurns, HasBegunTo, IsUnsent, MovesAt};
 
 use crate::before::Before;
@@ -49,6 +49,18 @@ impl<L: SerialLine, P: SerialLine> Model for FiledLine<L, P> {
     }) };
 }
 
+/// Has each file begin again, for another line.
+#[tactic(auto, using(crate::proofs::Again::again_none, crate::proofs::Again::again_more, crate::proofs::Again::again_all))]
+fn begin_again<P: SerialLine>(files: &mut Vec<DataFile<P>>)
+    ensures { files.new.items ≡ map (again P.received P.sent) files.old.items }
+{
+    let mut place = 0;
+    while place < files.len() {
+        files[place].begin_again();
+        place += 1;
+    }
+}
+
 /// Begins the lane of each file, in order. Refused as `DataLine::begin` is.
 #[tactic(auto, using(crate::proofs::Begins::begins_none, crate::proofs::Begins::begins_more))]
 fn begin_all<L: SerialLine, P: SerialLine>(
@@ -85,7 +97,8 @@ fn begun_line<L: SerialLine + Drop, P: SerialLine>(
 }
 
 impl<L: SerialLine + Drop, P: SerialLine + Drop> FiledLine<L, P> {
-    /// This line at the client's end, with these files, as `with_role` has it.
+    /// This line at the client's end, with these files, as `with_role` has it. Requires that nothing waits at the files.
+    #[tactic(auto, using(crate::proofs::Begins::all_fresh))]
     pub fn new(
         alloc: Global,
         line: L,
@@ -101,7 +114,8 @@ impl<L: SerialLine + Drop, P: SerialLine + Drop> FiledLine<L, P> {
     }
 
     /// This line with these files, on whose connections alone its relay carries data. The lane of each begins. Refused for memory.
-    /// Requires that nothing has passed at the files, and at the relay, which was made for this end of the line.
+    /// Requires that nothing has passed at the files since they were put beside this line, and at the relay, which was made for this end
+    /// of the line. Octets may wait at the files.
     #[tactic(auto, using(crate::proofs::Begins::begins_filed, crate::proofs::Begins::has_begun))]
     pub fn with_role(
         alloc: Global,
@@ -112,7 +126,7 @@ impl<L: SerialLine + Drop, P: SerialLine + Drop> FiledLine<L, P> {
         files: Vec<DataFile<P>>,
     ) -> Result<FiledLine<L, P>, DataError>
         requires relay { BeginsAs role n1 (dlcis files.items) relay }
-        requires fresh { All (IsFresh P.received P.sent) files.items }
+        requires fits { All (FileFits P.received P.sent []) files.items }
         ensures begins { IfOk result (BeginsFiled L.received L.sent line relay n1 files.items) }
     {
         let before = Before::of(&line);
@@ -156,6 +170,19 @@ impl<L: SerialLine, P: SerialLine> FiledLine<L, P> {
         ensures moved { HasMoved L.received L.sent P.received P.sent self }
     {
         (self.line, self.files)
+    }
+
+    /// The files, for another line: what waits at each goes on there. What was read of the connections is what the files' own octets say.
+    pub fn into_files(self) -> Vec<DataFile<P>>
+    where
+        L: Drop,
+        ensures files { result.items ≡ map (again P.received P.sent) self.files }
+        ensures fits { All (FileFits P.received P.sent []) result.items }
+    {
+        let (_line, files) = self.into_parts();
+        let mut files = files;
+        begin_again(&mut files);
+        files
     }
 
     /// Moves octets of one file and its connection. Requires that there is this place.

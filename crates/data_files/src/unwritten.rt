@@ -4,44 +4,40 @@ ghost use Rattle.serial_line.specs.Counts.{one_more};
 ghost use Rattle.modem_data.specs.Passing.{IsOver, Read};
 ghost use Rattle.modem_data.specs.PipeSets.{IsNotData, OfEachPast};
 ghost use Rattle.modem_data.specs.Hops.{Hops, Passed};
-ghost use Rattle.data_files.specs.Moves.{IsKept, IsUnread};
+ghost use Rattle.data_files.specs.Moves.{IsKept, IsUnread, KeepsOn, ReadsSome};
 
+use crate::kept::Kept;
+use crate::piece::Piece;
 use modem_data::DataError;
 use modem_data_line::DataLine;
 use mux_frame::Dlci;
 use serial_line::{LineFault, SerialLine};
+use std::alloc::Global;
 use std::marker::Model;
 
-/// The most octets that wait.
-const ROOM: usize = 512;
-
-/// The octets that wait, at most 512. Contracts see them as a list.
+/// The octets that wait: of the last read, at most 512, and behind them what lanes that are over left. Contracts see them as a list.
 #[derive(Drop)]
 pub(crate) struct Unwritten {
-    octets: [u8; ROOM],
-    start: usize,
-    end: usize,
+    piece: Piece,
+    kept: Kept,
 }
 
 impl Model for Unwritten {
-    ghost use Rattle.std.specs.Prelude.{◌≡◌, ℕ, List, take, drop, ◌≤◌};
+    ghost use Rattle.std.specs.Prelude.{ℕ, List, ◌++◌};
 
     ghost Value = { List ℕ };
 
-    ghost view = { λ u. drop u.start (take u.end u.octets) };
-
-    ghost invariant = { λ u. (u.start ≤ u.end) × (u.end ≤ 512) };
+    ghost view = { λ u. u.piece ++ u.kept };
 }
 
 impl Unwritten {
     /// None waits.
-    pub fn new() -> Unwritten
+    pub fn new(alloc: Global) -> Unwritten
         ensures { result ≡ [] }
     {
         Unwritten {
-            octets: [0; ROOM],
-            start: 0,
-            end: 0,
+            piece: Piece::new(),
+            kept: Kept::new(alloc),
         }
     }
 
@@ -49,25 +45,17 @@ impl Unwritten {
     pub fn is_empty(&self) -> bool
         ensures { result ≡ (length self.now == 0) }
     {
-        self.start == self.end
+        self.len() == 0
     }
 
     /// How many wait.
     pub fn len(&self) -> usize
         ensures { result ≡ length self.now }
     {
-        self.as_slice().len()
-    }
-
-    /// The octets, lent.
-    fn as_slice(&self) -> &[u8]
-        ensures { result.now ≡ self.now }
-    {
-        &self.octets[self.start..self.end]
+        self.piece.len() + self.kept.len()
     }
 
     /// Reads data of a connection, with room for 512 octets, and says whether its lane is over. Requires that none waits.
-    #[tactic(auto, using(crate::proofs::Waiting::reads_512, crate::proofs::Waiting::counts_512))]
     pub fn read<L: SerialLine>(
         &mut self,
         line: &mut DataLine<L>,
@@ -81,15 +69,25 @@ impl Unwritten {
         ensures not_data { OnErr result (IsNotData line.old.relay.pipes dlci.number) }
         ensures err { OnErr result ((line.new ≡ line.old) × (self.new ≡ [])) }
     {
-        self.start = 0;
-        self.end = 0;
-        let reading = line.read(dlci, &mut self.octets)?;
-        self.end = reading.count.min(ROOM);
-        Ok(reading.is_over)
+        self.piece.read(line, dlci)
+    }
+
+    /// Reads data of a connection behind these, at most 512 octets, and says whether its lane is over and read. Refused as
+    /// `DataLine::read` is, and for memory.
+    pub fn keep<L: SerialLine>(
+        &mut self,
+        line: &mut DataLine<L>,
+        dlci: Dlci,
+    ) -> Result<bool, DataError>
+        ensures keeps { OnOk result (KeepsOn line.old.relay line.new.relay dlci.number self.old self.new) }
+        ensures some { OnOk result (ReadsSome line.old.relay.pipes dlci.number self.old self.new) }
+        ensures beside { line.new ≡ record line.old { relay = line.new.relay } }
+        ensures err { OnErr result ((line.new ≡ line.old) × (self.new ≡ self.old)) }
+    {
+        self.kept.read(line, dlci)
     }
 
     /// Writes them to a file, once, and says how many it took.
-    #[tactic(auto, using(crate::proofs::Waiting::splits, crate::proofs::Waiting::grew, crate::proofs::Growing::none_stalled, crate::proofs::Growing::kept_counted, crate::proofs::Growing::kept_same))]
     pub fn write<P: SerialLine>(&mut self, file: &mut P) -> Result<usize, LineFault>
         ensures split { P.sent file.new ++ self.new ≡ P.sent file.old ++ self.old }
         ensures same { (P.received file.new ≡ P.received file.old) × (P.empty_reads file.new ≡ P.empty_reads file.old) }
@@ -100,8 +98,9 @@ impl Unwritten {
         ensures stalled { IsKept (P.stalled_writes file.old) (P.stalled_writes file.new) }
         ensures err { OnErr result (self.new ≡ self.old) }
     {
-        let count = file.try_write(self.as_slice())?;
-        self.start += count;
-        Ok(count)
+        if self.piece.is_empty() {
+            return self.kept.write(file);
+        }
+        self.piece.write(file)
     }
 }

@@ -1,13 +1,13 @@
 -- What is said of files, one behind the other.
 use Rattle.std.specs.Prelude.{◌≡◌, ◌==◌, ℕ, ◌+◌, ◌-◌, ◌^◌, ◌<◌, ◌≤◌, Bool, true, false, List, [], ◌∷◌, ◌++◌, All, Option, codes, length, min, refl, take, slice_index_or, if◌then◌else◌}
-use Rattle.std.proofs.Common.{ap, arith, sym, subst, ◌∙◌}
-use Rattle.std.proofs.lemmas.List.{append-nil, take_more, take_all}
+use Rattle.std.proofs.Common.{ap, arith, sym, subst, true≢false, ◌∙◌}
+use Rattle.std.proofs.lemmas.List.{append-nil, map-append, take_more, take_all}
 use Rattle.std.proofs.lemmas.List.Concat.{flat_map-append}
 use Rattle.ctl_text.specs.Writing.{IsBegun}
 use Rattle.modem_data.specs.PipeSets.{PipeSet}
 use Rattle.data_files.specs.Files.{FileState}
 use Rattle.data_files.specs.Moves.{IsUnsent}
-use Rattle.file_threads.specs.FileEnds.{AreEnds, FileEnd, IsWritten, SaysEnd, SaysEnds, count_texts, data_text, end_of, end_texts, ends_texts, octets_text, texts_if}
+use Rattle.file_threads.specs.FileEnds.{AreEnds, FileEnd, IsWritten, SaysEnd, SaysEnds, count_texts, data_text, end_of, end_texts, ends_texts, octets_text, texts_if, SaysFull, full_text, full_texts}
 use Rattle.file_threads.specs.Said.{AreSaid}
 
 -- some texts were said, and then others
@@ -100,3 +100,32 @@ said_file pipes a b c d e f one two ungiven kept both dropped n m dlci p q u k r
   said = said_four_of a b c d e (end_of f kept) one two n m dlci p q
       (let all : n ≡ min (length f.ungiven + kept + f.dropped) (2 ^ 64 - 1) = omega (arith, u, r, v, w) in all) s t h1 h2 h3 h4;
 }
+
+-- ## Threads that have more to write
+
+-- one text more was said behind others
+pub said_last : (a b c : Option (List ℕ)) (texts : List (List ℕ)) (text : List ℕ) → AreSaid a b texts → IsBegun b c text → AreSaid a c (texts ++ text ∷ [])
+said_last a b c texts text h begun = said_both a b c texts (text ∷ []) h (AreSaid.said_next b c c text [] begun (AreSaid.said_none c))
+
+-- of no thread is it said at first that it has more to write
+pub full_none : (a : Option (List ℕ)) → SaysFull true a a
+full_none a = record { full = []; said = AreSaid.said_none a; none = (λ q. refl, λ q. refl) }
+
+not_none : (ds : List ℕ) (d : ℕ) → ds ++ d ∷ [] ≡ [] → ⊥
+not_none [] d q = cc
+not_none (x ∷ ds) d q = cc
+
+-- one more has more to write
+pub full_more : (before all : Bool) (a b c x : Option (List ℕ)) (d : ℕ) → SaysFull before a b → IsBegun b c (full_text d) → all ≡ false → x ≡ c
+    → SaysFull all a x
+full_more before all a b c x d h begun not_all same = record {
+  full = h.full ++ d ∷ [];
+  said = subst (λ (z : Option (List ℕ)). AreSaid a z (full_texts (h.full ++ d ∷ []))) (sym same)
+      (subst (λ (ts : List (List ℕ)). AreSaid a c ts) (sym (map-append full_text h.full (d ∷ []))) (said_last a b c (full_texts h.full) (full_text d) h.said begun));
+  none = (λ q. absurd (true≢false (sym q ∙ not_all)), λ q. absurd (not_none h.full d q));
+}
+
+-- this one is through
+pub full_same : (before all : Bool) (a b x : Option (List ℕ)) → SaysFull before a b → all ≡ before → x ≡ b → SaysFull all a x
+full_same before all a b x h same none =
+    subst (λ (y : Bool × Option (List ℕ)). SaysFull y.0 a y.1) (λ i. (sym same i, sym none i)) h

@@ -1,5 +1,5 @@
 -- What is said of the files beside connections that carry data, in the end.
-use Rattle.std.specs.Prelude.{◌≡◌, ◌==◌, ℕ, ◌+◌, ◌-◌, ◌^◌, Bool, true, false, List, [], ◌∷◌, ◌++◌, Option, codes, flat_map, length, min, if◌then◌else◌}
+use Rattle.std.specs.Prelude.{◌≡◌, ◌==◌, ◌↔◌, ℕ, ◌+◌, ◌-◌, ◌^◌, Bool, true, false, List, [], ◌∷◌, ◌++◌, Option, codes, flat_map, length, map, min, if◌then◌else◌}
 use Rattle.std.specs.Fmt.{decimal}
 use Rattle.modem_data.specs.PipeSets.{PipeSet}
 use Rattle.data_files.specs.Files.{FileState}
@@ -81,3 +81,18 @@ pub record SaysEnds {Y : Type 0} (pipes : PipeSet) (files : List (FileState Y)) 
 -- all that was read of its connection went to the file
 abbrev pub IsWritten : {Y : Type 0} → FileState Y → Type 0
 IsWritten f = f.unwritten ≡ []
+
+-- ## Threads
+
+-- of this connection it is said that its file isn't through with what came
+abbrev pub full_text : ℕ → List ℕ
+full_text dlci = data_text dlci (codes ": its file hasn't taken the last of what came, 66048 octets at most")
+
+abbrev pub full_texts : List ℕ → List (List ℕ)
+full_texts full = map full_text full
+
+-- it was said of these connections, and of none just where all is written
+pub record SaysFull (is_written : Bool) (before after : Option (List ℕ)) : Type 0 where
+  pub full : List ℕ
+  pub said : AreSaid before after (full_texts full)
+  pub none : is_written ≡ true ↔ full ≡ []

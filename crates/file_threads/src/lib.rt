@@ -3,18 +3,20 @@
 //! # Layout
 //!
 //! - `opening`: a device, by its path. `device`: the threads that read and write one.
-//! - `ending`: what came for files is written. `saying`: what is said of them then.
+//! - `ending`: what came for files is written. `saying`, `full`: what is said of them then.
 //! - `fault`.
 #![tactic(auto)]
 
 mod device;
 mod ending;
 mod fault;
+mod full;
 mod opening;
 mod saying;
 
 pub use device::{DeviceThreads, StopBell, line_beside, read_beside, write_beside};
 pub use ending::{LOOKS, PAUSE, write_out};
 pub use fault::FileFault;
+pub use full::{OfConnection, say_full};
 pub use opening::open_device;
-pub use saying::{say_files, say_of};
+pub use saying::{say_files, say_of, say_unsent};

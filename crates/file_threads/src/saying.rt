@@ -1,5 +1,5 @@
 //! What is said of files beside connections that carry data, as far as the writer takes it.
-ghost use Rattle.std.specs.Prelude.{◌≡◌, ◌++◌};
+ghost use Rattle.std.specs.Prelude.{◌≡◌, ◌++◌, codes};
 ghost use Rattle.ctl_text.specs.Writing.{IsBegun};
 ghost use Rattle.file_threads.specs.FileEnds.{SaysEnd, SaysEnds, count_texts, data_text, octets_text, texts_if};
 ghost use Rattle.file_threads.specs.Said.{AreSaid};
@@ -46,6 +46,13 @@ fn say_count<E: Write>(faults: &mut E, dlci: Dlci, words: &str, count: usize)
     }
     say_of(faults, dlci, words);
     say_octets(faults, count);
+}
+
+/// Says how many octets of a connection's file lanes took that were over before these left, where any did.
+pub fn say_unsent<E: Write>(faults: &mut E, dlci: Dlci, count: usize)
+    ensures { AreSaid (E.contents faults.old) (E.contents faults.new) (count_texts dlci.number (codes ": not all that its file gave was sent") count) }
+{
+    say_count(faults, dlci, ": not all that its file gave was sent", count);
 }
 
 /// Says what came of a file beside a connection of this line.

@@ -1,5 +1,6 @@
 //! A line with a relay before the driver.
 ghost use Rattle.std.specs.Prelude.{◌≡◌, MatchResult};
+ghost use Rattle.std.specs.Borrow.{Lends, sem};
 ghost use Rattle.modem_data_line.specs.DataLines.{new_data_line};
 
 use modem_data::Relay;
@@ -53,6 +54,8 @@ impl<L: SerialLine> Model for DataLine<L> {
 }
 
 impl<L: SerialLine> DataLine<L> {
+    ghost use Rattle.modem_data_line.specs.contracts.data_line.DataLine.{the_row};
+
     /// This line and this relay, between which nothing has passed. Where memory is refused it hands both back.
     pub fn new(alloc: Global, line: L, relay: Relay) -> Result<DataLine<L>, (L, Relay)>
         ensures { MatchResult result (λ l. l ≡ new_data_line line relay) (λ back. (back.0 ≡ line) × (back.1 ≡ relay)) }
@@ -73,6 +76,23 @@ impl<L: SerialLine> DataLine<L> {
             empty_reads: 0,
             stalled_writes: 0,
         })
+    }
+
+    /// The line itself.
+    pub fn line(&self) -> &L
+        ensures { result.now ≡ self.now.line }
+    {
+        &self.line
+    }
+
+    /// Lends the line itself. What passed between it and the relay still fits afterwards, if the octets that it gave and took stay as they
+    /// were.
+    pub fn line_mut(&mut self) -> &mut L
+        ensures value { result.now ≡ self.old.line }
+        ensures* lent { sem 𝓛
+            (Lends (the_row L.row L.SerialLine) L.row self.entry result (λ l. record self.old { line = l })) }
+    {
+        &mut self.line
     }
 
     /// The line itself and the relay, which keeps the octets that wait there for the line or the driver.

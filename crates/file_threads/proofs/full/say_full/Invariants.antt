@@ -1,7 +1,7 @@
 -- It was said of those so far.
 use Rattle.std.specs.Prelude.{◌≤◌, ◌-◌, length}
-use Rattle.ctl_drive.specs.DataDevice.{SaysFull}
-use Rattle.ctl_drive.proofs.starting_files.say_full.Given as goal
+use Rattle.file_threads.specs.FileEnds.{SaysFull}
+use Rattle.file_threads.proofs.full.say_full.Given as goal
 
 abbrev pub invariant-loop-place : goal.invariant-loop-place
 invariant-loop-place g l = record {
