@@ -1,6 +1,5 @@
 -- The texts of the commands (27.007, 5.7, 7.2, 7.3, 8.3, 8.5, 9.1, 10.1.1, 10.1.9).
-use Rattle.std.specs.Prelude.{◌≡◌, ℕ, Bool, true, false, List, ◌++◌, length, take, drop, map, Option, Some, None, Result, Ok, Err, MatchOption, MatchResult, if◌then◌else◌, codes}
-use Rattle.std.specs.Char.{to_ascii_lowercase}
+use Rattle.std.specs.Prelude.{◌≡◌, ℕ, ◌+◌, ◌==◌, ◌||◌, Bool, true, false, List, [], ◌∷◌, ◌++◌, take, drop, Option, Some, None, Result, Ok, Err, MatchOption, MatchResult, if◌then◌else◌, codes}
 use Rattle.at_cmds.specs.declared.command.Command.{Command}
 use Rattle.at_cmds.specs.declared.command.Command.TheVariants.{PinQuery, PinEnter, RegReport, RegQuery, Signal, OperQuery, OperChoose, ContextSet, ContextQuery, AttachSet, AttachQuery, ErrorMode, Multiplex}
 use Rattle.at_cmds.specs.declared.command.OperChoice.TheVariants.{Automatic, Deregister, Manual}
@@ -8,7 +7,7 @@ use Rattle.at_cmds.specs.declared.command.Pdp.{Pdp}
 use Rattle.at_cmds.specs.declared.command.Pdp.TheVariants.{Ip, Ipv6, Ipv4v6}
 use Rattle.at_cmds.specs.declared.error.CmdError.{CmdError}
 use Rattle.at_cmds.specs.declared.error.CmdError.TheVariants.{BadPin, BadApn, BadNumber, NoMemory}
-use Rattle.at_cmds.specs.Forms.{numeral, in_quotes, is_pin, is_oper, is_apn, is_cid, is_mode}
+use Rattle.at_cmds.specs.Forms.{lowered, numeral, in_quotes, is_pin, is_oper, is_apn, is_cid, is_mode}
 
 -- the name of a kind of addresses
 abbrev pub pdp_text : Pdp → List ℕ
@@ -21,24 +20,35 @@ abbrev pub context_text : ℕ → Pdp → List ℕ → List ℕ
 context_text cid pdp apn =
     codes "AT+CGDCONT=" ++ numeral cid ++ codes "," ++ in_quotes (pdp_text pdp) ++ codes "," ++ in_quotes apn
 
+-- the text of a command whose text is fixed; none of another
+abbrev pub fixed_text : Command → List ℕ
+fixed_text PinQuery = codes "AT+CPIN?"
+fixed_text RegQuery = codes "AT+CREG?"
+fixed_text Signal = codes "AT+CSQ"
+fixed_text OperQuery = codes "AT+COPS?"
+fixed_text (OperChoose Automatic) = codes "AT+COPS=0"
+fixed_text (OperChoose Deregister) = codes "AT+COPS=2"
+fixed_text ContextQuery = codes "AT+CGDCONT?"
+fixed_text (AttachSet true) = codes "AT+CGATT=1"
+fixed_text (AttachSet false) = codes "AT+CGATT=0"
+fixed_text AttachQuery = codes "AT+CGATT?"
+fixed_text Multiplex = codes "AT+CMUX=0"
+fixed_text _ = []
+
+-- the commands whose text is fixed
+abbrev pub fixed_commands : List Command
+fixed_commands =
+    PinQuery ∷ RegQuery ∷ Signal ∷ OperQuery ∷ OperChoose Automatic ∷ OperChoose Deregister
+    ∷ ContextQuery ∷ AttachSet true ∷ AttachSet false ∷ AttachQuery ∷ Multiplex ∷ []
+
 -- the text of a command
 abbrev pub text_of : Command → List ℕ
-text_of PinQuery = codes "AT+CPIN?"
 text_of (PinEnter pin) = codes "AT+CPIN=" ++ in_quotes pin
 text_of (RegReport n) = codes "AT+CREG=" ++ numeral n
-text_of RegQuery = codes "AT+CREG?"
-text_of Signal = codes "AT+CSQ"
-text_of OperQuery = codes "AT+COPS?"
-text_of (OperChoose Automatic) = codes "AT+COPS=0"
-text_of (OperChoose Deregister) = codes "AT+COPS=2"
 text_of (OperChoose (Manual oper)) = codes "AT+COPS=1,2," ++ in_quotes oper
 text_of (ContextSet cid pdp apn) = context_text cid pdp apn
-text_of ContextQuery = codes "AT+CGDCONT?"
-text_of (AttachSet true) = codes "AT+CGATT=1"
-text_of (AttachSet false) = codes "AT+CGATT=0"
-text_of AttachQuery = codes "AT+CGATT?"
 text_of (ErrorMode n) = codes "AT+CMEE=" ++ numeral n
-text_of Multiplex = codes "AT+CMUX=0"
+text_of c = fixed_text c
 
 -- why a command has no text that may be written: the reason with the lowest number
 abbrev pub refused_for : Command → Option CmdError
@@ -59,57 +69,20 @@ Writes c line =
     (MatchResult line (λ text. text ≡ text_of c) (λ why. why ≡ NoMemory))
     (λ why. line ≡ Err why)
 
--- the names that commands have (27.007, table A.1)
-pub data Name : Type 0 where
-  Cpin : Name
-  Creg : Name
-  Csq : Name
-  Cops : Name
-  Cgdcont : Name
-  Cgatt : Name
-  Cmee : Name
-  Cmux : Name
+-- two texts are equal but for the case of the letters in a beginning of this length
+pub record IsEqualBehind (start : ℕ) (a b : List ℕ) : Type 0 where
+  pub letters : lowered (take start a) ≡ lowered (take start b)
+  pub rest : drop start a ≡ drop start b
 
--- AT and the name, as a text begins
-abbrev pub head : Name → List ℕ
-head Cpin = codes "AT+CPIN"
-head Creg = codes "AT+CREG"
-head Csq = codes "AT+CSQ"
-head Cops = codes "AT+COPS"
-head Cgdcont = codes "AT+CGDCONT"
-head Cgatt = codes "AT+CGATT"
-head Cmee = codes "AT+CMEE"
-head Cmux = codes "AT+CMUX"
-
--- a command's name
-abbrev pub name_of : Command → Name
-name_of PinQuery = Cpin
-name_of (PinEnter pin) = Cpin
-name_of (RegReport n) = Creg
-name_of RegQuery = Creg
-name_of Signal = Csq
-name_of OperQuery = Cops
-name_of (OperChoose choice) = Cops
-name_of (ContextSet cid pdp apn) = Cgdcont
-name_of ContextQuery = Cgdcont
-name_of (AttachSet on) = Cgatt
-name_of AttachQuery = Cgatt
-name_of (ErrorMode n) = Cmee
-name_of Multiplex = Cmux
-
--- what stands behind the name in a command's text
-abbrev pub value_of : Command → List ℕ
-value_of c = drop (length (head (name_of c))) (text_of c)
-
--- a text begins with these letters, in either case
-abbrev pub HasHead : List ℕ → List ℕ → Type 0
-HasHead start text = map to_ascii_lowercase (take (length start) text) ≡ map to_ascii_lowercase start
+-- where AT and the name end in a text: before an equals sign or a question mark (V.250, 5.4.2)
+abbrev pub name_end : List ℕ → ℕ
+name_end [] = 0
+name_end (c ∷ text) = if c == 61 || c == 63 then 0 else name_end text + 1
 
 -- a text is that of a command that may be written, but for the case of the letters of AT and of the name
 pub record IsTextOf (text : List ℕ) (c : Command) : Type 0 where
   pub written : refused_for c ≡ None
-  pub begins : HasHead (head (name_of c)) text
-  pub value : drop (length (head (name_of c))) text ≡ value_of c
+  pub equal : IsEqualBehind (name_end (text_of c)) text (text_of c)
 
 -- the only command of which something holds
 pub record IsOnly (Holds : Command → Type 0) (c : Command) : Type 0 where
@@ -134,8 +107,3 @@ abbrev pub Reads : (Command → Type 0) → Result (Option Command) CmdError →
 Reads Holds (Ok None) = (c : Command) → ¬ Holds c
 Reads Holds (Ok (Some c)) = IsOnly Holds c
 Reads Holds (Err why) = (why ≡ NoMemory) × (c : Command) × IsUnread Holds c
-
--- two texts are equal but for the case of the letters in a beginning of this length
-pub record IsEqualBehind (start : ℕ) (a b : List ℕ) : Type 0 where
-  pub letters : map to_ascii_lowercase (take start a) ≡ map to_ascii_lowercase (take start b)
-  pub rest : drop start a ≡ drop start b

@@ -1,8 +1,18 @@
 -- Forms of values in commands (27.007, 7.2, 7.3, 8.3, 9.1, 10.1.1; V.250, 5.4.2).
-use Rattle.std.specs.Prelude.{ℕ, ◌+◌, ◌-◌, ◌*◌, ◌/◌, ◌%◌, ◌==◌, ◌&&◌, ◌||◌, not, nat_lt, nat_le, Bool, List, [], ◌∷◌, ◌++◌, length, Option, Some, None, if◌then◌else◌}
+use Rattle.std.specs.Prelude.{ℕ, ◌+◌, ◌-◌, ◌*◌, ◌/◌, ◌%◌, ◌==◌, ◌&&◌, ◌||◌, not, nat_lt, nat_le, Bool, List, [], ◌∷◌, ◌++◌, length, map, Option, Some, None, if◌then◌else◌}
 use Rattle.std.specs.List.{list_all}
-use Rattle.std.specs.Char.{is_ascii_alphanumeric}
+use Rattle.std.specs.Char.{is_ascii_alphanumeric, to_ascii_lowercase}
+use Rattle.std.specs.Str.{bytes_eq}
 use Rattle.at_text.specs.Octets.{is_digit}
+use Rattle.at_cmds.specs.Params.{◌>>=◌}
+
+-- letters in lower case
+abbrev pub lowered : List ℕ → List ℕ
+lowered text = map to_ascii_lowercase text
+
+-- two texts are the same, but for the case of letters
+abbrev pub is_same : List ℕ → List ℕ → Bool
+is_same one other = bytes_eq (lowered one) (lowered other)
 
 -- the decimal numeral of a number below 100, without leading zeros
 abbrev pub numeral : ℕ → List ℕ
@@ -42,6 +52,12 @@ is_apn text = is_run is_in_apn 1 63 text
 -- a context's number: 1 to 15
 abbrev pub is_cid : ℕ → Bool
 is_cid n = nat_le 1 n && nat_le n 15
+
+-- the number of a context without leading zeros
+abbrev pub cid_in : List ℕ → Option ℕ
+cid_in text = do
+  n ← numeral_in text
+  if is_cid n then Some n else None
 
 -- a mode of reports: 0 to 2
 abbrev pub is_mode : ℕ → Bool

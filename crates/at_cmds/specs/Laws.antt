@@ -1,9 +1,9 @@
 -- Laws of the commands' texts.
-use Rattle.std.specs.Prelude.{◌≡◌, ℕ, List, length, Option, Some, Result, Ok, MatchResult}
+use Rattle.std.specs.Prelude.{◌≡◌, ℕ, List, Option, Some, Result, Ok, MatchResult}
 use Rattle.at_cmds.specs.declared.command.Command.{Command}
 use Rattle.at_cmds.specs.declared.error.CmdError.{CmdError}
 use Rattle.at_cmds.specs.declared.error.CmdError.TheVariants.{NoMemory}
-use Rattle.at_cmds.specs.Commands.{head, name_of, Writes, IsTextOf, Reads, IsEqualBehind}
+use Rattle.at_cmds.specs.Commands.{text_of, name_end, Writes, IsTextOf, Reads, IsEqualBehind}
 
 -- what was written is read as what it was written from
 abbrev pub WrittenIsRead : Command → List ℕ → Result (Option Command) CmdError → Type 0
@@ -15,7 +15,7 @@ WrittenIsRead c line read =
 abbrev pub ReadIsWritten : Command → List ℕ → Result (List ℕ) CmdError → Type 0
 ReadIsWritten c text line =
     Reads (IsTextOf text) (Ok (Some c)) → Writes c line
-    → MatchResult line (λ written. IsEqualBehind (length (head (name_of c))) text written)
+    → MatchResult line (λ written. IsEqualBehind (name_end (text_of c)) text written)
     (λ why. why ≡ NoMemory)
 
 -- a text is that of one command at most

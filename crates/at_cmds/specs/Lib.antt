@@ -3,6 +3,7 @@ pub mod Params
 pub mod Registrations
 pub mod Statuses
 pub mod Forms
+pub mod CommandLines
 pub mod Commands
 pub mod Values
 pub mod Laws

@@ -1,11 +1,9 @@
 //! Commands and their texts.
 ghost use Rattle.std.specs.Prelude.{◌≡◌};
+ghost use Rattle.at_cmds.specs.Values.{fixed_in};
 
 use crate::error::CmdError;
-use crate::reading::{
-    after_head, attach_command, context_command, error_mode_command, multiplex_command,
-    oper_command, pin_command, reg_command, signal_command,
-};
+use crate::reading::set_command;
 use crate::texts::{Apn, OperNumber, Pin};
 use crate::writing::{context_line, fixed_line, mode_line, oper_line, pin_line};
 use at_text::CommandLine;
@@ -97,39 +95,49 @@ impl fmt::Display for Pdp {
 }
 
 impl Command {
-    ghost use Rattle.at_cmds.specs.Commands.{Writes, IsTextOf, Reads};
+    ghost use Rattle.at_cmds.specs.Commands.{fixed_text, Writes, IsTextOf, Reads};
+    ghost use Rattle.at_cmds.specs.Forms.{is_same};
+    ghost use Rattle.at_cmds.specs.Values.{Gives, command_of};
+
+    /// The text of a command whose text is fixed, and nothing of another.
+    fn fixed_text(&self) -> &'static str
+        ensures { result.now ≡ fixed_text self.now }
+    {
+        match self {
+            Command::PinQuery => "AT+CPIN?",
+            Command::RegQuery => "AT+CREG?",
+            Command::Signal => "AT+CSQ",
+            Command::OperQuery => "AT+COPS?",
+            Command::OperChoose(OperChoice::Automatic) => "AT+COPS=0",
+            Command::OperChoose(OperChoice::Deregister) => "AT+COPS=2",
+            Command::ContextQuery => "AT+CGDCONT?",
+            Command::AttachSet(true) => "AT+CGATT=1",
+            Command::AttachSet(false) => "AT+CGATT=0",
+            Command::AttachQuery => "AT+CGATT?",
+            Command::Multiplex => "AT+CMUX=0",
+            _ => "",
+        }
+    }
+
+    /// Whether this is its fixed text, with letters in either case.
+    fn has_fixed_text(&self, text: &[u8]) -> bool
+        ensures { result ≡ is_same text.now (fixed_text self.now) }
+    {
+        text.eq_ignore_ascii_case(self.fixed_text().as_bytes())
+    }
 
     /// The command whose text this is; `None` where no command has this text. The letters of `AT` and of the name may be in
     /// either case. What follows the name has to be the same octet by octet. Refused only with 4 NoMemory, and only for a
     /// command that holds a text: PinEnter, ContextSet, or OperChoose with an operator's number.
+    #[tactic(auto, using(crate::proofs::command_texts::ReadCommands::reads, crate::proofs::command_texts::ReadCommands::gives_set))]
     pub fn read(alloc: Global, text: &[u8]) -> Result<Option<Command>, CmdError>
-        ensures { Reads (IsTextOf text.now) result }
+        ensures reads { Reads (IsTextOf text.now) result }
+        ensures gives { Gives result (command_of text.now) }
     {
-        if let Some(value) = after_head(text, b"AT+CPIN") {
-            return pin_command(alloc, value);
+        if let Some(command) = fixed_command(text) {
+            return Ok(Some(command));
         }
-        if let Some(value) = after_head(text, b"AT+CREG") {
-            return Ok(reg_command(value));
-        }
-        if let Some(value) = after_head(text, b"AT+CSQ") {
-            return Ok(signal_command(value));
-        }
-        if let Some(value) = after_head(text, b"AT+COPS") {
-            return oper_command(alloc, value);
-        }
-        if let Some(value) = after_head(text, b"AT+CGDCONT") {
-            return context_command(alloc, value);
-        }
-        if let Some(value) = after_head(text, b"AT+CGATT") {
-            return Ok(attach_command(value));
-        }
-        if let Some(value) = after_head(text, b"AT+CMEE") {
-            return Ok(error_mode_command(value));
-        }
-        if let Some(value) = after_head(text, b"AT+CMUX") {
-            return Ok(multiplex_command(value));
-        }
-        Ok(None)
+        set_command(alloc, text)
     }
 
     /// The command line of this command. Refused, in this order, with 1 BadPin, 2 BadApn, 3 BadNumber or 4 NoMemory.
@@ -137,14 +145,8 @@ impl Command {
         ensures { Writes self.now result }
     {
         match self {
-            Command::PinQuery => fixed_line(alloc, b"AT+CPIN?"),
             Command::PinEnter(pin) => pin_line(alloc, pin.as_slice()),
             Command::RegReport(n) => mode_line(alloc, b"AT+CREG=", *n),
-            Command::RegQuery => fixed_line(alloc, b"AT+CREG?"),
-            Command::Signal => fixed_line(alloc, b"AT+CSQ"),
-            Command::OperQuery => fixed_line(alloc, b"AT+COPS?"),
-            Command::OperChoose(OperChoice::Automatic) => fixed_line(alloc, b"AT+COPS=0"),
-            Command::OperChoose(OperChoice::Deregister) => fixed_line(alloc, b"AT+COPS=2"),
             Command::OperChoose(OperChoice::Manual(oper)) => oper_line(alloc, oper.as_slice()),
             Command::ContextSet { cid, pdp, apn } => context_line(
                 alloc,
@@ -152,12 +154,33 @@ impl Command {
                 *pdp,
                 apn.as_slice(),
             ),
-            Command::ContextQuery => fixed_line(alloc, b"AT+CGDCONT?"),
-            Command::AttachSet(false) => fixed_line(alloc, b"AT+CGATT=0"),
-            Command::AttachSet(true) => fixed_line(alloc, b"AT+CGATT=1"),
-            Command::AttachQuery => fixed_line(alloc, b"AT+CGATT?"),
             Command::ErrorMode(n) => mode_line(alloc, b"AT+CMEE=", *n),
-            Command::Multiplex => fixed_line(alloc, b"AT+CMUX=0"),
+            _ => fixed_line(alloc, self.fixed_text().as_bytes()),
         }
     }
+}
+
+/// The command among those whose text is fixed that a text is, its letters in either case.
+fn fixed_command(text: &[u8]) -> Option<Command>
+    ensures { result ≡ fixed_in text.now }
+{
+    let commands = [
+        Command::PinQuery,
+        Command::RegQuery,
+        Command::Signal,
+        Command::OperQuery,
+        Command::OperChoose(OperChoice::Automatic),
+        Command::OperChoose(OperChoice::Deregister),
+        Command::ContextQuery,
+        Command::AttachSet(true),
+        Command::AttachSet(false),
+        Command::AttachQuery,
+        Command::Multiplex,
+    ];
+    for command in commands {
+        if command.has_fixed_text(text) {
+            return Some(command);
+        }
+    }
+    None
 }

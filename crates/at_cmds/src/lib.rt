@@ -3,7 +3,8 @@
 //!
 //! # Layout
 //!
-//! - `command`, `writing`, `texts`: commands as lines. `reading`: lines as commands.
+//! - `command`: commands, and the table of those whose text is fixed. `writing`, `reading`, `texts`: commands with values.
+//! - `command_lines`: the commands of one line. `forms`: the forms of values.
 //! - `reply`, `answers`, `registration`, `cells`, `cme`: replies. `params`, `values`: their parameters.
 //! - `error`, `laws`.
 #![tactic(auto)]
@@ -12,7 +13,9 @@ mod answers;
 mod cells;
 mod cme;
 mod command;
+mod command_lines;
 mod error;
+pub mod forms;
 pub mod laws;
 mod params;
 mod reading;
@@ -24,6 +27,7 @@ mod writing;
 
 pub use cme::cme_text;
 pub use command::{Command, OperChoice, Pdp};
+pub use command_lines::{begins_with_at, commands_in, is_letter_a, is_letter_t};
 pub use error::{CmdError, ReplyFault};
 pub use registration::{Registration, RegistrationStatus};
 pub use reply::{Context, Contexts, NamedOper, PinState, Reply};

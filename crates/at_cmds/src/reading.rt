@@ -1,23 +1,19 @@
-//! Reads the values behind the names of commands.
-ghost use Rattle.std.specs.Prelude.{◌≡◌, length, map, drop, option_map, MatchOption};
-ghost use Rattle.at_cmds.specs.Params.{parameters, unquoted};
-ghost use Rattle.at_cmds.specs.Forms.{numeral_in};
-ghost use Rattle.at_cmds.specs.Commands.{HasHead, Cpin, Creg, Csq, Cops, Cgdcont, Cgatt, Cmee, Cmux};
-ghost use Rattle.at_cmds.specs.Values.{Gives, command_in, after_equals, pin_in, mode_in, oper_in, pdp_in, context_value, context_set_in};
+//! Reads commands that set values.
+ghost use Rattle.std.specs.Prelude.{◌≡◌, length, drop, option_map, MatchOption};
+ghost use Rattle.at_cmds.specs.Params.{parameters};
+ghost use Rattle.at_cmds.specs.Values.{Gives, HasHead, Cpin, Creg, Cops, Cgdcont, Cmee, command_in, set_in, after_equals, pin_in, mode_in, oper_in, pdp_in, context_value, context_set_in};
 
 use crate::command::{Command, OperChoice, Pdp};
 use crate::error::CmdError;
+use crate::forms::{cid_in, is_pin, numeral_in};
 use crate::params::first_param;
 use crate::texts::{Apn, OperNumber, Pin};
 use crate::values::unquoted;
-use crate::writing::{is_apn, is_oper, is_pin};
+use crate::writing::{is_apn, is_oper};
 use std::alloc::Global;
 
-/// The value of a command that queries.
-const QUERY: &[u8] = b"?";
-
 /// What follows this beginning of a text, with its letters in either case, if the text has it.
-pub(crate) fn after_head<'a>(text: &'a [u8], head: &[u8]) -> Option<&'a [u8]>
+fn after_head<'a>(text: &'a [u8], head: &[u8]) -> Option<&'a [u8]>
     ensures { MatchOption result (¬ HasHead head.now text.now)
         (λ value. HasHead head.now text.now × (value.now ≡ drop (length head.now) text.now)) }
 {
@@ -28,13 +24,33 @@ pub(crate) fn after_head<'a>(text: &'a [u8], head: &[u8]) -> Option<&'a [u8]>
     Some(value)
 }
 
+/// The command that a text sets values by.
+#[tactic(auto, using(crate::proofs::command_texts::ReadCommands::set_none))]
+pub(crate) fn set_command(alloc: Global, text: &[u8]) -> Result<Option<Command>, CmdError>
+    ensures { Gives result (set_in text.now) }
+{
+    if let Some(value) = after_head(text, b"AT+CPIN") {
+        return pin_command(alloc, value);
+    }
+    if let Some(value) = after_head(text, b"AT+CREG") {
+        return Ok(reg_command(value));
+    }
+    if let Some(value) = after_head(text, b"AT+COPS") {
+        return oper_command(alloc, value);
+    }
+    if let Some(value) = after_head(text, b"AT+CGDCONT") {
+        return context_command(alloc, value);
+    }
+    if let Some(value) = after_head(text, b"AT+CMEE") {
+        return Ok(error_mode_command(value));
+    }
+    Ok(None)
+}
+
 #[tactic(auto, unfolding(crate::specs::Values::command_in))]
-pub(crate) fn pin_command(alloc: Global, value: &[u8]) -> Result<Option<Command>, CmdError>
+fn pin_command(alloc: Global, value: &[u8]) -> Result<Option<Command>, CmdError>
     ensures { Gives result (command_in Cpin value.now) }
 {
-    if value == QUERY {
-        return Ok(Some(Command::PinQuery));
-    }
     let Some(pin) = pin_in(value) else {
         return Ok(None);
     };
@@ -43,34 +59,16 @@ pub(crate) fn pin_command(alloc: Global, value: &[u8]) -> Result<Option<Command>
 }
 
 #[tactic(auto, unfolding(crate::specs::Values::command_in))]
-pub(crate) fn reg_command(value: &[u8]) -> Option<Command>
+fn reg_command(value: &[u8]) -> Option<Command>
     ensures { result ≡ command_in Creg value.now }
 {
-    if value == QUERY {
-        return Some(Command::RegQuery);
-    }
     Some(Command::RegReport(mode_in(value)?))
 }
 
 #[tactic(auto, unfolding(crate::specs::Values::command_in))]
-pub(crate) fn signal_command(value: &[u8]) -> Option<Command>
-    ensures { result ≡ command_in Csq value.now }
-{
-    value.is_empty().then_some(Command::Signal)
-}
-
-#[tactic(auto, unfolding(crate::specs::Values::command_in))]
-pub(crate) fn oper_command(alloc: Global, value: &[u8]) -> Result<Option<Command>, CmdError>
+fn oper_command(alloc: Global, value: &[u8]) -> Result<Option<Command>, CmdError>
     ensures { Gives result (command_in Cops value.now) }
 {
-    if value == QUERY {
-        return Ok(Some(Command::OperQuery));
-    }
-    match value {
-        b"=0" => return Ok(Some(Command::OperChoose(OperChoice::Automatic))),
-        b"=2" => return Ok(Some(Command::OperChoose(OperChoice::Deregister))),
-        _ => {}
-    }
     let Some(oper) = oper_in(value) else {
         return Ok(None);
     };
@@ -79,12 +77,9 @@ pub(crate) fn oper_command(alloc: Global, value: &[u8]) -> Result<Option<Command
 }
 
 #[tactic(auto, unfolding(crate::specs::Values::command_in))]
-pub(crate) fn context_command(alloc: Global, value: &[u8]) -> Result<Option<Command>, CmdError>
+fn context_command(alloc: Global, value: &[u8]) -> Result<Option<Command>, CmdError>
     ensures { Gives result (command_in Cgdcont value.now) }
 {
-    if value == QUERY {
-        return Ok(Some(Command::ContextQuery));
-    }
     let Some((cid, pdp, apn)) = context_set_in(value) else {
         return Ok(None);
     };
@@ -93,32 +88,10 @@ pub(crate) fn context_command(alloc: Global, value: &[u8]) -> Result<Option<Comm
 }
 
 #[tactic(auto, unfolding(crate::specs::Values::command_in))]
-pub(crate) fn attach_command(value: &[u8]) -> Option<Command>
-    ensures { result ≡ command_in Cgatt value.now }
-{
-    match value {
-        b"?" => Some(Command::AttachQuery),
-        b"=0" => Some(Command::AttachSet(false)),
-        b"=1" => Some(Command::AttachSet(true)),
-        _ => None,
-    }
-}
-
-#[tactic(auto, unfolding(crate::specs::Values::command_in))]
-pub(crate) fn error_mode_command(value: &[u8]) -> Option<Command>
+fn error_mode_command(value: &[u8]) -> Option<Command>
     ensures { result ≡ command_in Cmee value.now }
 {
     Some(Command::ErrorMode(mode_in(value)?))
-}
-
-#[tactic(auto, unfolding(crate::specs::Values::command_in))]
-pub(crate) fn multiplex_command(value: &[u8]) -> Option<Command>
-    ensures { result ≡ command_in Cmux value.now }
-{
-    match value {
-        b"=0" => Some(Command::Multiplex),
-        _ => None,
-    }
 }
 
 /// A text behind an equals sign.
@@ -127,20 +100,6 @@ fn after_equals(value: &[u8]) -> Option<&[u8]>
 {
     match value {
         [b'=', text @ ..] => Some(text),
-        _ => None,
-    }
-}
-
-/// The number that a numeral without leading zeros stands for, below 100.
-#[tactic(auto, unfolding(crate::specs::Forms::numeral_in))]
-fn numeral_in(text: &[u8]) -> Option<u8>
-    ensures { result ≡ numeral_in text.now }
-{
-    match text {
-        [low] if low.is_ascii_digit() => Some(low - b'0'),
-        [high, low] if *high != b'0' && high.is_ascii_digit() && low.is_ascii_digit() => {
-            Some((high - b'0') * 10 + (low - b'0'))
-        }
         _ => None,
     }
 }
@@ -211,10 +170,10 @@ fn context_in(text: &[u8]) -> Option<(u8, Pdp, &[u8])>
     let None = rest else {
         return None;
     };
-    let cid = numeral_in(cid)?;
+    let cid = cid_in(cid)?;
     let pdp = pdp_in(unquoted(pdp)?)?;
     let apn = unquoted(apn)?;
-    if cid < 1 || cid > 15 || !is_apn(apn) {
+    if !is_apn(apn) {
         return None;
     }
     Some((cid, pdp, apn))

@@ -176,13 +176,7 @@ impl Reply {
             Command::OperQuery => oper_reply(alloc, lines),
             Command::AttachQuery => attach_reply(lines),
             Command::ContextQuery => contexts_reply(alloc, lines),
-            Command::PinEnter(_)
-            | Command::RegReport(_)
-            | Command::OperChoose(_)
-            | Command::ContextSet { .. }
-            | Command::AttachSet(_)
-            | Command::ErrorMode(_)
-            | Command::Multiplex => Ok(Reply::Accepted),
+            _ => Ok(Reply::Accepted),
         }
     }
 }

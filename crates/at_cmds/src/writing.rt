@@ -7,6 +7,7 @@ ghost use Rattle.at_cmds.specs.Commands.{pdp_text, context_text};
 
 use crate::command::Pdp;
 use crate::error::CmdError;
+use crate::forms::{is_pin, push_quoted};
 use at_text::CommandLine;
 use at_text::octets::all_digits;
 use std::alloc::{AllocError, Global};
@@ -101,15 +102,6 @@ fn quoted_line(alloc: Global, head: &[u8], text: &[u8]) -> Result<CommandLine, C
     fixed_line(alloc, &line)
 }
 
-fn push_quoted(line: &mut Vec<u8>, text: &[u8]) -> Result<(), AllocError>
-    ensures { OnOk result (line.new.items ≡ line.old.items ++ in_quotes text.now) }
-{
-    line.push(b'"')?;
-    line.extend_from_slice(text)?;
-    line.push(b'"')?;
-    Ok(())
-}
-
 fn push_number(line: &mut Vec<u8>, n: u8) -> Result<(), AllocError>
     requires { n < 100 }
     ensures { OnOk result (line.new.items ≡ line.old.items ++ numeral n) }
@@ -119,12 +111,6 @@ fn push_number(line: &mut Vec<u8>, n: u8) -> Result<(), AllocError>
     }
     line.push(b'0' + n % 10)?;
     Ok(())
-}
-
-pub(crate) fn is_pin(text: &[u8]) -> bool
-    ensures { result ≡ is_pin text.now }
-{
-    all_digits(text) && text.len() >= 4 && text.len() <= 8
 }
 
 pub(crate) fn is_oper(text: &[u8]) -> bool

@@ -2,8 +2,8 @@
 use Rattle.std.specs.Prelude.{ℕ, ◌+◌, ◌-◌, ◌*◌, ◌==◌, ◌&&◌, nat_lt, nat_le, Bool, true, false, List, [], ◌∷◌, take, drop, fold, Option, Some, None, if◌then◌else◌, codes}
 use Rattle.std.specs.Str.{bytes_eq}
 use Rattle.at_text.specs.Octets.{is_comma, is_digit}
-use Rattle.modem_sim.specs.CommandLines.{commands_in}
-use Rattle.modem_sim.specs.Reading.{lowered}
+use Rattle.at_cmds.specs.CommandLines.{commands_in}
+use Rattle.at_cmds.specs.Forms.{lowered}
 use Rattle.modem_sim.specs.LineSteps.{is_too_long}
 use Rattle.mux_frame.specs.declared.n1.N1.{N1}
 

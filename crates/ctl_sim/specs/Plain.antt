@@ -1,7 +1,7 @@
 -- A modem at plain command lines, before the multiplexer (V.250, 5; 27.007, 5.7).
 use Rattle.std.specs.Prelude.{ℕ, ◌&&◌, Bool, true, false, List, [], ◌∷◌, ◌++◌, fold, Option, Some, None, if◌then◌else◌, codes}
 use Rattle.at_text.specs.Lines.{cut, is_line_end}
-use Rattle.modem_sim.specs.CommandLines.{begins_with_at, is_letter_a, is_letter_t}
+use Rattle.at_cmds.specs.CommandLines.{begins_with_at, is_letter_a, is_letter_t}
 use Rattle.modem_sim.specs.declared.state.ModemState.{ModemState}
 use Rattle.modem_sim.specs.Pieces.{framed, pieces_octets, reply}
 use Rattle.modem_sim.specs.LineSteps.{echoes, step}

@@ -2,7 +2,7 @@
 ghost use Rattle.std.specs.Prelude.{◌≡◌, ◌≤◌, option_map, IfOk};
 ghost use Rattle.ctl_sim.specs.Entry.{Read, digit_read, entered_by, entered_with, entering, is_basic, is_between, is_good, mux_entry, n1_of, none_read, number_so_far, octets_of, parameter_ended, parameter_octet};
 
-use modem_sim::commands_in;
+use at_cmds::commands_in;
 use mux_frame::N1;
 use std::alloc::{AllocError, Global};
 use std::marker::Model;

@@ -2,12 +2,12 @@
 ghost use Rattle.std.specs.Prelude.{◌≡◌, ◌≤◌, ◌<◌, ◌++◌, ◌∷◌, [], None, length, take, option_map, IfOk, OnOk};
 ghost use Rattle.at_text.specs.Lines.{cut, is_line_end};
 ghost use Rattle.ctl_sim.specs.Plain.{ended_by, entered_by_ended, from_at, may_begin, modem_by, modem_by_ended, plain_after, plain_begun, plain_octet, repeated_as, run_by, said_entering, said_to, said_to_ended};
-ghost use Rattle.modem_sim.specs.CommandLines.{is_letter_a, is_letter_t};
 ghost use Rattle.modem_sim.specs.Pieces.{framed};
 ghost use Rattle.ctl_sim.specs.Entry.{mux_entry, octets_of};
 
 use crate::entry::mux_entry;
-use modem_sim::{Modem, begins_with_at, reply};
+use at_cmds::{begins_with_at, is_letter_a, is_letter_t};
+use modem_sim::{Modem, reply};
 use mux_frame::N1;
 use std::alloc::{AllocError, Global};
 use std::marker::Model;
@@ -44,20 +44,6 @@ impl Model for PlainMode {
       entered = option_map octets_of p.entered;
       behind = [];
     } };
-}
-
-/// Whether it is an A.
-fn is_letter_a(octet: u8) -> bool
-    ensures { result ≡ is_letter_a octet }
-{
-    octet == b'A' || octet == b'a'
-}
-
-/// Whether it is a T.
-fn is_letter_t(octet: u8) -> bool
-    ensures { result ≡ is_letter_t octet }
-{
-    octet == b'T' || octet == b't'
 }
 
 /// Whether octets begin with `AT`, its letters in either case, or may with octets behind them.

@@ -2,9 +2,6 @@
 ghost use Rattle.std.specs.Prelude.{◌≡◌, ◌≢◌, ◌≤◌, ◌<◌, [], true, false, length, take, None, Some, Err, if◌then◌else◌, IfErr, IfOk, IsOk, MatchResult, OnErr, OnOk};
 ghost use Rattle.std.specs.Result.{result_err};
 ghost use Rattle.std.specs.Io.KnownBytes.{Consumes, IsAtEnd};
-ghost use Rattle.std.specs.List.{list_all};
-ghost use Rattle.at_text.specs.Octets.{is_digit};
-ghost use Rattle.at_cmds.specs.Forms.{is_pin};
 ghost use Rattle.ctl_text.specs.Writing.{IsBegun};
 ghost use Rattle.ctl_sim.specs.Leaving.{EndsFor, IsLeftAt, IsOfReader, IsServedInPart, LeftSoFar, SaysBad};
 ghost use Rattle.ctl_sim.specs.Saying.{fault_line, option_line};
@@ -21,6 +18,7 @@ use crate::server::{Answering, Mode, Setup};
 use crate::watching::{Nobody, Recorder, Watcher};
 use crate::writing::put;
 use at_cmds::Pin;
+use at_cmds::forms::is_pin;
 use ctl_text::say_line;
 use modem_sim::{Modem, ModemStart, OwnAnswers, Steps};
 use mux_capture::Capture;
@@ -136,20 +134,6 @@ fn has_bad_pin(pin: &Option<Pin>) -> bool
         Some(pin) => !is_pin(pin.as_slice()),
         None => false,
     }
-}
-
-/// Whether all are digits.
-fn all_digits(text: &[u8]) -> bool
-    ensures { result ≡ list_all is_digit text.now }
-{
-    text.iter().all(|octet| octet.is_ascii_digit())
-}
-
-/// Whether a text is 4 to 8 digits.
-fn is_pin(text: &[u8]) -> bool
-    ensures { result ≡ is_pin text.now }
-{
-    all_digits(text) && text.len() >= 4 && text.len() <= 8
 }
 
 /// Says why it ended, and gives the status.

@@ -1,7 +1,6 @@
 -- What a modem does with one line.
 pub mod Contexts
 pub mod AnswerLines
-pub mod ReadCommands
 pub mod StandardModems
 pub mod LineSteps
 pub mod DecimalNumbers

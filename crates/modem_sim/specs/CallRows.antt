@@ -1,6 +1,5 @@
 -- Worked histories of a simulated modem with a connection in a call: where its script may announce a line then.
-use Rattle.std.specs.Prelude.{◌≡◌, ℕ, true, false, List, [], ◌∷◌, ◌++◌, codes}
-use Rattle.mux_frame.specs.declared.dlci.Dlci.{Dlci}
+use Rattle.std.specs.Prelude.{◌≡◌, true, false, List, [], ◌∷◌, ◌++◌, codes}
 use Rattle.mux_frame.specs.declared.frame.Kind.TheVariants.{Disc, Ua}
 use Rattle.modem_sim.specs.declared.script.StepAct.TheVariants.{Announce, Disconnect}
 use Rattle.modem_sim.specs.Acts.{Act, End, after}

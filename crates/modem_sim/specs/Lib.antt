@@ -1,7 +1,6 @@
 pub mod Contexts
 pub mod Reading
 pub mod OwnAnswers
-pub mod CommandLines
 pub mod Words
 pub mod SettingTexts
 pub mod StateTexts

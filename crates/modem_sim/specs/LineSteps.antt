@@ -10,9 +10,9 @@ use Rattle.modem_sim.specs.declared.state.ModemState.{ModemState}
 use Rattle.modem_sim.specs.declared.state.Words.{Words}
 use Rattle.modem_sim.specs.declared.words.Word.{Word}
 use Rattle.modem_data.specs.Switching.{is_connect}
-use Rattle.modem_sim.specs.CommandLines.{begins_with_at, commands_in}
+use Rattle.at_cmds.specs.CommandLines.{begins_with_at, commands_in}
 use Rattle.modem_sim.specs.OwnAnswers.{due_line, own_lines, said_later, said_now, waits_on}
-use Rattle.modem_sim.specs.Reading.{command_of}
+use Rattle.at_cmds.specs.Values.{command_of}
 use Rattle.modem_sim.specs.Words.{word_of}
 use Rattle.modem_sim.specs.Steps.{lock_error, is_registered, refusal_of, after_refusal, after_command, error_text, line_of, Step, standard_step, told_as, status_text, word_refusal, after_word_refusal, word_told, settled, word_after, word_code}
 

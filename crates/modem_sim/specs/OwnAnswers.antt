@@ -1,17 +1,12 @@
 -- Answers of one's own: which lines each takes, what is said to a line, and when.
 use Rattle.std.specs.Prelude.{ℕ, ◌-◌, ◌==◌, ◌&&◌, nat_le, Bool, List, [], ◌∷◌, length, take, find, Option, option_map, if◌then◌else◌}
 use Rattle.std.specs.List.{flat_map}
-use Rattle.std.specs.Str.{bytes_eq}
 use Rattle.at_text.specs.declared.answer.AnswerLine.{AnswerLine}
 use Rattle.modem_sim.specs.declared.own_answers.OwnAnswer.{OwnAnswer}
 use Rattle.modem_sim.specs.declared.own_answers.OwnLine.{OwnLine}
-use Rattle.modem_sim.specs.Reading.{lowered}
+use Rattle.at_cmds.specs.Forms.{is_same}
 
 -- ## Which answer
-
--- two texts are the same, but for the case of letters
-abbrev pub is_same : List ℕ → List ℕ → Bool
-is_same one other = bytes_eq (lowered one) (lowered other)
 
 -- a line begins with a command
 abbrev pub begins_as : (command line : List ℕ) → Bool

@@ -7,7 +7,7 @@ use Rattle.modem_sim.specs.declared.state.ModemState.{ModemState}
 use Rattle.modem_sim.specs.declared.state.Words.{Words}
 use Rattle.modem_sim.specs.Contexts.{is_active, is_defined}
 use Rattle.modem_sim.specs.Laws.{after_lines}
-use Rattle.modem_sim.specs.Reading.{command_of}
+use Rattle.at_cmds.specs.Values.{command_of}
 use Rattle.modem_sim.specs.declared.words.Word.TheVariants.{Dial}
 use Rattle.modem_sim.specs.OwnAnswers.{due_line, waits_on}
 use Rattle.modem_sim.specs.Steps.{dialled, line_of, started_with_words}

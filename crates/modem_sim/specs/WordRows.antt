@@ -1,6 +1,6 @@
 -- Worked examples of a modem with words, by hand from V.250 and 27.007.
 use Rattle.std.specs.Prelude.{◌≡◌, ℕ, true, false, List, [], ◌∷◌, ◌++◌, map, Some, None, codes}
-use Rattle.modem_sim.specs.CommandLines.{commands_in}
+use Rattle.at_cmds.specs.CommandLines.{commands_in}
 use Rattle.modem_sim.specs.Pieces.{framed, pieces_octets, replies}
 use Rattle.modem_sim.specs.declared.own_answers.OwnAnswer.{OwnAnswer}
 use Rattle.modem_sim.specs.declared.own_answers.OwnLine.{OwnLine}

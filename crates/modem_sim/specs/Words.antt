@@ -1,15 +1,15 @@
 -- The commands of the second table by their texts (V.250, 6.1.1 to 6.1.9, 6.2.4 to 6.2.6, 6.3.1; 27.007, 5.1 to 5.6, 7.2 to 7.4, 8.2, 8.3, 10.1.1, 10.1.10, 10.1.12, 10.1.14, 10.1.20, 10.1.22, 10.2.1.1).
 use Rattle.std.specs.Prelude.{ℕ, ◌-◌, ◌||◌, ◌&&◌, Bool, true, false, List, length, take, drop, Option, Some, None, option_map, if◌then◌else◌, codes}
+use Rattle.std.specs.Option.{option_or}
 use Rattle.std.specs.Str.{bytes_eq}
 use Rattle.at_text.specs.Octets.{is_digit}
 use Rattle.at_cmds.specs.Params.{◌>>=◌}
-use Rattle.at_cmds.specs.Forms.{is_cid, is_pin, is_run, numeral_in}
+use Rattle.at_cmds.specs.Forms.{lowered, cid_in, is_pin, is_run}
 use Rattle.modem_sim.specs.declared.words.Word.{Word}
 use Rattle.modem_sim.specs.declared.words.Word.TheVariants.{Reset, Echo, Usual, Identity, Manufacturer, Product, Revision, Serial, Subscriber, Capabilities, Functionality, FunctionalityQuery, FunctionalityForms, RegForms, Report, ReportQuery, ReportForms, OperFormat, ContextForms, Activate, ActivityQuery, ActivityForms, Addresses, AddressForms, Dial, SetCharset, CharsetQuery, CharsetForms, LockForms, LockQuery, Unlock, Forms, ErrorsQuery, MultiplexerQuery}
 use Rattle.modem_sim.specs.declared.words.Charset.TheVariants.{Gsm, Ira}
 use Rattle.modem_sim.specs.declared.words.Form.TheVariants.{Unnamed, Operators, Strength, Errors, Attachment, Multiplexer, DataState}
 use Rattle.modem_sim.specs.declared.words.Domain.TheVariants.{Packet, Evolved}
-use Rattle.modem_sim.specs.Reading.{lowered}
 
 -- commands of one sign, and of an ampersand and one (V.250): Z 6.1.1, &F 6.1.2, I 6.1.3, E 6.2.4, Q 6.2.5, V 6.2.6
 abbrev pub basic_word : List ℕ → Option Word
@@ -64,11 +64,6 @@ report_word t =
     else if bytes_eq t (codes "at+cereg=2") then Some (Report Evolved 2)
     else None
 
--- the first of two
-abbrev pub or_else : Option Word → Option Word → Option Word
-or_else (Some word) other = Some word
-or_else None other = other
-
 -- what stands behind a beginning, where a text has it
 abbrev pub behind : List ℕ → List ℕ → Option (List ℕ)
 behind start text = if bytes_eq (take (length start) text) start then Some (drop (length start) text) else None
@@ -77,12 +72,6 @@ behind start text = if bytes_eq (take (length start) text) start then Some (drop
 abbrev pub before : List ℕ → List ℕ → Option (List ℕ)
 before end text =
     if bytes_eq (drop (length text - length end) text) end then Some (take (length text - length end) text) else None
-
--- the number of a context: 1 to 15, without leading zeros (27.007, 10.1.1)
-abbrev pub cid_in : List ℕ → Option ℕ
-cid_in text = do
-  n ← numeral_in text
-  if is_cid n then Some n else None
 
 -- the number of a context behind this beginning
 abbrev pub cid_behind : List ℕ → List ℕ → Option ℕ
@@ -93,8 +82,8 @@ cid_behind start text = do
 -- commands for one packet context, by its number (27.007, 10.1.10, 10.1.14)
 abbrev pub numbered_word : List ℕ → Option Word
 numbered_word t =
-    or_else (option_map (λ n. Activate false (Some n)) (cid_behind (codes "at+cgact=0,") t))
-    (or_else (option_map (λ n. Activate true (Some n)) (cid_behind (codes "at+cgact=1,") t))
+    option_or (option_map (λ n. Activate false (Some n)) (cid_behind (codes "at+cgact=0,") t))
+    (option_or (option_map (λ n. Activate true (Some n)) (cid_behind (codes "at+cgact=1,") t))
     (option_map (λ n. Addresses (Some n)) (cid_behind (codes "at+cgpaddr=") t)))
 
 -- commands for packet contexts (27.007, 10.1.1, 10.1.10, 10.1.14)
@@ -122,7 +111,7 @@ abbrev pub dial_word : List ℕ → Option Word
 dial_word t =
     if bytes_eq t (codes "atd*99#") then Some (Dial 1)
     else if bytes_eq t (codes "at+cgdata") || bytes_eq t (codes "at+cgdata=\"ppp\"") then Some (Dial 1)
-    else or_else (option_map Dial (cid_called t)) (option_map Dial (cid_behind (codes "at+cgdata=\"ppp\",") t))
+    else option_or (option_map Dial (cid_called t)) (option_map Dial (cid_behind (codes "at+cgdata=\"ppp\",") t))
 
 -- commands for the characters of texts (27.007, 5.5), and for what the SIM's PIN locks (7.4)
 abbrev pub setting_word : List ℕ → Option Word
@@ -172,8 +161,8 @@ unlock_word t = do
 -- the command of the second table that a text is, its letters in either case
 abbrev pub word_in : List ℕ → Option Word
 word_in t =
-    or_else (basic_word t) (or_else (identity_word t) (or_else (phone_word t) (or_else (report_word t)
-    (or_else (context_word t) (or_else (dial_word t) (or_else (setting_word t) (or_else (form_word t) (unlock_word t))))))))
+    option_or (basic_word t) (option_or (identity_word t) (option_or (phone_word t) (option_or (report_word t)
+    (option_or (context_word t) (option_or (dial_word t) (option_or (setting_word t) (option_or (form_word t) (unlock_word t))))))))
 
 -- the command of the second table that a text is, its letters in either case
 unfoldable pub word_of : List ℕ → Option Word

@@ -7,9 +7,10 @@ ghost use Rattle.modem_sim.specs.SettingTexts.{activity_text, address_text, addr
 ghost use Rattle.modem_sim.specs.Steps.{line_of};
 ghost use Rattle.modem_sim.specs.StateTexts.{whole_context_text};
 
-use crate::answers::{context_line, push_line, push_quoted};
+use crate::answers::{context_line, push_line};
 use crate::contexts::{ActiveContexts, PdpContext};
 use at_cmds::Pdp;
+use at_cmds::forms::push_quoted;
 use at_text::AnswerLine;
 use std::alloc::{AllocError, Global};
 

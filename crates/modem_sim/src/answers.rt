@@ -1,11 +1,11 @@
 //! Lines of answers.
 ghost use Rattle.std.specs.Prelude.{◌≡◌, [], ◌∷◌, ◌++◌, map, IfOk, OnOk};
-ghost use Rattle.at_cmds.specs.Forms.{in_quotes};
 ghost use Rattle.modem_sim.specs.Steps.{told_texts, error_text, line_of, good_answer, is_registered};
 ghost use Rattle.modem_sim.specs.StateTexts.{pin_text, cell_text, reg_text, signal_text, oper_text, context_text, attached_text};
 
 use crate::contexts::PdpContext;
 use crate::state::{Lock, ModemState};
+use at_cmds::forms::push_quoted;
 use at_cmds::{Command, OperChoice, cme_text};
 use at_text::{AnswerLine, Text};
 use std::alloc::{AllocError, Global};
@@ -80,13 +80,7 @@ pub(crate) fn push_told(
         Command::OperQuery => push_line(answer, oper_line(alloc, &state.oper)?),
         Command::ContextQuery => push_contexts(alloc, state.contexts.as_slice(), answer),
         Command::AttachQuery => push_line(answer, attached_line(alloc, state.attached)?),
-        Command::PinEnter(_)
-        | Command::RegReport(_)
-        | Command::OperChoose(_)
-        | Command::ContextSet { .. }
-        | Command::AttachSet(_)
-        | Command::ErrorMode(_)
-        | Command::Multiplex => Ok(()),
+        _ => Ok(()),
     }
 }
 
@@ -178,16 +172,6 @@ pub(crate) fn context_line(alloc: Global, context: &PdpContext) -> Result<Vec<u8
     text.push(b',')?;
     push_quoted(&mut text, context.apn.as_slice())?;
     Ok(text)
-}
-
-/// Writes a text between quotes behind other octets.
-pub(crate) fn push_quoted(text: &mut Vec<u8>, inner: &[u8]) -> Result<(), AllocError>
-    ensures { OnOk result (text.new.items ≡ text.old.items ++ in_quotes inner.now) }
-{
-    text.push(b'"')?;
-    text.extend_from_slice(inner)?;
-    text.push(b'"')?;
-    Ok(())
 }
 
 fn attached_line(alloc: Global, attached: bool) -> Result<Vec<u8>, AllocError>

@@ -3,7 +3,7 @@ ghost use Rattle.std.specs.Prelude.{◌≡◌, ℕ, true, List, None, Ok, Some};
 ghost use Rattle.at_cmds.specs.Commands.{IsTextOf, Reads};
 ghost use Rattle.modem_sim.specs.declared.contexts.PdpContext.{PdpContext};
 ghost use Rattle.modem_sim.specs.declared.modem.ModemStart.{ModemStart};
-ghost use Rattle.modem_sim.specs.Reading.{command_of};
+ghost use Rattle.at_cmds.specs.Values.{command_of};
 ghost use Rattle.modem_sim.specs.Laws.{IsStart, AnswersWellAlways, SetsOne, AreInOrder, reached};
 ghost use Rattle.modem_sim.specs.SettingLaws.{KeepsAttached, KeepsContext, KeepsErrors, KeepsOper, KeepsReports};
 ghost use Rattle.modem_sim.specs.PinLaws.{FollowsNetworkAlways, IsReadyAlways, KeepsPin};
@@ -19,7 +19,7 @@ ghost use Rattle.modem_sim.specs.CallRows.{CallsKeepQuiet};
 ghost use Rattle.modem_sim.specs.HistoryRows.{GoodRows, WrongAnswers, WrongSteps, WrongOtherwise};
 
 /// The step reads a line as the one command whose text it is, and as no command where it is the text of none.
-#[tactic(auto, using(crate::proofs::modem_steps::ReadCommands::command_reads))]
+#[tactic(auto, using(at_cmds::proofs::command_texts::ReadCommands::command_reads))]
 pub fn commands()
     ensures { (line : List ℕ) → Reads (IsTextOf line) (Ok (command_of line)) }
 {}

@@ -4,7 +4,7 @@
 //!
 //! # Layout
 //!
-//! - `modem`, `state`, `contexts`, `answers`: the standard's commands. `wording`, `words`, `command_lines`, `activity`, `values`: the second
+//! - `modem`, `state`, `contexts`, `answers`: the standard's commands. `wording`, `words`, `activity`, `values`: the second
 //!   table. `announcing`: reports. `own_answers`: answers of one's own, before both tables.
 //! - `sim`, `polling`, `error`: a modem at its line. `sim_machine`, `going`: its turns. `sim_core`, `channel`, `replying`, `handing`: its end
 //!   without the line. `script`, `doing`: what it does of its own accord.
@@ -15,7 +15,6 @@ mod activity;
 mod announcing;
 mod answers;
 mod channel;
-mod command_lines;
 mod contexts;
 mod doing;
 mod error;
@@ -35,7 +34,6 @@ mod values;
 mod wording;
 mod words;
 
-pub use command_lines::{begins_with_at, commands_in};
 pub use doing::is_line;
 pub use error::SimError;
 pub use modem::{Modem, ModemStart};

@@ -4,14 +4,13 @@ ghost use Rattle.modem_sim.specs.LineSteps.{line_through, repeats, with_late, wo
 
 use crate::announcing::any_through;
 use crate::answers::{answer_of, error_answer, told};
-use crate::command_lines::begins_with_at;
 use crate::contexts::{ActiveContexts, PdpContexts};
 use crate::error::SimError;
 use crate::own_answers::{OwnAnswers, OwnLines};
 use crate::state::{Lock, ModemState, PUK_TRIES, Words};
 use crate::wording::{Effect, TOO_LONG, worded};
 use crate::words::Charset;
-use at_cmds::{Command, OperChoice, Pin};
+use at_cmds::{Command, OperChoice, Pin, begins_with_at};
 use at_text::AnswerLine;
 use std::alloc::{AllocError, Global};
 use std::marker::Model;

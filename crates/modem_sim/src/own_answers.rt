@@ -1,6 +1,7 @@
 //! Answers of one's own, which a modem with words gives before it looks into its tables.
 ghost use Rattle.std.specs.Prelude.{◌≡◌, ◌++◌, IfOk, OnOk, map, option_map};
-ghost use Rattle.modem_sim.specs.OwnAnswers.{begins_as, due_line, is_same, later_of, now_of, own_lines, said_later, said_now, takes, waits_on};
+ghost use Rattle.at_cmds.specs.Forms.{is_same};
+ghost use Rattle.modem_sim.specs.OwnAnswers.{begins_as, due_line, later_of, now_of, own_lines, said_later, said_now, takes, waits_on};
 ghost use Rattle.modem_sim.specs.LineSteps.{late_after, late_said};
 
 use at_text::{AnswerLine, Text};

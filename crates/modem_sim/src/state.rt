@@ -191,11 +191,7 @@ impl ModemState {
             | Command::AttachQuery => self.lock.error(),
             Command::AttachSet(true) => self.attach_error(),
             Command::Multiplex => Some(NOT_ALLOWED),
-            Command::PinQuery
-            | Command::RegReport(_)
-            | Command::RegQuery
-            | Command::Signal
-            | Command::ErrorMode(_) => None,
+            _ => None,
         }
     }
 
@@ -235,13 +231,7 @@ impl ModemState {
             }
             Command::AttachSet(on) => self.attached = on,
             Command::ErrorMode(n) => self.errors = n,
-            Command::PinQuery
-            | Command::RegQuery
-            | Command::Signal
-            | Command::OperQuery
-            | Command::ContextQuery
-            | Command::AttachQuery
-            | Command::Multiplex => {}
+            _ => {}
         }
         Ok(())
     }

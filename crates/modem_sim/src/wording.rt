@@ -2,20 +2,20 @@
 ghost use Rattle.std.specs.Prelude.{◌≡◌, ◌∷◌, ◌++◌, [], codes, false, fold, map, None, Some, IfOk, OnOk, OnErr, IsErrOf, option_map};
 ghost use Rattle.std.specs.Fmt.{decimal};
 ghost use Rattle.at_cmds.specs.Forms.{in_quotes};
-ghost use Rattle.modem_sim.specs.Reading.{command_of};
+ghost use Rattle.at_cmds.specs.Values.{command_of};
 ghost use Rattle.modem_sim.specs.SettingTexts.{context_forms, lock_text, named_oper_text, oper_name};
 ghost use Rattle.modem_sim.specs.Steps.{domain_name, line_of, registration_text, setting_told, status_text, told_as, word_code, word_refusal, word_told};
 ghost use Rattle.modem_sim.specs.LineSteps.{line_commands, line_through, nothing_ran, ran_command, ran_next, ran_other, ran_word, refusal_as, through_by, worded_by, worded_step};
 
 use crate::activity::{numbers_line, push_activity, push_contexts_named, push_whole_contexts};
 use crate::announcing::report;
-use crate::answers::{error_text, push_line, push_quoted, push_told};
-use crate::command_lines::commands_in;
+use crate::answers::{error_text, push_line, push_told};
 use crate::error::SimError;
 use crate::state::{ModemState, Words};
 use crate::values::{errors_line, push_forms};
 use crate::words::{Charset, Domain, Word, word_of};
-use at_cmds::{Command, OperChoice};
+use at_cmds::forms::push_quoted;
+use at_cmds::{Command, OperChoice, commands_in};
 use at_text::{AnswerLine, Text};
 use modem_data::is_connect;
 use std::alloc::{AllocError, Global};
@@ -38,7 +38,6 @@ impl Model for Run {
 }
 
 /// The command of the first table that a text is, if it is one.
-#[tactic(auto, using(crate::proofs::modem_steps::ReadCommands::read_command))]
 fn command_of(alloc: Global, text: &[u8]) -> Result<Option<Command>, SimError>
     ensures read { IfOk result (λ command. command ≡ command_of text.now) }
     ensures no_memory { OnErr result (IsErrOf result SimError.NoMemory) }

@@ -1,9 +1,9 @@
 //! The second table: commands that a modem with words takes beside those of the first.
 ghost use Rattle.std.specs.Prelude.{◌≡◌, IfOk};
 ghost use Rattle.std.specs.Str.{bytes_eq};
-ghost use Rattle.at_cmds.specs.Forms.{numeral_in};
-ghost use Rattle.modem_sim.specs.Words.{basic_word, cid_behind, cid_called, cid_in, context_word, dial_word, form_word, identity_word, numbered_word, phone_word, report_word, setting_word, unlock_word, word_of};
+ghost use Rattle.modem_sim.specs.Words.{basic_word, cid_behind, cid_called, context_word, dial_word, form_word, identity_word, numbered_word, phone_word, report_word, setting_word, unlock_word, word_of};
 
+use at_cmds::forms::{cid_in, is_pin};
 use at_text::octets::all_digits;
 use std::alloc::{AllocError, Global};
 
@@ -249,31 +249,6 @@ fn report_word(text: &[u8]) -> Option<Word>
     None
 }
 
-/// The number that a numeral without leading zeros stands for, below 100.
-#[tactic(auto, unfolding(at_cmds::specs::Forms::numeral_in))]
-fn numeral_in(text: &[u8]) -> Option<u8>
-    ensures { result ≡ numeral_in text.now }
-{
-    match text {
-        [low] if low.is_ascii_digit() => Some(low - b'0'),
-        [high, low] if *high != b'0' && high.is_ascii_digit() && low.is_ascii_digit() => {
-            Some((high - b'0') * 10 + (low - b'0'))
-        }
-        _ => None,
-    }
-}
-
-/// The number of a context: 1 to 15, without leading zeros.
-fn cid_in(text: &[u8]) -> Option<u8>
-    ensures { result ≡ cid_in text.now }
-{
-    let cid = numeral_in(text)?;
-    if cid < 1 || cid > 15 {
-        return None;
-    }
-    Some(cid)
-}
-
 /// The number of a context behind this beginning.
 fn cid_behind(text: &[u8], start: &[u8]) -> Option<u8>
     ensures { result ≡ cid_behind start.now text.now }
@@ -427,7 +402,7 @@ fn unlock_word(text: &[u8]) -> Option<Word>
     }
     let (puk, rest) = value.split_at(8);
     let pin = rest.strip_prefix(b"\",\"")?.strip_suffix(b"\"")?;
-    if !all_digits(puk) || !all_digits(pin) || pin.len() < 4 || pin.len() > 8 {
+    if !all_digits(puk) || !is_pin(pin) {
         return None;
     }
     Some(Word::Unlock(is(puk, PUK)))

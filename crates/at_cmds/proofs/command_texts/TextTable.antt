@@ -1,5 +1,5 @@
--- The table of texts, both ways.
-use Rattle.std.specs.Prelude.{◌≡◌, ℕ, ◌<◌, ◌==◌, ◌&&◌, nat_eq, Bool, true, false, List, [], ◌∷◌, ◌++◌, length, take, drop, Some, None, IfSome, refl, if◌then◌else◌, codes}
+-- Commands that set values, and their texts, both ways.
+use Rattle.std.specs.Prelude.{◌≡◌, ℕ, ◌<◌, ◌==◌, nat_eq, Bool, true, false, List, [], ◌∷◌, ◌++◌, length, take, drop, Some, None, IfSome, refl, if◌then◌else◌, codes}
 use Rattle.std.specs.List.{list_all, list_any, starts_with}
 use Rattle.std.specs.Str.{bytes_eq}
 use Rattle.std.proofs.Common.{arith, sym, ap, ◌∙◌}
@@ -8,35 +8,39 @@ use Rattle.std.proofs.lemmas.List.{take-append-drop}
 use Rattle.std.proofs.lemmas.Option.{IfSome_then}
 use Rattle.at_text.specs.Octets.{is_digit, is_quote}
 use Rattle.at_cmds.specs.declared.command.Command.{Command}
-use Rattle.at_cmds.specs.declared.command.Command.TheVariants.{PinQuery, PinEnter, RegReport, RegQuery, Signal, OperQuery, OperChoose, ContextSet, ContextQuery, AttachSet, AttachQuery, ErrorMode, Multiplex}
-use Rattle.at_cmds.specs.declared.command.OperChoice.TheVariants.{Automatic, Deregister, Manual}
+use Rattle.at_cmds.specs.declared.command.Command.TheVariants.{PinEnter, RegReport, OperChoose, ContextSet, ErrorMode}
+use Rattle.at_cmds.specs.declared.command.OperChoice.TheVariants.{Manual}
 use Rattle.at_cmds.specs.declared.command.Pdp.{Pdp}
 use Rattle.at_cmds.specs.declared.command.Pdp.TheVariants.{Ip, Ipv6, Ipv4v6}
 use Rattle.at_cmds.specs.declared.error.CmdError.{CmdError}
 use Rattle.at_cmds.specs.declared.error.CmdError.TheVariants.{BadPin, BadApn, BadNumber}
 use Rattle.at_cmds.specs.Params.{◌>>=◌, parameters, divided, unquoted}
-use Rattle.at_cmds.specs.Forms.{numeral, numeral_in, in_quotes, is_pin, is_oper, is_apn, is_in_apn, is_cid, is_mode}
-use Rattle.at_cmds.specs.Commands.{Name, Cpin, Creg, Csq, Cops, Cgdcont, Cgatt, Cmee, Cmux, name_of, value_of, context_text, pdp_text, refused_for}
-use Rattle.at_cmds.specs.Values.{command_in, pin_in, mode_in, oper_in, pdp_in, context_value, context_set_in, after_equals}
+use Rattle.at_cmds.specs.Forms.{numeral, numeral_in, cid_in, in_quotes, is_pin, is_oper, is_apn, is_in_apn, is_cid, is_mode}
+use Rattle.at_cmds.specs.Commands.{text_of, context_text, pdp_text, refused_for}
+use Rattle.at_cmds.specs.Values.{Name, Cpin, Creg, Cops, Cgdcont, Cmee, head, command_in, pin_in, mode_in, oper_in, pdp_in, context_value, context_set_in, after_equals}
 use Rattle.at_cmds.proofs.command_texts.CommandLines.{both_true, all_weaker, run_is, numeral_digits, cid_small, behind_cid, context_text-split}
+use Rattle.at_cmds.proofs.command_texts.CommandNames.{name_of}
 use Rattle.at_cmds.proofs.values_read.ValueForms.{numeral_back, unquoted_back, IsNumeral, numeral_is, IsQuoted, quoted_is, if_some, bind_some, holds_of, same_octets}
 use Rattle.at_cmds.proofs.values_read.Parameters.{is_plain, divided-plain, put_text-ended, parameters-quoted, joined, joined-parameters}
 
 -- what is refused unless a test passes
-not_refused : (b : Bool) (why : CmdError) → (if b then None else Some why) ≡ None → b ≡ true
+pub not_refused : (b : Bool) (why : CmdError) → (if b then None else Some why) ≡ None → b ≡ true
 not_refused true why is = refl
 not_refused false why is = cc
 
-digit_not_quote : (c : ℕ) → is_digit c ≡ true → is_quote c ≡ false
+-- a digit is no quote
+pub digit_not_quote : (c : ℕ) → is_digit c ≡ true → is_quote c ≡ false
 digit_not_quote c is = grind (arith, nat_tests)
 
-apn_not_quote : (c : ℕ) → is_in_apn c ≡ true → is_quote c ≡ false
+-- nor is what may stand in the name of an access point
+pub apn_not_quote : (c : ℕ) → is_in_apn c ≡ true → is_quote c ≡ false
 apn_not_quote c is = grind (arith, nat_tests)
 
 digit_plain : (c : ℕ) → is_digit c ≡ true → is_plain c ≡ true
 digit_plain c is = grind (arith, nat_tests)
 
-none_quoted : (test : ℕ → Bool) → ((c : ℕ) → test c ≡ true → is_quote c ≡ false) → (text : List ℕ) → list_all test text ≡ true → list_any is_quote text ≡ false
+-- octets that are no quotes hold none
+pub none_quoted : (test : ℕ → Bool) → ((c : ℕ) → test c ≡ true → is_quote c ≡ false) → (text : List ℕ) → list_all test text ≡ true → list_any is_quote text ≡ false
 none_quoted test apart [] all = refl
 none_quoted test apart (c ∷ text) all =
     let parts = both_true (test c) (list_all test text) all in
@@ -57,13 +61,15 @@ mode_back n good =
     let small : n < 100 = grind (arith, nat_tests) in
     rw (numeral_back n small, good) refl
 
-context_may-at : (number name : Bool) → (if name then (if number then None else Some BadNumber) else Some BadApn) ≡ None → (number ≡ true) × (name ≡ true)
+-- a context that may be written has a number and an access point of their forms
+pub context_may-at : (number name : Bool) → (if name then (if number then None else Some BadNumber) else Some BadApn) ≡ None → (number ≡ true) × (name ≡ true)
 context_may-at true true may = (refl, refl)
 context_may-at false true may = cc
 context_may-at true false may = cc
 context_may-at false false may = cc
 
-pdp_not_quoted : (pdp : Pdp) → list_any is_quote (pdp_text pdp) ≡ false
+-- the names of kinds hold no quote
+pub pdp_not_quoted : (pdp : Pdp) → list_any is_quote (pdp_text pdp) ≡ false
 pdp_not_quoted Ip = refl
 pdp_not_quoted Ipv6 = refl
 pdp_not_quoted Ipv4v6 = refl
@@ -97,7 +103,8 @@ context_back cid pdp apn number name =
     let first : numeral_in (numeral cid) ≡ Some cid = numeral_back cid (omega arith) in
     let second : unquoted (in_quotes (pdp_text pdp)) ≡ Some (pdp_text pdp) = unquoted_back (pdp_text pdp) (pdp_not_quoted pdp) in
     let third : unquoted (in_quotes apn) ≡ Some apn = unquoted_back apn (none_quoted is_in_apn apn_not_quote apn (run_is is_in_apn 1 63 apn name).all) in
-    rw (first, second, pdp_back pdp, third, number, name) refl
+    let read : cid_in (numeral cid) ≡ Some cid = rw (first, number) refl in
+    rw (read, second, pdp_back pdp, third, name) refl
 
 context_set_back : (cid : ℕ) (pdp : Pdp) (apn : List ℕ) → is_cid cid ≡ true → is_apn apn ≡ true → context_set_in (drop 10 (context_text cid pdp apn)) ≡ Some (cid, pdp, apn)
 context_set_back cid pdp apn number name =
@@ -105,27 +112,21 @@ context_set_back cid pdp apn number name =
     ∙ ap context_value (context_params cid pdp apn number name)
     ∙ context_back cid pdp apn number name
 
--- a command that may be written is the one that its value stands for
-pub complete : (c : Command) → refused_for c ≡ None → command_in (name_of c) (value_of c) ≡ Some c
+-- what stands behind this name in a command's text is read as the command
+abbrev pub IsRead : Command → Name → Type 0
+IsRead c n = command_in n (drop (length (head n)) (text_of c)) ≡ Some c
+
+-- a command that sets values, and may be written, is the one that its value stands for
+pub complete : (c : Command) → refused_for c ≡ None → IfSome (name_of c) (IsRead c)
 unfolding command_in
-complete PinQuery may = refl
 complete (PinEnter pin) may = rw (pin_back pin (not_refused (is_pin pin) BadPin may)) refl
 complete (RegReport n) may = rw (mode_back n (not_refused (is_mode n) BadNumber may)) refl
-complete RegQuery may = refl
-complete Signal may = refl
-complete OperQuery may = refl
-complete (OperChoose Automatic) may = refl
-complete (OperChoose Deregister) may = refl
 complete (OperChoose (Manual oper)) may = rw (oper_back oper (not_refused (is_oper oper) BadNumber may)) refl
 complete (ContextSet cid pdp apn) may =
     let tests = context_may cid apn may in
     rw (context_set_back cid pdp apn tests.0 tests.1) refl
-complete ContextQuery may = refl
-complete (AttachSet true) may = refl
-complete (AttachSet false) may = refl
-complete AttachQuery may = refl
 complete (ErrorMode n) may = rw (mode_back n (not_refused (is_mode n) BadNumber may)) refl
-complete Multiplex may = refl
+complete c may = tt
 
 -- a text that begins with another one
 pub started : (text start : List ℕ) → starts_with nat_eq text start ≡ true → text ≡ start ++ drop (length start) text
@@ -135,8 +136,8 @@ started text start begins =
 
 -- a command of this name and this value, which may be written
 pub record IsOf (n : Name) (value : List ℕ) (c : Command) : Type 0 where
-  pub named : name_of c ≡ n
-  pub valued : value_of c ≡ value
+  pub name : name_of c ≡ Some n
+  pub valued : drop (length (head n)) (text_of c) ≡ value
   pub written : refused_for c ≡ None
 
 after_is : (value : List ℕ) → IfSome (after_equals value) (λ text. value ≡ 61 ∷ text)
@@ -204,6 +205,20 @@ pdp_is text =
     (λ others.
     if_some (bytes_eq text (codes "IPV4V6")) (Some Ipv4v6) None Holds (same_octets text (codes "IPV4V6")) (λ none. tt)))
 
+record IsCid (text : List ℕ) (n : ℕ) : Type 0 where
+  spelt : text ≡ numeral n
+  good : is_cid n ≡ true
+
+cid_is : (text : List ℕ) → IfSome (cid_in text) (IsCid text)
+cid_is text =
+    bind_some (numeral_in text) (λ n. if is_cid n then Some n else None) (IsCid text) (λ n read.
+    if_some (is_cid n) (Some n) None (IsCid text)
+    (λ good. record {
+      spelt = (holds_of (numeral_in text) (IsNumeral text) (numeral_is text) n read).spelt;
+      good = good;
+    })
+    (λ bad. tt))
+
 record AreContextParams (params : List (List ℕ)) (x : ℕ × Pdp × List ℕ) : Type 0 where
   spelt : joined params ≡ numeral x.0 ++ behind_cid x.1 x.2
   number : is_cid x.0 ≡ true
@@ -221,21 +236,21 @@ context_params_are (cid ∷ []) = tt
 context_params_are (cid ∷ pdp ∷ []) = tt
 context_params_are (cid ∷ pdp ∷ apn ∷ []) =
     let Holds = AreContextParams (cid ∷ pdp ∷ apn ∷ []) in
-    bind_some (numeral_in cid) (λ n. unquoted pdp >>= (λ kind. pdp_in kind >>= (λ k. unquoted apn >>= (λ a. if is_cid n && is_apn a then Some (n, k, a) else None)))) Holds (λ n number_read.
-    bind_some (unquoted pdp) (λ kind. pdp_in kind >>= (λ k. unquoted apn >>= (λ a. if is_cid n && is_apn a then Some (n, k, a) else None))) Holds (λ kind kind_read.
-    bind_some (pdp_in kind) (λ k. unquoted apn >>= (λ a. if is_cid n && is_apn a then Some (n, k, a) else None)) Holds (λ k which.
-    bind_some (unquoted apn) (λ a. if is_cid n && is_apn a then Some (n, k, a) else None) Holds (λ a name_read.
-    if_some (is_cid n && is_apn a) (Some (n, k, a)) None Holds
+    bind_some (cid_in cid) (λ n. unquoted pdp >>= (λ kind. pdp_in kind >>= (λ k. unquoted apn >>= (λ a. if is_apn a then Some (n, k, a) else None)))) Holds (λ n number_read.
+    bind_some (unquoted pdp) (λ kind. pdp_in kind >>= (λ k. unquoted apn >>= (λ a. if is_apn a then Some (n, k, a) else None))) Holds (λ kind kind_read.
+    bind_some (pdp_in kind) (λ k. unquoted apn >>= (λ a. if is_apn a then Some (n, k, a) else None)) Holds (λ k which.
+    bind_some (unquoted apn) (λ a. if is_apn a then Some (n, k, a) else None) Holds (λ a name_read.
+    if_some (is_apn a) (Some (n, k, a)) None Holds
     (λ good.
-    let tests = both_true (is_cid n) (is_apn a) good in
+    let number = holds_of (cid_in cid) (IsCid cid) (cid_is cid) n number_read in
     record {
       spelt = three_params cid pdp apn n k kind a
-          (holds_of (numeral_in cid) (IsNumeral cid) (numeral_is cid) n number_read).spelt
+          number.spelt
           (holds_of (unquoted pdp) (IsQuoted pdp) (quoted_is pdp) kind kind_read).spelt
           (holds_of (pdp_in kind) (λ x. kind ≡ pdp_text x) (pdp_is kind) k which)
           (holds_of (unquoted apn) (IsQuoted apn) (quoted_is apn) a name_read).spelt;
-      number = tests.0;
-      name = tests.1;
+      number = number.good;
+      name = good;
     })
     (λ bad. tt)))))
 context_params_are (cid ∷ pdp ∷ apn ∷ fourth ∷ more) = tt
@@ -262,55 +277,22 @@ context_valued value cid pdp apn spelt = ap (drop 10) (context_text-split cid pd
 pub sound : (n : Name) (value : List ℕ) → IfSome (command_in n value) (IsOf n value)
 unfolding command_in
 sound Cpin value =
-    if_some (bytes_eq value (codes "?")) (Some PinQuery) (pin_in value >>= (λ pin. Some (PinEnter pin))) (IsOf Cpin value)
-    (λ is. record { named = refl; valued = sym (same_octets value (codes "?") is); written = refl })
-    (λ other. bind_some (pin_in value) (λ pin. Some (PinEnter pin)) (IsOf Cpin value) (λ pin read.
+    bind_some (pin_in value) (λ pin. Some (PinEnter pin)) (IsOf Cpin value) (λ pin read.
     let found = holds_of (pin_in value) (IsPinValue value) (pin_is value) pin read in
-    record { named = refl; valued = sym found.spelt; written = rw found.good refl }))
+    record { name = refl; valued = sym found.spelt; written = rw found.good refl })
 sound Creg value =
-    if_some (bytes_eq value (codes "?")) (Some RegQuery) (mode_in value >>= (λ n. Some (RegReport n))) (IsOf Creg value)
-    (λ is. record { named = refl; valued = sym (same_octets value (codes "?") is); written = refl })
-    (λ other. bind_some (mode_in value) (λ n. Some (RegReport n)) (IsOf Creg value) (λ n read.
+    bind_some (mode_in value) (λ n. Some (RegReport n)) (IsOf Creg value) (λ n read.
     let found = holds_of (mode_in value) (IsModeValue value) (mode_is value) n read in
-    record { named = refl; valued = sym found.spelt; written = rw found.good refl }))
-sound Csq value =
-    if_some (bytes_eq value []) (Some Signal) None (IsOf Csq value)
-    (λ is. record { named = refl; valued = sym (same_octets value [] is); written = refl })
-    (λ other. tt)
+    record { name = refl; valued = sym found.spelt; written = rw found.good refl })
 sound Cops value =
-    let by_number = oper_in value >>= (λ oper. Some (OperChoose (Manual oper))) in
-    if_some (bytes_eq value (codes "?")) (Some OperQuery) (if bytes_eq value (codes "=0") then Some (OperChoose Automatic) else (if bytes_eq value (codes "=2") then Some (OperChoose Deregister) else by_number)) (IsOf Cops value)
-    (λ is. record { named = refl; valued = sym (same_octets value (codes "?") is); written = refl })
-    (λ other.
-    if_some (bytes_eq value (codes "=0")) (Some (OperChoose Automatic)) (if bytes_eq value (codes "=2") then Some (OperChoose Deregister) else by_number) (IsOf Cops value)
-    (λ is. record { named = refl; valued = sym (same_octets value (codes "=0") is); written = refl })
-    (λ others.
-    if_some (bytes_eq value (codes "=2")) (Some (OperChoose Deregister)) by_number (IsOf Cops value)
-    (λ is. record { named = refl; valued = sym (same_octets value (codes "=2") is); written = refl })
-    (λ neither. bind_some (oper_in value) (λ oper. Some (OperChoose (Manual oper))) (IsOf Cops value) (λ oper read.
+    bind_some (oper_in value) (λ oper. Some (OperChoose (Manual oper))) (IsOf Cops value) (λ oper read.
     let found = holds_of (oper_in value) (IsOperValue value) (oper_is value) oper read in
-    record { named = refl; valued = sym found.spelt; written = rw found.good refl }))))
+    record { name = refl; valued = sym found.spelt; written = rw found.good refl })
 sound Cgdcont value =
-    if_some (bytes_eq value (codes "?")) (Some ContextQuery) (context_set_in value >>= (λ x. Some (ContextSet x.0 x.1 x.2))) (IsOf Cgdcont value)
-    (λ is. record { named = refl; valued = sym (same_octets value (codes "?") is); written = refl })
-    (λ other. bind_some (context_set_in value) (λ x. Some (ContextSet x.0 x.1 x.2)) (IsOf Cgdcont value) (λ x read.
+    bind_some (context_set_in value) (λ x. Some (ContextSet x.0 x.1 x.2)) (IsOf Cgdcont value) (λ x read.
     let found = holds_of (context_set_in value) (IsContextValue value) (context_split value) x read in
-    record { named = refl; valued = context_valued value x.0 x.1 x.2 found.spelt; written = rw (found.name, found.number) refl }))
-sound Cgatt value =
-    if_some (bytes_eq value (codes "?")) (Some AttachQuery) (if bytes_eq value (codes "=0") then Some (AttachSet false) else (if bytes_eq value (codes "=1") then Some (AttachSet true) else None)) (IsOf Cgatt value)
-    (λ is. record { named = refl; valued = sym (same_octets value (codes "?") is); written = refl })
-    (λ other.
-    if_some (bytes_eq value (codes "=0")) (Some (AttachSet false)) (if bytes_eq value (codes "=1") then Some (AttachSet true) else None) (IsOf Cgatt value)
-    (λ is. record { named = refl; valued = sym (same_octets value (codes "=0") is); written = refl })
-    (λ others.
-    if_some (bytes_eq value (codes "=1")) (Some (AttachSet true)) None (IsOf Cgatt value)
-    (λ is. record { named = refl; valued = sym (same_octets value (codes "=1") is); written = refl })
-    (λ none. tt)))
+    record { name = refl; valued = context_valued value x.0 x.1 x.2 found.spelt; written = rw (found.name, found.number) refl })
 sound Cmee value =
     bind_some (mode_in value) (λ n. Some (ErrorMode n)) (IsOf Cmee value) (λ n read.
     let found = holds_of (mode_in value) (IsModeValue value) (mode_is value) n read in
-    record { named = refl; valued = sym found.spelt; written = rw found.good refl })
-sound Cmux value =
-    if_some (bytes_eq value (codes "=0")) (Some Multiplex) None (IsOf Cmux value)
-    (λ is. record { named = refl; valued = sym (same_octets value (codes "=0") is); written = refl })
-    (λ other. tt)
+    record { name = refl; valued = sym found.spelt; written = rw found.good refl })

@@ -3,7 +3,7 @@ use Rattle.std.specs.Prelude.{◌≡◌, ℕ, ◌==◌, ◌||◌, nat_lt, Bool, 
 use Rattle.std.proofs.Common.{arith, ap, ◌∙◌}
 use Rattle.std.proofs.lemmas.Bool.Decides.{nat_tests}
 use Rattle.at_cmds.specs.declared.command.Command.{Command}
-use Rattle.at_cmds.specs.declared.command.Command.TheVariants.{PinQuery, PinEnter, RegReport, RegQuery, Signal, OperQuery, OperChoose, ContextSet, ContextQuery, AttachSet, AttachQuery, ErrorMode, Multiplex}
+use Rattle.at_cmds.specs.declared.command.Command.TheVariants.{PinEnter, OperChoose, ContextSet}
 use Rattle.at_cmds.specs.declared.command.OperChoice.TheVariants.{Automatic, Deregister, Manual}
 use Rattle.modem_sim.specs.declared.contexts.PdpContext.{PdpContext}
 use Rattle.modem_sim.specs.declared.own_answers.OwnLine.{OwnLine}
@@ -15,7 +15,7 @@ use Rattle.modem_sim.specs.declared.words.Word.{Word}
 use Rattle.modem_sim.specs.declared.words.Word.TheVariants.{Reset, Echo, Usual, Identity, Manufacturer, Product, Revision, Serial, Subscriber, Capabilities, Functionality, FunctionalityQuery, FunctionalityForms, RegForms, Report, ReportQuery, ReportForms, OperFormat, ContextForms, Activate, ActivityQuery, ActivityForms, Addresses, AddressForms, Dial, SetCharset, CharsetQuery, CharsetForms, LockForms, LockQuery, Unlock, Forms, ErrorsQuery, MultiplexerQuery}
 use Rattle.modem_sim.specs.Contexts.{active_after, becomes_active, is_active, is_defined, names, with_context}
 use Rattle.modem_sim.specs.Laws.{after_lines}
-use Rattle.modem_sim.specs.Reading.{command_of}
+use Rattle.at_cmds.specs.Values.{command_of}
 use Rattle.modem_sim.specs.Steps.{activated, after_command, after_refusal, after_word_refusal, after_wrong_puk, context_made, settled, word_after, word_refusal}
 use Rattle.modem_sim.specs.LineSteps.{is_too_long, line_commands, nothing_ran, own_answer, own_step, ran_command, ran_next, ran_other, ran_text, ran_unless, ran_word, refusal_as, refused_by, step, step_as, worded_by, Ran}
 use Rattle.modem_sim.specs.Words.{word_of}
@@ -78,21 +78,11 @@ record Keeps (s : ModemState) : Type 0 where
   there : ActiveAreThere s
 
 carried_defined : (s : ModemState) (c : Command) → Keeps s → (cid : ℕ) → is_active (after_command s c).active cid ≡ true → is_defined (Some cid) (after_command s c).contexts ≡ true
-carried_defined s PinQuery kept = kept.there.defined
-carried_defined s (PinEnter pin) kept = kept.there.defined
-carried_defined s (RegReport n) kept = kept.there.defined
-carried_defined s RegQuery kept = kept.there.defined
-carried_defined s Signal kept = kept.there.defined
-carried_defined s OperQuery kept = kept.there.defined
 carried_defined s (OperChoose Automatic) kept = kept.there.defined
 carried_defined s (OperChoose (Manual oper)) kept = kept.there.defined
 carried_defined s (OperChoose Deregister) kept = kept.there.defined
 carried_defined s (ContextSet cid pdp apn) kept = λ n is. set_defined (context_made cid pdp apn) s.contexts n (kept.there.defined n is)
-carried_defined s ContextQuery kept = kept.there.defined
-carried_defined s (AttachSet on) kept = kept.there.defined
-carried_defined s AttachQuery kept = kept.there.defined
-carried_defined s (ErrorMode n) kept = kept.there.defined
-carried_defined s Multiplex kept = kept.there.defined
+carried_defined s c kept = kept.there.defined
 
 settled_there : (s : ModemState) (b : Bool) → s.attached ≡ b → is_some s.words ≡ true → ((cid : ℕ) → is_active s.active cid ≡ true → is_defined (Some cid) s.contexts ≡ true) → Keeps (if b then s else record s { active = [] })
 settled_there s true attached words defined = record { words = words; there = record { defined = defined; attached = λ cid is. attached } }
@@ -103,19 +93,8 @@ carried_there s c kept =
     settled_there (after_command s c) (after_command s c).attached refl (ap is_some (carried_words s c) ∙ kept.words) (carried_defined s c kept)
 
 refused_there : (s : ModemState) (c : Command) → Keeps s → Keeps (after_refusal s c)
-refused_there s PinQuery kept = kept
 refused_there s (PinEnter pin) kept = record { words = kept.words; there = record { defined = kept.there.defined; attached = kept.there.attached } }
-refused_there s (RegReport n) kept = kept
-refused_there s RegQuery kept = kept
-refused_there s Signal kept = kept
-refused_there s OperQuery kept = kept
-refused_there s (OperChoose choice) kept = kept
-refused_there s (ContextSet cid pdp apn) kept = kept
-refused_there s ContextQuery kept = kept
-refused_there s (AttachSet on) kept = kept
-refused_there s AttachQuery kept = kept
-refused_there s (ErrorMode n) kept = kept
-refused_there s Multiplex kept = kept
+refused_there s c kept = kept
 
 command_there : (o : Option ℕ) (r : Ran) (c : Command) → Keeps r.state → Keeps (ran_command o r c).state
 command_there None r c kept = carried_there r.state c kept

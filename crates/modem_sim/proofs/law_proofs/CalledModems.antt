@@ -6,7 +6,7 @@ use Rattle.modem_sim.specs.declared.state.Lock.TheVariants.{Ready}
 use Rattle.modem_sim.specs.declared.state.ModemState.{ModemState}
 use Rattle.modem_sim.specs.declared.state.Words.{Words}
 use Rattle.modem_sim.specs.declared.words.Word.TheVariants.{Dial}
-use Rattle.modem_sim.specs.Reading.{command_of}
+use Rattle.at_cmds.specs.Values.{command_of}
 use Rattle.modem_data.specs.Switching.{is_connect}
 use Rattle.modem_sim.specs.Steps.{dialled, is_registered, line_of, lock_error, Step}
 use Rattle.modem_sim.specs.LineSteps.{announced_as, answered_by, nothing_ran, ran_next, ran_other, is_through, ran_text, ran_unless, ran_word, reports_held, step, with_late, Ran}

@@ -8,13 +8,14 @@ use Rattle.std.proofs.Common.{arith, subst, sym}
 use Rattle.std.proofs.lemmas.Bool.Decides.{nat_tests}
 use Rattle.std.proofs.lemmas.Map.Keys.{IsStrictlyIncreasing-from_sorted}
 use Rattle.at_cmds.specs.declared.command.Command.{Command}
-use Rattle.at_cmds.specs.declared.command.Command.TheVariants.{PinQuery, PinEnter, RegReport, RegQuery, Signal, OperQuery, OperChoose, ContextSet, ContextQuery, AttachSet, AttachQuery, ErrorMode, Multiplex}
+use Rattle.at_cmds.specs.declared.command.Command.TheVariants.{PinEnter, OperChoose, ContextSet}
 use Rattle.at_cmds.specs.declared.command.OperChoice.TheVariants.{Automatic, Deregister, Manual}
 use Rattle.modem_sim.specs.declared.contexts.PdpContext.{PdpContext}
 use Rattle.modem_sim.specs.declared.modem.ModemStart.{ModemStart}
 use Rattle.modem_sim.specs.declared.state.ModemState.{ModemState}
 use Rattle.modem_sim.specs.Contexts.{with_context}
-use Rattle.modem_sim.specs.Reading.{is_attention, command_of}
+use Rattle.at_cmds.specs.Values.{command_of}
+use Rattle.modem_sim.specs.Reading.{is_attention}
 use Rattle.modem_sim.specs.Steps.{Step, standard_step, started, step_by, refusal_of, obeyed_unless, after_refusal, after_command}
 use Rattle.modem_sim.specs.LineSteps.{step}
 use Rattle.modem_sim.specs.Laws.{after_lines, reached, SetsOne, AreInOrder, context_of}
@@ -59,36 +60,15 @@ rising_with new (c ∷ contexts) rising =
     (λ below. below_with c.cid new contexts below rising.0) (rising_with new contexts rising.1)
 
 after_rising : (s : ModemState) (c : Command) → AreRising s.contexts → AreRising (after_command s c).contexts
-after_rising s PinQuery rising = rising
-after_rising s (PinEnter pin) rising = rising
-after_rising s (RegReport n) rising = rising
-after_rising s RegQuery rising = rising
-after_rising s Signal rising = rising
-after_rising s OperQuery rising = rising
 after_rising s (OperChoose Automatic) rising = rising
 after_rising s (OperChoose Deregister) rising = rising
 after_rising s (OperChoose (Manual oper)) rising = rising
 after_rising s (ContextSet cid pdp apn) rising = rising_with (record { cid = cid; pdp = pdp; apn = apn }) s.contexts rising
-after_rising s ContextQuery rising = rising
-after_rising s (AttachSet on) rising = rising
-after_rising s AttachQuery rising = rising
-after_rising s (ErrorMode n) rising = rising
-after_rising s Multiplex rising = rising
+after_rising s c rising = rising
 
 refused_same : (s : ModemState) (c : Command) → (after_refusal s c).contexts ≡ s.contexts
-refused_same s PinQuery = refl
 refused_same s (PinEnter pin) = refl
-refused_same s (RegReport n) = refl
-refused_same s RegQuery = refl
-refused_same s Signal = refl
-refused_same s OperQuery = refl
-refused_same s (OperChoose choice) = refl
-refused_same s (ContextSet cid pdp apn) = refl
-refused_same s ContextQuery = refl
-refused_same s (AttachSet on) = refl
-refused_same s AttachQuery = refl
-refused_same s (ErrorMode n) = refl
-refused_same s Multiplex = refl
+refused_same s c = refl
 
 obeyed_rising : (o : Option ℕ) (s : ModemState) (c : Command) → AreRising s.contexts → AreRising (obeyed_unless o s c).state.contexts
 obeyed_rising None s c rising = after_rising s c rising

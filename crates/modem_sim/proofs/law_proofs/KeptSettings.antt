@@ -5,7 +5,7 @@ use Rattle.std.proofs.Common.{arith, sym, ap, ◌∙◌, subst}
 use Rattle.std.proofs.lemmas.Bool.Decides.{nat_tests}
 use Rattle.at_text.specs.declared.answer.AnswerLine.{AnswerLine}
 use Rattle.at_cmds.specs.declared.command.Command.{Command}
-use Rattle.at_cmds.specs.declared.command.Command.TheVariants.{PinQuery, PinEnter, RegReport, RegQuery, Signal, OperQuery, OperChoose, ContextSet, ContextQuery, AttachSet, AttachQuery, ErrorMode, Multiplex}
+use Rattle.at_cmds.specs.declared.command.Command.TheVariants.{RegReport, RegQuery, OperQuery, OperChoose, ContextSet, ContextQuery, AttachSet, AttachQuery, ErrorMode, Multiplex}
 use Rattle.at_cmds.specs.declared.command.OperChoice.{OperChoice}
 use Rattle.at_cmds.specs.declared.command.OperChoice.TheVariants.{Automatic, Deregister, Manual}
 use Rattle.at_cmds.specs.declared.error.CmdError.TheVariants.{BadNumber}
@@ -26,21 +26,11 @@ use Rattle.modem_sim.proofs.law_proofs.StateRuns.{command_step, no_error, set_re
 use Rattle.modem_sim.proofs.modem_steps.StandardModems.{no_words}
 
 carried_reports : (s : ModemState) (c : Command) → sets_reports c ≡ false → (after_command s c).reports ≡ s.reports
-carried_reports s PinQuery other = refl
-carried_reports s (PinEnter pin) other = refl
 carried_reports s (RegReport n) other = cc
-carried_reports s RegQuery other = refl
-carried_reports s Signal other = refl
-carried_reports s OperQuery other = refl
 carried_reports s (OperChoose Automatic) other = refl
 carried_reports s (OperChoose Deregister) other = refl
 carried_reports s (OperChoose (Manual oper)) other = refl
-carried_reports s (ContextSet cid pdp apn) other = refl
-carried_reports s ContextQuery other = refl
-carried_reports s (AttachSet on) other = refl
-carried_reports s AttachQuery other = refl
-carried_reports s (ErrorMode n) other = refl
-carried_reports s Multiplex other = refl
+carried_reports s c other = refl
 
 -- how registration is reported, once set, is told until it is set again
 pub keeps_reports : (start : ModemStart) → IsStart start → KeepsReports start
@@ -50,21 +40,11 @@ keeps_reports start is n s set =
     (set_so start (RegReport n) sets_reports s (λ t. t.reports) w (λ t l. refl) carried_reports)
 
 carried_errors : (s : ModemState) (c : Command) → sets_errors c ≡ false → (after_command s c).errors ≡ s.errors
-carried_errors s PinQuery other = refl
-carried_errors s (PinEnter pin) other = refl
-carried_errors s (RegReport n) other = refl
-carried_errors s RegQuery other = refl
-carried_errors s Signal other = refl
-carried_errors s OperQuery other = refl
 carried_errors s (OperChoose Automatic) other = refl
 carried_errors s (OperChoose Deregister) other = refl
 carried_errors s (OperChoose (Manual oper)) other = refl
-carried_errors s (ContextSet cid pdp apn) other = refl
-carried_errors s ContextQuery other = refl
-carried_errors s (AttachSet on) other = refl
-carried_errors s AttachQuery other = refl
 carried_errors s (ErrorMode n) other = cc
-carried_errors s Multiplex other = refl
+carried_errors s c other = refl
 
 may_be : (n : ℕ) (b : Bool) → is_mode n ≡ b → (if b then None else Some BadNumber) ≡ None → is_mode n ≡ true
 may_be n true is may = is
@@ -87,21 +67,11 @@ keeps_errors start is n s set line text =
     ∙ ap (λ xs. xs ∷ []) (error_as n (may_be n (is_mode n) refl set.is_text.written))
 
 carried_attached : (s : ModemState) (c : Command) → sets_attached c ≡ false → (after_command s c).attached ≡ s.attached
-carried_attached s PinQuery other = refl
-carried_attached s (PinEnter pin) other = refl
-carried_attached s (RegReport n) other = refl
-carried_attached s RegQuery other = refl
-carried_attached s Signal other = refl
-carried_attached s OperQuery other = refl
 carried_attached s (OperChoose Automatic) other = refl
 carried_attached s (OperChoose Deregister) other = cc
 carried_attached s (OperChoose (Manual oper)) other = refl
-carried_attached s (ContextSet cid pdp apn) other = refl
-carried_attached s ContextQuery other = refl
 carried_attached s (AttachSet on) other = cc
-carried_attached s AttachQuery other = refl
-carried_attached s (ErrorMode n) other = refl
-carried_attached s Multiplex other = refl
+carried_attached s c other = refl
 
 may_attach : (o : Option ℕ) (registered : Bool) → attach_error o registered ≡ None → o ≡ None
 may_attach None registered is = refl
@@ -125,21 +95,11 @@ keeps_attached start is on s set =
     by_on mid false none = attach_ready mid false none
 
 carried_context : (cid : ℕ) (s : ModemState) (c : Command) → sets_context cid c ≡ false → context_of cid (after_command s c).contexts ≡ context_of cid s.contexts
-carried_context cid s PinQuery other = refl
-carried_context cid s (PinEnter pin) other = refl
-carried_context cid s (RegReport n) other = refl
-carried_context cid s RegQuery other = refl
-carried_context cid s Signal other = refl
-carried_context cid s OperQuery other = refl
 carried_context cid s (OperChoose Automatic) other = refl
 carried_context cid s (OperChoose Deregister) other = refl
 carried_context cid s (OperChoose (Manual oper)) other = refl
 carried_context cid s (ContextSet n pdp apn) other = sets_one (context_made n pdp apn) s.contexts cid ∙ ap (λ (b : Bool). if b then Some (context_made n pdp apn) else context_of cid s.contexts) other
-carried_context cid s ContextQuery other = refl
-carried_context cid s (AttachSet on) other = refl
-carried_context cid s AttachQuery other = refl
-carried_context cid s (ErrorMode n) other = refl
-carried_context cid s Multiplex other = refl
+carried_context cid s c other = refl
 
 found_told_at : (n : ℕ) (c : PdpContext) (rest : Option PdpContext) (told : Option Context) (b : Bool) → told ≡ option_map told_context rest → cond b (Some (told_context c)) told ≡ option_map told_context (cond b (Some c) rest)
 found_told_at n c rest told true same = refl
@@ -166,19 +126,8 @@ keeps_context start is cid pdp apn s set =
     (subst Holds (sym (ap (λ l. meant_unless (lock_error l) s ContextQuery) ready)) told)
 
 carried_oper : (s : ModemState) (c : Command) → sets_oper c ≡ false → (after_command s c).oper ≡ s.oper
-carried_oper s PinQuery other = refl
-carried_oper s (PinEnter pin) other = refl
-carried_oper s (RegReport n) other = refl
-carried_oper s RegQuery other = refl
-carried_oper s Signal other = refl
-carried_oper s OperQuery other = refl
 carried_oper s (OperChoose choice) other = cc
-carried_oper s (ContextSet cid pdp apn) other = refl
-carried_oper s ContextQuery other = refl
-carried_oper s (AttachSet on) other = refl
-carried_oper s AttachQuery other = refl
-carried_oper s (ErrorMode n) other = refl
-carried_oper s Multiplex other = refl
+carried_oper s c other = refl
 
 oper_chosen : (s : ModemState) (choice : OperChoice) → (after_command s (OperChoose choice)).oper ≡ choice
 oper_chosen s Automatic = refl

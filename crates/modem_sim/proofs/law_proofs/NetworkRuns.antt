@@ -2,7 +2,7 @@
 use Rattle.std.specs.Prelude.{◌≡◌, ℕ, ◌==◌, ◌&&◌, Bool, true, false, Option, Some, None, Ok, refl}
 use Rattle.std.proofs.Common.{sym, ap, ◌∙◌}
 use Rattle.at_cmds.specs.declared.command.Command.{Command}
-use Rattle.at_cmds.specs.declared.command.Command.TheVariants.{PinQuery, PinEnter, RegReport, RegQuery, Signal, OperQuery, OperChoose, ContextSet, ContextQuery, AttachSet, AttachQuery, ErrorMode, Multiplex}
+use Rattle.at_cmds.specs.declared.command.Command.TheVariants.{PinQuery, PinEnter, RegQuery, OperQuery, OperChoose, AttachSet, AttachQuery}
 use Rattle.at_cmds.specs.declared.command.OperChoice.{OperChoice}
 use Rattle.at_cmds.specs.declared.command.OperChoice.TheVariants.{Automatic, Deregister, Manual}
 use Rattle.at_cmds.specs.declared.reply.Reply.TheVariants.{Accepted, Attached}
@@ -62,34 +62,14 @@ may_attach NeedPuk o false is none = cc
 
 obeyed_at_home : (o : Option ℕ) (s : ModemState) (c : Command) → o ≡ refusal_of s c → IsAtHome s → IsAtHome (obeyed_unless o s c).state
 obeyed_at_home (Some number) s (PinEnter pin) is home = λ there. at_home s.lock (after_wrong_pin s.lock) s.oper s.oper (home there) (λ ready. ap after_wrong_pin ready) (λ on. on)
-obeyed_at_home (Some number) s PinQuery is home = home
-obeyed_at_home (Some number) s (RegReport n) is home = home
-obeyed_at_home (Some number) s RegQuery is home = home
-obeyed_at_home (Some number) s Signal is home = home
-obeyed_at_home (Some number) s OperQuery is home = home
-obeyed_at_home (Some number) s (OperChoose choice) is home = home
-obeyed_at_home (Some number) s (ContextSet cid pdp apn) is home = home
-obeyed_at_home (Some number) s ContextQuery is home = home
-obeyed_at_home (Some number) s (AttachSet on) is home = home
-obeyed_at_home (Some number) s AttachQuery is home = home
-obeyed_at_home (Some number) s (ErrorMode n) is home = home
-obeyed_at_home (Some number) s Multiplex is home = home
+obeyed_at_home (Some number) s c is home = home
 obeyed_at_home None s (PinEnter pin) is home = λ there. at_home s.lock Ready s.oper s.oper (home there) (λ ready. refl) (λ on. on)
-obeyed_at_home None s PinQuery is home = home
-obeyed_at_home None s (RegReport n) is home = home
-obeyed_at_home None s RegQuery is home = home
-obeyed_at_home None s Signal is home = home
-obeyed_at_home None s OperQuery is home = home
 obeyed_at_home None s (OperChoose Automatic) is home = λ there. at_home s.lock s.lock s.oper Automatic (home there) (λ ready. ready) (λ on. refl)
 obeyed_at_home None s (OperChoose (Manual oper)) is home = λ there. at_home s.lock s.lock s.oper (Manual oper) (home there) (λ ready. ready) (λ on. refl)
 obeyed_at_home None s (OperChoose Deregister) is home = λ there. cc
-obeyed_at_home None s (ContextSet cid pdp apn) is home = home
-obeyed_at_home None s ContextQuery is home = home
 obeyed_at_home None s (AttachSet true) is home = λ there. may_attach s.lock s.oper (is_registered s.lock s.oper) refl (sym is)
 obeyed_at_home None s (AttachSet false) is home = λ there. cc
-obeyed_at_home None s AttachQuery is home = home
-obeyed_at_home None s (ErrorMode n) is home = home
-obeyed_at_home None s Multiplex is home = home
+obeyed_at_home None s c is home = home
 
 started_at_home : (start : ModemStart) → IsAtHome (started start)
 started_at_home start there = cc

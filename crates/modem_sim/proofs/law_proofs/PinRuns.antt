@@ -4,7 +4,7 @@ use Rattle.std.specs.Str.{bytes_eq}
 use Rattle.std.proofs.Common.{arith, sym, ap, ◌∙◌, subst}
 use Rattle.std.proofs.lemmas.Slice.Eq.{bytes_eq-Decides}
 use Rattle.at_cmds.specs.declared.command.Command.{Command}
-use Rattle.at_cmds.specs.declared.command.Command.TheVariants.{PinQuery, PinEnter, RegReport, RegQuery, Signal, OperQuery, OperChoose, ContextSet, ContextQuery, AttachSet, AttachQuery, ErrorMode, Multiplex}
+use Rattle.at_cmds.specs.declared.command.Command.TheVariants.{PinQuery, PinEnter, RegReport, OperQuery, OperChoose, ContextSet, ContextQuery, AttachSet, AttachQuery, ErrorMode}
 use Rattle.at_cmds.specs.declared.command.OperChoice.TheVariants.{Automatic, Deregister, Manual}
 use Rattle.at_cmds.specs.declared.reply.PinState.TheVariants as state
 use Rattle.at_cmds.specs.declared.reply.Reply.TheVariants.{Attached, Contexts, Pin}
@@ -66,32 +66,11 @@ refused_pin (Some number) s entered some = refl
 -- no other command touches the lock
 same_lock : (o : Option ℕ) (s : ModemState) (c : Command) → ((pin : List ℕ) → c ≢ PinEnter pin) → (obeyed_unless o s c).state.lock ≡ s.lock
 same_lock o s (PinEnter pin) other = absurd (other pin refl)
-same_lock (Some number) s PinQuery other = refl
-same_lock (Some number) s (RegReport n) other = refl
-same_lock (Some number) s RegQuery other = refl
-same_lock (Some number) s Signal other = refl
-same_lock (Some number) s OperQuery other = refl
-same_lock (Some number) s (OperChoose choice) other = refl
-same_lock (Some number) s (ContextSet cid pdp apn) other = refl
-same_lock (Some number) s ContextQuery other = refl
-same_lock (Some number) s (AttachSet on) other = refl
-same_lock (Some number) s AttachQuery other = refl
-same_lock (Some number) s (ErrorMode n) other = refl
-same_lock (Some number) s Multiplex other = refl
-same_lock None s PinQuery other = refl
-same_lock None s (RegReport n) other = refl
-same_lock None s RegQuery other = refl
-same_lock None s Signal other = refl
-same_lock None s OperQuery other = refl
+same_lock (Some number) s c other = refl
 same_lock None s (OperChoose Automatic) other = refl
 same_lock None s (OperChoose Deregister) other = refl
 same_lock None s (OperChoose (Manual oper)) other = refl
-same_lock None s (ContextSet cid pdp apn) other = refl
-same_lock None s ContextQuery other = refl
-same_lock None s (AttachSet on) other = refl
-same_lock None s AttachQuery other = refl
-same_lock None s (ErrorMode n) other = refl
-same_lock None s Multiplex other = refl
+same_lock None s c other = refl
 
 line_behind : (start : ModemStart) (lines : List (List ℕ)) (line : List ℕ) → reached start (lines ++ line ∷ []) ≡ (step (reached start lines) line).state
 line_behind start lines line = after_append (started start) lines (line ∷ [])
@@ -131,18 +110,7 @@ obeyed_locked None s (PinEnter pin) is lock = absurd (some_error (is ∙ ap (λ 
     some_error : None ≡ Some puk_required → ⊥
     some_error same = cc
 obeyed_locked (Some number) s (PinEnter pin) is lock = ap after_wrong_pin lock
-obeyed_locked o s PinQuery is lock = same_lock o s PinQuery (λ pin same. cc) ∙ lock
-obeyed_locked o s (RegReport n) is lock = same_lock o s (RegReport n) (λ pin same. cc) ∙ lock
-obeyed_locked o s RegQuery is lock = same_lock o s RegQuery (λ pin same. cc) ∙ lock
-obeyed_locked o s Signal is lock = same_lock o s Signal (λ pin same. cc) ∙ lock
-obeyed_locked o s OperQuery is lock = same_lock o s OperQuery (λ pin same. cc) ∙ lock
-obeyed_locked o s (OperChoose choice) is lock = same_lock o s (OperChoose choice) (λ pin same. cc) ∙ lock
-obeyed_locked o s (ContextSet cid pdp apn) is lock = same_lock o s (ContextSet cid pdp apn) (λ pin same. cc) ∙ lock
-obeyed_locked o s ContextQuery is lock = same_lock o s ContextQuery (λ pin same. cc) ∙ lock
-obeyed_locked o s (AttachSet on) is lock = same_lock o s (AttachSet on) (λ pin same. cc) ∙ lock
-obeyed_locked o s AttachQuery is lock = same_lock o s AttachQuery (λ pin same. cc) ∙ lock
-obeyed_locked o s (ErrorMode n) is lock = same_lock o s (ErrorMode n) (λ pin same. cc) ∙ lock
-obeyed_locked o s Multiplex is lock = same_lock o s Multiplex (λ pin same. cc) ∙ lock
+obeyed_locked o s c is lock = same_lock o s c (λ pin same. cc) ∙ lock
 
 -- the right PIN opens it
 opened_by : (pin : List ℕ) (n : ℕ) → n < 3 → pin_error (lock_after pin n) pin ≡ None
@@ -205,16 +173,7 @@ refuses_at s (OperChoose choice) some is = is_refused (lock_error s.lock) s (Ope
 refuses_at s (ContextSet cid pdp apn) some is = is_refused (lock_error s.lock) s (ContextSet cid pdp apn) some
 refuses_at s (AttachSet true) some is = is_refused (attach_error (lock_error s.lock) (is_registered s.lock s.oper)) s (AttachSet true) (may_attach (lock_error s.lock) (is_registered s.lock s.oper) some)
 refuses_at s (AttachSet false) some is = is_refused (lock_error s.lock) s (AttachSet false) some
-refuses_at s PinQuery some is = cc
-refuses_at s (PinEnter pin) some is = cc
-refuses_at s (RegReport n) some is = cc
-refuses_at s RegQuery some is = cc
-refuses_at s Signal some is = cc
-refuses_at s OperQuery some is = cc
-refuses_at s ContextQuery some is = cc
-refuses_at s AttachQuery some is = cc
-refuses_at s (ErrorMode n) some is = cc
-refuses_at s Multiplex some is = cc
+refuses_at s c some is = cc
 
 some_error : (start : ModemStart) (pin : List ℕ) (lines : List (List ℕ)) (n : ℕ) → start.pin ≡ Some pin → WrongTries pin lines n → lock_error (reached start lines).lock ≢ None
 some_error start pin lines n has tries =
@@ -236,32 +195,15 @@ fresh_again s t fresh oper contexts attached = record { oper = oper ∙ fresh.op
 
 obeyed_fresh : (o : Option ℕ) (s : ModemState) (c : Command) → o ≡ refusal_of s c → lock_error s.lock ≢ None → IsFresh s → IsFresh (obeyed_unless o s c).state
 obeyed_fresh (Some number) s (PinEnter pin) is some fresh = fresh_again s _ fresh refl refl refl
-obeyed_fresh (Some number) s PinQuery is some fresh = fresh
-obeyed_fresh (Some number) s (RegReport n) is some fresh = fresh
-obeyed_fresh (Some number) s RegQuery is some fresh = fresh
-obeyed_fresh (Some number) s Signal is some fresh = fresh
-obeyed_fresh (Some number) s OperQuery is some fresh = fresh
-obeyed_fresh (Some number) s (OperChoose choice) is some fresh = fresh
-obeyed_fresh (Some number) s (ContextSet cid pdp apn) is some fresh = fresh
-obeyed_fresh (Some number) s ContextQuery is some fresh = fresh
-obeyed_fresh (Some number) s (AttachSet on) is some fresh = fresh
-obeyed_fresh (Some number) s AttachQuery is some fresh = fresh
-obeyed_fresh (Some number) s (ErrorMode n) is some fresh = fresh
-obeyed_fresh (Some number) s Multiplex is some fresh = fresh
+obeyed_fresh (Some number) s c is some fresh = fresh
 obeyed_fresh None s (PinEnter pin) is some fresh = fresh_again s _ fresh refl refl refl
-obeyed_fresh None s PinQuery is some fresh = fresh
 obeyed_fresh None s (RegReport n) is some fresh = fresh_again s _ fresh refl refl refl
-obeyed_fresh None s RegQuery is some fresh = fresh
-obeyed_fresh None s Signal is some fresh = fresh
-obeyed_fresh None s OperQuery is some fresh = fresh
 obeyed_fresh None s (OperChoose choice) is some fresh = absurd (some (sym is))
 obeyed_fresh None s (ContextSet cid pdp apn) is some fresh = absurd (some (sym is))
-obeyed_fresh None s ContextQuery is some fresh = fresh
 obeyed_fresh None s (AttachSet true) is some fresh = absurd (may_attach (lock_error s.lock) (is_registered s.lock s.oper) some (sym is))
 obeyed_fresh None s (AttachSet false) is some fresh = absurd (some (sym is))
-obeyed_fresh None s AttachQuery is some fresh = fresh
 obeyed_fresh None s (ErrorMode n) is some fresh = fresh_again s _ fresh refl refl refl
-obeyed_fresh None s Multiplex is some fresh = fresh
+obeyed_fresh None s c is some fresh = fresh
 
 stays_fresh : (start : ModemStart) (pin : List ℕ) (lines : List (List ℕ)) (n : ℕ) → start.pin ≡ Some pin → WrongTries pin lines n → IsFresh (reached start lines)
 stays_fresh start pin _ _ has no_line = record { oper = refl; contexts = refl; attached = refl }
@@ -281,16 +223,7 @@ same_told s t ContextQuery is fresh other ready =
     ap (λ cs. Ok (Contexts (map told_context cs))) (fresh.contexts ∙ sym other.contexts) ∙ sym (ap (λ l. meant_unless (lock_error l) t ContextQuery) ready)
 same_told s t AttachQuery is fresh other ready =
     ap (λ b. Ok (Attached b)) (fresh.attached ∙ sym other.attached) ∙ sym (ap (λ l. meant_unless (lock_error l) t AttachQuery) ready)
-same_told s t PinQuery is fresh other ready = cc
-same_told s t (PinEnter pin) is fresh other ready = cc
-same_told s t (RegReport n) is fresh other ready = cc
-same_told s t RegQuery is fresh other ready = cc
-same_told s t Signal is fresh other ready = cc
-same_told s t (OperChoose choice) is fresh other ready = cc
-same_told s t (ContextSet cid pdp apn) is fresh other ready = cc
-same_told s t (AttachSet on) is fresh other ready = cc
-same_told s t (ErrorMode n) is fresh other ready = cc
-same_told s t Multiplex is fresh other ready = cc
+same_told s t c is fresh other ready = cc
 
 changes_nothing : (start : ModemStart) (pin : List ℕ) → IsStart start → start.pin ≡ Some pin → ChangesNothingBefore start pin
 changes_nothing start pin is has lines line n c tries few text told ask asks =

@@ -2,7 +2,7 @@
 use Rattle.std.specs.Prelude.{◌≡◌, ℕ, Bool, true, false, List, [], ◌∷◌, ◌++◌, Option, Some, None, Ok, refl}
 use Rattle.std.proofs.Common.{sym, ap, ◌∙◌, subst}
 use Rattle.at_cmds.specs.declared.command.Command.{Command}
-use Rattle.at_cmds.specs.declared.command.Command.TheVariants.{PinQuery, PinEnter, RegReport, RegQuery, Signal, OperQuery, OperChoose, ContextSet, ContextQuery, AttachSet, AttachQuery, ErrorMode, Multiplex}
+use Rattle.at_cmds.specs.declared.command.Command.TheVariants.{PinEnter, OperChoose}
 use Rattle.at_cmds.specs.declared.command.OperChoice.TheVariants.{Automatic, Deregister, Manual}
 use Rattle.at_cmds.specs.declared.reply.Reply.TheVariants.{Accepted}
 use Rattle.at_cmds.specs.Commands.{IsTextOf}
@@ -10,14 +10,15 @@ use Rattle.modem_sim.specs.declared.modem.ModemStart.{ModemStart}
 use Rattle.modem_sim.specs.declared.state.Lock.{Lock}
 use Rattle.modem_sim.specs.declared.state.Lock.TheVariants.{Ready, NeedPin, NeedPuk}
 use Rattle.modem_sim.specs.declared.state.ModemState.{ModemState}
-use Rattle.modem_sim.specs.Reading.{is_attention, command_of}
+use Rattle.at_cmds.specs.Values.{command_of}
+use Rattle.modem_sim.specs.Reading.{is_attention}
 use Rattle.modem_sim.specs.Steps.{after_command, after_refusal, after_wrong_pin, lock_error, obeyed, obeyed_unless, refusal_of, standard_step, started, step_by, Step}
 use Rattle.modem_sim.specs.LineSteps.{step}
 use Rattle.modem_sim.specs.Meanings.{meant, meant_unless}
 use Rattle.modem_sim.specs.Laws.{IsStart, after_lines, reached}
 use Rattle.modem_sim.specs.SettingLaws.{Answer, IsSet, NoneSets, Tells, answered}
 use Rattle.modem_sim.proofs.modem_steps.ReachedStates.{reached_kept}
-use Rattle.modem_sim.proofs.modem_steps.ReadCommands.{command_reads}
+use Rattle.at_cmds.proofs.command_texts.ReadCommands.{command_reads}
 use Rattle.modem_sim.proofs.modem_steps.StandardModems.{carried_words, no_words, step_standard, step_words}
 use Rattle.modem_sim.proofs.replies.RepliesReadBack.{command_is, command_is_no_attention, read_back}
 
@@ -56,18 +57,7 @@ by_lines Holds does s (line ∷ lines) none holds = by_lines Holds does (step s 
 -- a refusal leaves what the lock doesn't touch
 pub refused_keeps : {A : Type 0} (field : ModemState → A) → ((s : ModemState) (l : Lock) → field (record s { lock = l }) ≡ field s) → (s : ModemState) (c : Command) → field (after_refusal s c) ≡ field s
 refused_keeps field apart s (PinEnter pin) = apart s (after_wrong_pin s.lock)
-refused_keeps field apart s PinQuery = refl
-refused_keeps field apart s (RegReport n) = refl
-refused_keeps field apart s RegQuery = refl
-refused_keeps field apart s Signal = refl
-refused_keeps field apart s OperQuery = refl
-refused_keeps field apart s (OperChoose choice) = refl
-refused_keeps field apart s (ContextSet cid pdp apn) = refl
-refused_keeps field apart s ContextQuery = refl
-refused_keeps field apart s (AttachSet on) = refl
-refused_keeps field apart s AttachQuery = refl
-refused_keeps field apart s (ErrorMode n) = refl
-refused_keeps field apart s Multiplex = refl
+refused_keeps field apart s c = refl
 
 -- lines that don't set it leave it
 pub keeps : {A : Type 0} (field : ModemState → A) (sets : Command → Bool) → ((s : ModemState) (l : Lock) → field (record s { lock = l }) ≡ field s) → ((s : ModemState) (c : Command) → sets c ≡ false → field (after_command s c) ≡ field s) → (s : ModemState) (lines : List (List ℕ)) → s.words ≡ None → NoneSets sets lines → field (after_lines s lines) ≡ field s
@@ -83,33 +73,12 @@ keeps field sets apart carried s (line ∷ lines) bare none =
 -- a modem that is ready stays so
 obeyed_ready : (o : Option ℕ) (s : ModemState) (c : Command) → s.lock ≡ Ready → (obeyed_unless o s c).state.lock ≡ Ready
 obeyed_ready (Some number) s (PinEnter pin) ready = ap after_wrong_pin ready
-obeyed_ready (Some number) s PinQuery ready = ready
-obeyed_ready (Some number) s (RegReport n) ready = ready
-obeyed_ready (Some number) s RegQuery ready = ready
-obeyed_ready (Some number) s Signal ready = ready
-obeyed_ready (Some number) s OperQuery ready = ready
-obeyed_ready (Some number) s (OperChoose choice) ready = ready
-obeyed_ready (Some number) s (ContextSet cid pdp apn) ready = ready
-obeyed_ready (Some number) s ContextQuery ready = ready
-obeyed_ready (Some number) s (AttachSet on) ready = ready
-obeyed_ready (Some number) s AttachQuery ready = ready
-obeyed_ready (Some number) s (ErrorMode n) ready = ready
-obeyed_ready (Some number) s Multiplex ready = ready
+obeyed_ready (Some number) s c ready = ready
 obeyed_ready None s (PinEnter pin) ready = refl
-obeyed_ready None s PinQuery ready = ready
-obeyed_ready None s (RegReport n) ready = ready
-obeyed_ready None s RegQuery ready = ready
-obeyed_ready None s Signal ready = ready
-obeyed_ready None s OperQuery ready = ready
 obeyed_ready None s (OperChoose Automatic) ready = ready
 obeyed_ready None s (OperChoose Deregister) ready = ready
 obeyed_ready None s (OperChoose (Manual oper)) ready = ready
-obeyed_ready None s (ContextSet cid pdp apn) ready = ready
-obeyed_ready None s ContextQuery ready = ready
-obeyed_ready None s (AttachSet on) ready = ready
-obeyed_ready None s AttachQuery ready = ready
-obeyed_ready None s (ErrorMode n) ready = ready
-obeyed_ready None s Multiplex ready = ready
+obeyed_ready None s c ready = ready
 
 -- also after lines
 pub stays_ready : (s : ModemState) (lines : List (List ℕ)) → s.words ≡ None → s.lock ≡ Ready → (after_lines s lines).lock ≡ Ready

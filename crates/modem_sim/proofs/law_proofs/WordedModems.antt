@@ -4,56 +4,35 @@ use Rattle.std.specs.Fmt.{decimal, digits}
 use Rattle.std.proofs.Common.{ap, sym, ◌∙◌, append_assoc, append-nil}
 use Rattle.at_text.specs.declared.answer.AnswerLine.{AnswerLine}
 use Rattle.at_cmds.specs.declared.command.Command.{Command}
-use Rattle.at_cmds.specs.declared.command.Command.TheVariants.{PinQuery, PinEnter, RegReport, RegQuery, Signal, OperQuery, OperChoose, ContextSet, ContextQuery, AttachSet, AttachQuery, ErrorMode, Multiplex}
+use Rattle.at_cmds.specs.declared.command.Command.TheVariants.{PinEnter, OperQuery, OperChoose, ContextQuery, AttachSet}
 use Rattle.at_cmds.specs.declared.command.OperChoice.{OperChoice}
 use Rattle.at_cmds.specs.declared.command.OperChoice.TheVariants.{Automatic, Deregister, Manual}
 use Rattle.modem_sim.specs.declared.state.ModemState.{ModemState}
 use Rattle.modem_sim.specs.declared.state.Words.{Words}
 use Rattle.at_cmds.specs.Cme.{cme_text}
 use Rattle.modem_sim.specs.OwnAnswers.{said_later, said_now, waits_on}
-use Rattle.modem_sim.specs.Reading.{is_attention, command_of}
+use Rattle.at_cmds.specs.Values.{command_of}
+use Rattle.modem_sim.specs.Reading.{is_attention}
 use Rattle.modem_data.specs.Switching.{is_connect}
 use Rattle.modem_sim.specs.Steps.{after_command, after_refusal, line_of, obeyed, obeyed_unless, lock_error, refusal_of, settled, standard_step, Step, told_as, told_texts}
 use Rattle.modem_sim.specs.LineSteps.{announced, answered_by, divided_by, is_through, is_too_long, line_commands, nothing_ran, own_answer, Ran, ran_command, ran_text, radio_error, refusal_as, refused_by, step, through_by, with_late, worded_by}
 use Rattle.modem_sim.specs.StateTexts.{oper_text}
 use Rattle.modem_sim.specs.SettingTexts.{named_oper_text}
 use Rattle.modem_sim.specs.WordLaws.{AnswersAsStandard, IsAsStandard, bare}
-use Rattle.modem_sim.proofs.modem_steps.ReadCommands.{command_reads}
+use Rattle.at_cmds.proofs.command_texts.ReadCommands.{command_reads}
 use Rattle.modem_sim.proofs.modem_steps.StandardModems.{step_standard, step_worded}
 use Rattle.modem_sim.proofs.replies.RepliesReadBack.{command_is_no_attention}
 
 same_refusal : (s : ModemState) (c : Command) → refusal_of (bare s) c ≡ refusal_of s c
-same_refusal s PinQuery = refl
-same_refusal s (PinEnter pin) = refl
-same_refusal s (RegReport n) = refl
-same_refusal s RegQuery = refl
-same_refusal s Signal = refl
-same_refusal s OperQuery = refl
-same_refusal s (OperChoose choice) = refl
-same_refusal s (ContextSet cid pdp apn) = refl
-same_refusal s ContextQuery = refl
 same_refusal s (AttachSet true) = refl
 same_refusal s (AttachSet false) = refl
-same_refusal s AttachQuery = refl
-same_refusal s (ErrorMode n) = refl
-same_refusal s Multiplex = refl
+same_refusal s c = refl
 
 same_after : (s : ModemState) (c : Command) → bare (after_command s c) ≡ after_command (bare s) c
-same_after s PinQuery = refl
-same_after s (PinEnter pin) = refl
-same_after s (RegReport n) = refl
-same_after s RegQuery = refl
-same_after s Signal = refl
-same_after s OperQuery = refl
 same_after s (OperChoose Automatic) = refl
 same_after s (OperChoose Deregister) = refl
 same_after s (OperChoose (Manual oper)) = refl
-same_after s (ContextSet cid pdp apn) = refl
-same_after s ContextQuery = refl
-same_after s (AttachSet on) = refl
-same_after s AttachQuery = refl
-same_after s (ErrorMode n) = refl
-same_after s Multiplex = refl
+same_after s c = refl
 
 bare_settled_as : (attached : Bool) (s : ModemState) → bare (if attached then s else record s { active = [] }) ≡ bare s
 bare_settled_as true s = refl
@@ -64,19 +43,8 @@ bare_settled : (s : ModemState) → bare (settled s) ≡ bare s
 bare_settled s = bare_settled_as s.attached s
 
 same_refused : (s : ModemState) (c : Command) → bare (after_refusal s c) ≡ after_refusal (bare s) c
-same_refused s PinQuery = refl
 same_refused s (PinEnter pin) = refl
-same_refused s (RegReport n) = refl
-same_refused s RegQuery = refl
-same_refused s Signal = refl
-same_refused s OperQuery = refl
-same_refused s (OperChoose choice) = refl
-same_refused s (ContextSet cid pdp apn) = refl
-same_refused s ContextQuery = refl
-same_refused s (AttachSet on) = refl
-same_refused s AttachQuery = refl
-same_refused s (ErrorMode n) = refl
-same_refused s Multiplex = refl
+same_refused s c = refl
 
 -- the operator by its number is told as by the first table
 by_number : (choice : OperChoice) → named_oper_text 2 choice ≡ oper_text choice
@@ -94,33 +62,12 @@ refused_as : (w : Words) (s : ModemState) (c : Command) → w.functionality ≡ 
 refused_as w s (OperChoose Automatic) on = on_refusal w.functionality (lock_error s.lock) on
 refused_as w s (OperChoose (Manual oper)) on = on_refusal w.functionality (lock_error s.lock) on
 refused_as w s (OperChoose Deregister) on = refl
-refused_as w s PinQuery on = refl
-refused_as w s (PinEnter pin) on = refl
-refused_as w s (RegReport n) on = refl
-refused_as w s RegQuery on = refl
-refused_as w s Signal on = refl
-refused_as w s OperQuery on = refl
-refused_as w s (ContextSet cid pdp apn) on = refl
-refused_as w s ContextQuery on = refl
-refused_as w s (AttachSet on_it) on = refl
-refused_as w s AttachQuery on = refl
-refused_as w s (ErrorMode n) on = refl
-refused_as w s Multiplex on = refl
+refused_as w s c on = refl
 
 same_told : (w : Words) (s : ModemState) (c : Command) → w.oper_format ≡ 2 → c ≢ ContextQuery → told_as (Some w) s c ≡ told_texts (bare s) c
 same_told w s OperQuery is other = ap (λ n. named_oper_text n s.oper ∷ []) is ∙ ap (λ t. t ∷ []) (by_number s.oper)
-same_told w s PinQuery is other = refl
-same_told w s (PinEnter pin) is other = refl
-same_told w s (RegReport n) is other = refl
-same_told w s RegQuery is other = refl
-same_told w s Signal is other = refl
-same_told w s (OperChoose choice) is other = refl
-same_told w s (ContextSet cid pdp apn) is other = refl
 same_told w s ContextQuery is other = absurd (other refl)
-same_told w s (AttachSet on) is other = refl
-same_told w s AttachQuery is other = refl
-same_told w s (ErrorMode n) is other = refl
-same_told w s Multiplex is other = refl
+same_told w s c is other = refl
 
 -- what one command comes to, and what it comes to without words
 record IsSame (s : ModemState) (worded plain : Step) : Type 0 where
@@ -154,36 +101,14 @@ same_at (Some number) w s c some is other = record { answer = refl; state = same
 
 -- a command leaves the lines that wait
 carried_late : (s : ModemState) (c : Command) → (after_command s c).late ≡ s.late
-carried_late s PinQuery = refl
-carried_late s (PinEnter pin) = refl
-carried_late s (RegReport n) = refl
-carried_late s RegQuery = refl
-carried_late s Signal = refl
-carried_late s OperQuery = refl
 carried_late s (OperChoose Automatic) = refl
 carried_late s (OperChoose Deregister) = refl
 carried_late s (OperChoose (Manual oper)) = refl
-carried_late s (ContextSet cid pdp apn) = refl
-carried_late s ContextQuery = refl
-carried_late s (AttachSet on) = refl
-carried_late s AttachQuery = refl
-carried_late s (ErrorMode n) = refl
-carried_late s Multiplex = refl
+carried_late s c = refl
 
 refused_late : (s : ModemState) (c : Command) → (after_refusal s c).late ≡ s.late
-refused_late s PinQuery = refl
 refused_late s (PinEnter pin) = refl
-refused_late s (RegReport n) = refl
-refused_late s RegQuery = refl
-refused_late s Signal = refl
-refused_late s OperQuery = refl
-refused_late s (OperChoose choice) = refl
-refused_late s (ContextSet cid pdp apn) = refl
-refused_late s ContextQuery = refl
-refused_late s (AttachSet on) = refl
-refused_late s AttachQuery = refl
-refused_late s (ErrorMode n) = refl
-refused_late s Multiplex = refl
+refused_late s c = refl
 
 settled_late : (attached : Bool) (s : ModemState) → (if attached then s else record s { active = [] }).late ≡ s.late
 settled_late true s = refl

@@ -1,27 +1,28 @@
 -- What every state that a modem reaches has.
 use Rattle.std.specs.Prelude.{◌≡◌, ℕ, ◌<◌, ◌≤◌, ◌==◌, nat_lt, Bool, true, false, List, [], ◌∷◌, Option, Some, None, refl, if◌then◌else◌}
-use Rattle.std.specs.List.{list_all, list_any}
+use Rattle.std.specs.List.{list_any}
 use Rattle.std.proofs.Common.{arith, subst, sym}
 use Rattle.std.proofs.lemmas.Bool.Decides.{nat_tests}
 use Rattle.at_text.specs.Octets.{is_digit, is_quote}
 use Rattle.at_cmds.specs.declared.command.Command.{Command}
-use Rattle.at_cmds.specs.declared.command.Command.TheVariants.{PinQuery, PinEnter, RegReport, RegQuery, Signal, OperQuery, OperChoose, ContextSet, ContextQuery, AttachSet, AttachQuery, ErrorMode, Multiplex}
+use Rattle.at_cmds.specs.declared.command.Command.TheVariants.{PinEnter, RegReport, OperChoose, ContextSet, AttachSet, ErrorMode}
 use Rattle.at_cmds.specs.declared.command.OperChoice.{OperChoice}
 use Rattle.at_cmds.specs.declared.command.OperChoice.TheVariants.{Automatic, Deregister, Manual}
-use Rattle.at_cmds.specs.declared.error.CmdError.{CmdError}
-use Rattle.at_cmds.specs.declared.error.CmdError.TheVariants.{BadApn, BadNumber}
+use Rattle.at_cmds.specs.declared.error.CmdError.TheVariants.{BadNumber}
 use Rattle.at_cmds.specs.Forms.{is_oper, is_apn, is_in_apn, is_cid, is_mode}
 use Rattle.at_cmds.specs.Commands.{refused_for}
-use Rattle.at_cmds.proofs.command_texts.CommandLines.{both_true, run_is, cid_small}
+use Rattle.at_cmds.proofs.command_texts.CommandLines.{run_is, cid_small}
+use Rattle.at_cmds.proofs.command_texts.TextTable.{not_refused, none_quoted, digit_not_quote, apn_not_quote, context_may-at}
 use Rattle.modem_sim.specs.declared.contexts.PdpContext.{PdpContext}
 use Rattle.modem_sim.specs.declared.modem.ModemStart.{ModemStart}
 use Rattle.modem_sim.specs.declared.state.ModemState.{ModemState}
 use Rattle.modem_sim.specs.Contexts.{with_context}
-use Rattle.modem_sim.specs.Reading.{is_attention, command_of}
+use Rattle.at_cmds.specs.Values.{command_of}
+use Rattle.modem_sim.specs.Reading.{is_attention}
 use Rattle.modem_sim.specs.Steps.{Step, standard_step, started, step_by, refusal_of, obeyed_unless, after_refusal, after_command}
 use Rattle.modem_sim.specs.LineSteps.{step}
 use Rattle.modem_sim.specs.Laws.{IsStart, after_lines, reached}
-use Rattle.modem_sim.proofs.modem_steps.ReadCommands.{command_reads}
+use Rattle.at_cmds.proofs.command_texts.ReadCommands.{command_reads}
 use Rattle.modem_sim.proofs.modem_steps.StandardModems.{step_standard}
 
 -- a number stands for itself, a name is one and holds no quote
@@ -52,28 +53,6 @@ pub record IsKept (s : ModemState) : Type 0 where
 started_kept : (start : ModemStart) → IsStart start → IsKept (started start)
 started_kept start is = record { reports = omega arith; oper = tt; contexts = tt; rssi = is.rssi; ber = is.ber; words = refl }
 
-not_refused : (b : Bool) (why : CmdError) → (if b then None else Some why) ≡ None → b ≡ true
-not_refused true why is = refl
-not_refused false why is = cc
-
-none_quoted : (test : ℕ → Bool) → ((c : ℕ) → test c ≡ true → is_quote c ≡ false) → (text : List ℕ) → list_all test text ≡ true → list_any is_quote text ≡ false
-none_quoted test apart [] all = refl
-none_quoted test apart (c ∷ text) all =
-    let parts = both_true (test c) (list_all test text) all in
-    rw (apart c parts.0) (none_quoted test apart text parts.1)
-
-digit_not_quote : (c : ℕ) → is_digit c ≡ true → is_quote c ≡ false
-digit_not_quote c is = grind (arith, nat_tests)
-
-apn_not_quote : (c : ℕ) → is_in_apn c ≡ true → is_quote c ≡ false
-apn_not_quote c is = grind (arith, nat_tests)
-
-context_may : (number name : Bool) → (if name then (if number then None else Some BadNumber) else Some BadApn) ≡ None → (number ≡ true) × (name ≡ true)
-context_may true true may = (refl, refl)
-context_may false true may = cc
-context_may true false may = cc
-context_may false false may = cc
-
 new_kept : (new : PdpContext) → is_cid new.cid ≡ true → is_apn new.apn ≡ true → IsContextKept new
 new_kept new number name =
     let small = cid_small new.cid number in
@@ -92,12 +71,8 @@ mode_small : (n : ℕ) → is_mode n ≡ true → n < 256
 mode_small n is = let small : n ≤ 2 = grind (arith, nat_tests) in omega arith
 
 after_kept : (s : ModemState) (c : Command) → IsKept s → refused_for c ≡ None → IsKept (after_command s c)
-after_kept s PinQuery kept may = kept
 after_kept s (PinEnter pin) kept may = record { reports = kept.reports; oper = kept.oper; contexts = kept.contexts; rssi = kept.rssi; ber = kept.ber; words = kept.words }
 after_kept s (RegReport n) kept may = record { reports = mode_small n (not_refused (is_mode n) BadNumber may); oper = kept.oper; contexts = kept.contexts; rssi = kept.rssi; ber = kept.ber; words = kept.words }
-after_kept s RegQuery kept may = kept
-after_kept s Signal kept may = kept
-after_kept s OperQuery kept may = kept
 after_kept s (OperChoose Automatic) kept may = record { reports = kept.reports; oper = tt; contexts = kept.contexts; rssi = kept.rssi; ber = kept.ber; words = kept.words }
 after_kept s (OperChoose Deregister) kept may = record { reports = kept.reports; oper = tt; contexts = kept.contexts; rssi = kept.rssi; ber = kept.ber; words = kept.words }
 after_kept s (OperChoose (Manual oper)) kept may =
@@ -105,29 +80,16 @@ after_kept s (OperChoose (Manual oper)) kept may =
     let run = run_is is_digit 5 6 oper number in
     record { reports = kept.reports; oper = (none_quoted is_digit digit_not_quote oper run.all, number); contexts = kept.contexts; rssi = kept.rssi; ber = kept.ber; words = kept.words }
 after_kept s (ContextSet cid pdp apn) kept may =
-    let tests = context_may (is_cid cid) (is_apn apn) may in
+    let tests = context_may-at (is_cid cid) (is_apn apn) may in
     let new : PdpContext = record { cid = cid; pdp = pdp; apn = apn } in
     record { reports = kept.reports; oper = kept.oper; contexts = with_kept new s.contexts (new_kept new tests.0 tests.1) kept.contexts; rssi = kept.rssi; ber = kept.ber; words = kept.words }
-after_kept s ContextQuery kept may = kept
 after_kept s (AttachSet on) kept may = record { reports = kept.reports; oper = kept.oper; contexts = kept.contexts; rssi = kept.rssi; ber = kept.ber; words = kept.words }
-after_kept s AttachQuery kept may = kept
 after_kept s (ErrorMode n) kept may = record { reports = kept.reports; oper = kept.oper; contexts = kept.contexts; rssi = kept.rssi; ber = kept.ber; words = kept.words }
-after_kept s Multiplex kept may = kept
+after_kept s c kept may = kept
 
 refused_kept : (s : ModemState) (c : Command) → IsKept s → IsKept (after_refusal s c)
 refused_kept s (PinEnter pin) kept = record { reports = kept.reports; oper = kept.oper; contexts = kept.contexts; rssi = kept.rssi; ber = kept.ber; words = kept.words }
-refused_kept s PinQuery kept = kept
-refused_kept s (RegReport n) kept = kept
-refused_kept s RegQuery kept = kept
-refused_kept s Signal kept = kept
-refused_kept s OperQuery kept = kept
-refused_kept s (OperChoose choice) kept = kept
-refused_kept s (ContextSet cid pdp apn) kept = kept
-refused_kept s ContextQuery kept = kept
-refused_kept s (AttachSet on) kept = kept
-refused_kept s AttachQuery kept = kept
-refused_kept s (ErrorMode n) kept = kept
-refused_kept s Multiplex kept = kept
+refused_kept s c kept = kept
 
 obeyed_kept : (o : Option ℕ) (s : ModemState) (c : Command) → IsKept s → refused_for c ≡ None → IsKept (obeyed_unless o s c).state
 obeyed_kept None s c kept may = after_kept s c kept may

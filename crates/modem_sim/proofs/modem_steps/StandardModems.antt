@@ -1,51 +1,32 @@
 -- A modem without words stays one, and does what the first table says.
-use Rattle.std.specs.Prelude.{◌≡◌, ℕ, ◌&&◌, Bool, true, false, List, [], ◌∷◌, Option, Some, None, if◌then◌else◌, refl}
-use Rattle.std.proofs.Common.{ap, ◌∙◌}
+use Rattle.std.specs.Prelude.{◌≡◌, ◌⊎◌, ℕ, ◌==◌, ◌&&◌, Bool, true, false, List, [], ◌∷◌, Option, Some, None, if◌then◌else◌, refl}
+use Rattle.std.proofs.Common.{inl, inr, ap, sym, ◌∙◌, subst}
+use Rattle.std.proofs.lemmas.Bool.{and_parts, eqb-true, or_cases}
 use Rattle.at_cmds.specs.declared.command.Command.{Command}
-use Rattle.at_cmds.specs.declared.command.Command.TheVariants.{PinQuery, PinEnter, RegReport, RegQuery, Signal, OperQuery, OperChoose, ContextSet, ContextQuery, AttachSet, AttachQuery, ErrorMode, Multiplex}
+use Rattle.at_cmds.specs.declared.command.Command.TheVariants.{PinEnter, OperChoose}
 use Rattle.at_cmds.specs.declared.command.OperChoice.TheVariants.{Automatic, Deregister, Manual}
 use Rattle.modem_sim.specs.declared.modem.ModemStart.{ModemStart}
 use Rattle.modem_sim.specs.declared.own_answers.OwnLine.{OwnLine}
 use Rattle.modem_sim.specs.declared.state.ModemState.{ModemState}
 use Rattle.modem_sim.specs.declared.state.Words.{Words}
-use Rattle.modem_sim.specs.CommandLines.{begins_with_at}
-use Rattle.modem_sim.specs.Reading.{is_attention, command_of}
+use Rattle.at_cmds.specs.CommandLines.{begins_with_at, is_letter_a, is_letter_t}
+use Rattle.modem_data.specs.Switching.{is_connect}
+use Rattle.at_cmds.specs.Values.{command_of}
+use Rattle.modem_sim.specs.Reading.{is_attention}
 use Rattle.modem_sim.specs.Steps.{after_command, after_refusal, obeyed_unless, refusal_of, standard_step, started, step_by, Step}
 use Rattle.modem_sim.specs.LineSteps.{echoes_as, line_through, own_answer, own_said, own_step, repeats, step, step_as, with_late, worded_step}
 use Rattle.modem_sim.specs.Laws.{after_lines, reached}
 
 -- a command that is carried out leaves the words
 pub carried_words : (s : ModemState) (c : Command) → (after_command s c).words ≡ s.words
-carried_words s PinQuery = refl
-carried_words s (PinEnter pin) = refl
-carried_words s (RegReport n) = refl
-carried_words s RegQuery = refl
-carried_words s Signal = refl
-carried_words s OperQuery = refl
 carried_words s (OperChoose Automatic) = refl
 carried_words s (OperChoose Deregister) = refl
 carried_words s (OperChoose (Manual oper)) = refl
-carried_words s (ContextSet cid pdp apn) = refl
-carried_words s ContextQuery = refl
-carried_words s (AttachSet on) = refl
-carried_words s AttachQuery = refl
-carried_words s (ErrorMode n) = refl
-carried_words s Multiplex = refl
+carried_words s c = refl
 
 refused_words : (s : ModemState) (c : Command) → (after_refusal s c).words ≡ s.words
-refused_words s PinQuery = refl
 refused_words s (PinEnter pin) = refl
-refused_words s (RegReport n) = refl
-refused_words s RegQuery = refl
-refused_words s Signal = refl
-refused_words s OperQuery = refl
-refused_words s (OperChoose choice) = refl
-refused_words s (ContextSet cid pdp apn) = refl
-refused_words s ContextQuery = refl
-refused_words s (AttachSet on) = refl
-refused_words s AttachQuery = refl
-refused_words s (ErrorMode n) = refl
-refused_words s Multiplex = refl
+refused_words s c = refl
 
 -- so does one that may be refused
 pub obeyed_words : (o : Option ℕ) (s : ModemState) (c : Command) → (obeyed_unless o s c).state.words ≡ s.words
@@ -100,3 +81,16 @@ no_words start lines = lines_words (started start) lines refl
 -- it repeats lines where it is to always
 pub repeats_standard : (start : ModemStart) (lines : List (List ℕ)) (line : List ℕ) → repeats false (reached start lines) line ≡ false
 repeats_standard start lines line = ap (λ w. echoes_as w && begins_with_at line) (no_words start lines)
+
+first_letter : (a t : ℕ) (rest : List ℕ) → ((a == 65) ≡ true) ⊎ ((a == 97) ≡ true) → is_connect (a ∷ t ∷ rest) ≡ false
+first_letter a t rest (inl is) = subst (λ (n : ℕ). is_connect (n ∷ t ∷ rest) ≡ false) (sym (eqb-true a 65 is)) refl
+first_letter a t rest (inr is) = subst (λ (n : ℕ). is_connect (n ∷ t ∷ rest) ≡ false) (sym (eqb-true a 97 is)) refl
+
+no_connect : (line : List ℕ) → begins_with_at line ≡ true → is_connect line ≡ false
+no_connect [] is = cc
+no_connect (a ∷ []) is = cc
+no_connect (a ∷ t ∷ rest) is = first_letter a t rest (or_cases (a == 65) (a == 97) (and_parts (is_letter_a a) (is_letter_t t) is).0)
+
+-- a line that a modem repeats, though it isn't to repeat all, is no CONNECT
+pub repeats_no_connect : (s : ModemState) (line : List ℕ) → repeats false s line ≡ true → is_connect line ≡ false
+repeats_no_connect s line is = no_connect line (and_parts (echoes_as s.words) (begins_with_at line) is).1

@@ -9,7 +9,7 @@ use Rattle.at_text.specs.Dialects.{standard, is_solicited}
 use Rattle.at_text.specs.Finals.{is_final}
 use Rattle.at_text.specs.Octets.{is_digit, is_comma, is_quote, begins, skip_blanks, after_comma}
 use Rattle.at_cmds.specs.declared.command.Command.{Command}
-use Rattle.at_cmds.specs.declared.command.Command.TheVariants.{PinQuery, PinEnter, RegReport, RegQuery, Signal, OperQuery, OperChoose, ContextSet, ContextQuery, AttachSet, AttachQuery, ErrorMode, Multiplex}
+use Rattle.at_cmds.specs.declared.command.Command.TheVariants.{PinQuery, RegQuery, OperQuery, ContextQuery, AttachQuery}
 use Rattle.at_cmds.specs.declared.command.OperChoice.{OperChoice}
 use Rattle.at_cmds.specs.declared.command.OperChoice.TheVariants.{Automatic, Deregister, Manual}
 use Rattle.at_cmds.proofs.command_texts.CommandLines.{both_true}
@@ -17,7 +17,8 @@ use Rattle.modem_sim.specs.declared.contexts.PdpContext.{PdpContext}
 use Rattle.modem_sim.specs.declared.state.Lock.{Lock}
 use Rattle.modem_sim.specs.declared.state.Lock.TheVariants.{Ready, NeedPin, NeedPuk}
 use Rattle.modem_sim.specs.declared.state.ModemState.{ModemState}
-use Rattle.modem_sim.specs.Reading.{is_attention, command_of}
+use Rattle.at_cmds.specs.Values.{command_of}
+use Rattle.modem_sim.specs.Reading.{is_attention}
 use Rattle.modem_sim.specs.Steps.{Step, line_of, error_text, refusal_of, told_texts, good_answer, is_registered, obeyed_unless, step_by}
 use Rattle.modem_sim.specs.StateTexts.{pin_text, cell_text, reg_text, oper_text, context_text, attached_text}
 use Rattle.modem_sim.specs.Laws.{EndsOnce, AnswersWell, AnswersWellAlways, IsStart, reached}
@@ -59,18 +60,11 @@ attached_no_code false = refl
 -- what a command is told before OK holds no final code
 no_code : (s : ModemState) (c : Command) → list_any is_code (map line_of (told_texts s c)) ≡ false
 no_code s PinQuery = pin_no_code s.lock
-no_code s (PinEnter pin) = refl
-no_code s (RegReport n) = refl
 no_code s RegQuery = reg_no_code s.reports (is_registered s.lock s.oper)
-no_code s Signal = refl
 no_code s OperQuery = oper_no_code s.oper
-no_code s (OperChoose choice) = refl
-no_code s (ContextSet cid pdp apn) = refl
 no_code s ContextQuery = contexts_no_code s.contexts
-no_code s (AttachSet on) = refl
 no_code s AttachQuery = attached_no_code s.attached
-no_code s (ErrorMode n) = refl
-no_code s Multiplex = refl
+no_code s c = refl
 
 error_code_at : (plain numbered : Bool) (digits words : List ℕ) → is_final (if plain then codes "ERROR" else if numbered then codes "+CME ERROR: " ++ digits else codes "+CME ERROR: " ++ words) ≡ true
 error_code_at true numbered digits words = refl
@@ -140,18 +134,11 @@ one_asked text is = rw is refl
 
 told_asked : (s : ModemState) (c : Command) → IsKept s → list_all is_asked (good_answer (told_texts s c)) ≡ true
 told_asked s PinQuery kept = one_asked (pin_text s.lock) (pin_asked s.lock)
-told_asked s (PinEnter pin) kept = refl
-told_asked s (RegReport n) kept = refl
 told_asked s RegQuery kept = one_asked (reg_text s.reports (is_registered s.lock s.oper)) (reg_asked s.reports (is_registered s.lock s.oper) kept.reports)
-told_asked s Signal kept = refl
 told_asked s OperQuery kept = one_asked (oper_text s.oper) (oper_asked s.oper)
-told_asked s (OperChoose choice) kept = refl
-told_asked s (ContextSet cid pdp apn) kept = refl
 told_asked s ContextQuery kept = contexts_asked s.contexts
-told_asked s (AttachSet on) kept = refl
 told_asked s AttachQuery kept = one_asked (attached_text s.attached) (attached_asked s.attached)
-told_asked s (ErrorMode n) kept = refl
-told_asked s Multiplex kept = refl
+told_asked s c kept = refl
 
 code_asked : (text : List ℕ) → is_solicited standard text ≡ true → list_all is_asked (line_of text ∷ []) ≡ true
 code_asked text is = rw is refl

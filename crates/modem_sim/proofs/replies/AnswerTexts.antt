@@ -12,20 +12,21 @@ use Rattle.at_text.specs.Lines.{is_line_end, is_filled}
 use Rattle.at_text.specs.Octets.{is_digit}
 use Rattle.at_cmds.specs.Commands.{pdp_text}
 use Rattle.at_cmds.specs.declared.command.Command.{Command}
-use Rattle.at_cmds.specs.declared.command.Command.TheVariants.{PinQuery, PinEnter, RegReport, RegQuery, Signal, OperQuery, OperChoose, ContextSet, ContextQuery, AttachSet, AttachQuery, ErrorMode, Multiplex}
+use Rattle.at_cmds.specs.declared.command.Command.TheVariants.{PinQuery, RegQuery, Signal, OperQuery, ContextQuery, AttachQuery}
 use Rattle.at_cmds.specs.declared.command.OperChoice.{OperChoice}
 use Rattle.at_cmds.specs.declared.command.OperChoice.TheVariants.{Automatic, Deregister, Manual}
 use Rattle.at_cmds.specs.declared.command.Pdp.{Pdp}
 use Rattle.at_cmds.specs.declared.command.Pdp.TheVariants.{Ip, Ipv6, Ipv4v6}
 use Rattle.at_cmds.specs.Forms.{in_quotes, is_in_apn}
 use Rattle.at_cmds.proofs.values_read.ValueForms.{holds_of}
-use Rattle.at_cmds.proofs.command_texts.CommandLines.{all_append, all_weaker, both_true, run_is}
+use Rattle.at_cmds.proofs.command_texts.CommandLines.{all_append, all_weaker, apn_printable, both_true, digit_printable, run_is}
 use Rattle.modem_sim.specs.declared.contexts.PdpContext.{PdpContext}
 use Rattle.modem_sim.specs.declared.modem.ModemStart.{ModemStart}
 use Rattle.modem_sim.specs.declared.state.Lock.{Lock}
 use Rattle.modem_sim.specs.declared.state.Lock.TheVariants.{Ready, NeedPin, NeedPuk}
 use Rattle.modem_sim.specs.declared.state.ModemState.{ModemState}
-use Rattle.modem_sim.specs.Reading.{is_attention, command_of}
+use Rattle.at_cmds.specs.Values.{command_of}
+use Rattle.modem_sim.specs.Reading.{is_attention}
 use Rattle.modem_sim.specs.Steps.{Step, line_of, error_text, is_registered, refusal_of, told_texts, good_answer, obeyed_unless, step_by}
 use Rattle.modem_sim.specs.LineSteps.{step}
 use Rattle.modem_sim.specs.StateTexts.{pin_text, cell_text, reg_text, signal_text, oper_text, context_text, attached_text}
@@ -54,12 +55,6 @@ joined m n a b first second =
     let one = first.size in
     let two = second.size in
     record { all = all_append is_printable a b first.all second.all; size = omega arith }
-
-digit_printable : (c : ℕ) → is_digit c ≡ true → is_printable c ≡ true
-digit_printable c is = grind (arith, nat_tests)
-
-apn_printable : (c : ℕ) → is_in_apn c ≡ true → is_printable c ≡ true
-apn_printable c is = grind (arith, nat_tests)
 
 number : (n : ℕ) → n < 256 → IsPlain 3 (decimal n)
 number n small = record {
@@ -195,18 +190,12 @@ one_told text is = rw is refl
 
 texts_told : (s : ModemState) (c : Command) → IsKept s → list_all is_answer_line (good_answer (told_texts s c)) ≡ true
 texts_told s PinQuery kept = one_told (pin_text s.lock) (pin_told s.lock)
-texts_told s (PinEnter pin) kept = refl
-texts_told s (RegReport n) kept = refl
 texts_told s RegQuery kept = one_told (reg_text s.reports (is_registered s.lock s.oper)) (reg_told s.reports (is_registered s.lock s.oper) kept.reports)
 texts_told s Signal kept = one_told (signal_text s.rssi s.ber) (signal_told s.rssi s.ber kept.rssi kept.ber)
 texts_told s OperQuery kept = one_told (oper_text s.oper) (oper_told s.oper kept.oper)
-texts_told s (OperChoose choice) kept = refl
-texts_told s (ContextSet cid pdp apn) kept = refl
 texts_told s ContextQuery kept = contexts_told s.contexts kept.contexts
-texts_told s (AttachSet on) kept = refl
 texts_told s AttachQuery kept = one_told (attached_text s.attached) (attached_told s.attached)
-texts_told s (ErrorMode n) kept = refl
-texts_told s Multiplex kept = refl
+texts_told s c kept = refl
 
 code_told : (text : List ℕ) → Told text → list_all is_answer_line (line_of text ∷ []) ≡ true
 code_told text is = rw is refl

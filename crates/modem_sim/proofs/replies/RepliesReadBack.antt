@@ -1,29 +1,31 @@
 -- Answers are read back as the replies that the state says.
-use Rattle.std.specs.Prelude.{◌≡◌, ℕ, suc, ◌+◌, ◌-◌, ◌<◌, ◌==◌, Bool, true, false, List, [], ◌∷◌, ◌++◌, length, take, map, slice_get, Option, Some, None, IfSome, is_none, Ok, unwrap_or, refl, if◌then◌else◌, codes}
-use Rattle.std.specs.Char.{to_ascii_lowercase}
+use Rattle.std.specs.Prelude.{◌≡◌, ℕ, suc, ◌+◌, ◌-◌, ◌<◌, ◌==◌, Bool, true, false, List, [], ◌∷◌, ◌++◌, length, take, drop, map, find, slice_get, Option, Some, None, IfSome, is_none, Ok, unwrap_or, refl, if◌then◌else◌, codes}
 use Rattle.std.specs.Fmt.{decimal, digits}
 use Rattle.std.specs.List.{list_any, filter_map, position_from}
+use Rattle.std.specs.Option.{option_or}
+use Rattle.std.specs.Str.{bytes_eq}
 use Rattle.std.proofs.Common.{arith, sym, ap, ◌∙◌, append_assoc}
-use Rattle.std.proofs.lemmas.List.{length-append, take-map}
+use Rattle.std.proofs.lemmas.List.{length-append}
 use Rattle.at_text.specs.declared.answer.AnswerLine.{AnswerLine}
 use Rattle.at_text.specs.Octets.{is_quote}
 use Rattle.at_cmds.specs.declared.command.Command.{Command}
-use Rattle.at_cmds.specs.declared.command.Command.TheVariants.{PinQuery, PinEnter, RegReport, RegQuery, Signal, OperQuery, OperChoose, ContextSet, ContextQuery, AttachSet, AttachQuery, ErrorMode, Multiplex}
+use Rattle.at_cmds.specs.declared.command.Command.TheVariants.{PinQuery, PinEnter, RegQuery, Signal, OperQuery, OperChoose, ContextSet, ContextQuery, AttachSet, AttachQuery, Multiplex}
 use Rattle.at_cmds.specs.declared.command.OperChoice.{OperChoice}
 use Rattle.at_cmds.specs.declared.command.OperChoice.TheVariants.{Automatic, Deregister, Manual}
 use Rattle.at_cmds.specs.declared.error.ReplyFault.TheVariants.{Cme, PlainError}
 use Rattle.at_cmds.specs.Cme.{cme_text, cme_number}
 use Rattle.at_cmds.specs.declared.registration.Registration.{Registration}
 use Rattle.at_cmds.specs.declared.reply.Reply.TheVariants.{Pin, Reg, Signal as SignalReply, Oper, Contexts, Attached}
-use Rattle.at_cmds.specs.Params.{parameters, divided, number_of, unquoted, cell_code_of, hex_of}
-use Rattle.at_cmds.specs.Forms.{in_quotes}
+use Rattle.at_cmds.specs.Params.{◌>>=◌, parameters, divided, number_of, unquoted, cell_code_of, hex_of}
+use Rattle.at_cmds.specs.Forms.{in_quotes, lowered}
 use Rattle.at_cmds.specs.declared.command.Pdp.{Pdp}
 use Rattle.at_cmds.specs.declared.command.Pdp.TheVariants.{Ip, Ipv6, Ipv4v6}
-use Rattle.at_cmds.specs.Commands.{Name, Cpin, Creg, Csq, Cops, Cgdcont, Cgatt, Cmee, Cmux, head, name_of, pdp_text, IsTextOf}
+use Rattle.at_cmds.specs.Commands.{fixed_commands, fixed_text, pdp_text, IsTextOf}
 use Rattle.at_cmds.specs.Registrations.{registration_of}
 use Rattle.at_cmds.specs.Replies.{fault_of, fault_at, reply_of, reply_unless, formed, first_named, reg_of, signal_of, oper_of, oper_reply_of, context_of, contexts_of, contexts_unless, context_in, is_malformed_context}
+use Rattle.at_cmds.proofs.command_texts.TextTable.{pdp_not_quoted}
 use Rattle.at_cmds.proofs.values_read.ValueForms.{unquoted_back, holds_of, same_octets}
-use Rattle.at_cmds.proofs.command_texts.ReadAndWritten.{of_one}
+use Rattle.at_cmds.proofs.command_texts.ReadCommands.{read_only}
 use Rattle.at_cmds.proofs.values_read.Parameters.{divided-quoted, put_text-ended, parameters-quoted}
 use Rattle.modem_sim.specs.declared.state.Lock.{Lock}
 use Rattle.modem_sim.specs.declared.state.Lock.TheVariants.{Ready, NeedPin, NeedPuk}
@@ -31,12 +33,12 @@ use Rattle.modem_sim.specs.declared.state.ModemState.{ModemState}
 use Rattle.modem_sim.specs.Steps.{Step, standard_step, line_of, error_text, lock_error, pin_error, attach_error, is_registered, refusal_of, told_texts, good_answer, obeyed_unless}
 use Rattle.modem_sim.specs.LineSteps.{step}
 use Rattle.modem_sim.specs.StateTexts.{pin_text, cell_text, reg_text, signal_text, oper_text, context_text, attached_text}
-use Rattle.modem_sim.specs.Reading.{lowered, is_attention, command_of}
+use Rattle.at_cmds.specs.Values.{command_in, command_of, head, names}
+use Rattle.modem_sim.specs.Reading.{is_attention}
 use Rattle.modem_sim.specs.declared.contexts.PdpContext.{PdpContext}
 use Rattle.modem_sim.specs.Meanings.{told_reply, wanted_pin, registration, bare_registration, cell_registration, numbered, oper_reply, told_context, meant, meant_unless}
 use Rattle.modem_sim.proofs.modem_steps.AnswerLines.{registered_text}
 use Rattle.modem_sim.proofs.modem_steps.DecimalNumbers.{number_back, blank_number_back, blank_number_param, last_number_param}
-use Rattle.modem_sim.proofs.modem_steps.ReadCommands.{read_command}
 use Rattle.modem_sim.proofs.modem_steps.ReachedStates.{IsKept, IsContextKept, AreContextsKept, IsOperKept}
 use Rattle.at_cmds.proofs.values_read.ValueForms.{if_some}
 use Rattle.modem_sim.proofs.modem_steps.StandardModems.{step_standard}
@@ -101,11 +103,7 @@ attach_refusals P network None false is = network
 
 -- what holds of 3, 11, 12, 16 and 30 holds of the error with which a command is refused
 pub refusals_are : (P : ℕ → Type 0) → P 3 → P 11 → P 12 → P 16 → P 30 → (s : ModemState) (c : Command) → IfSome (refusal_of s c) P
-refusals_are P allowed pin puk wrong network s PinQuery = tt
 refusals_are P allowed pin puk wrong network s (PinEnter entered) = pin_refusals P allowed puk wrong s.lock entered
-refusals_are P allowed pin puk wrong network s (RegReport n) = tt
-refusals_are P allowed pin puk wrong network s RegQuery = tt
-refusals_are P allowed pin puk wrong network s Signal = tt
 refusals_are P allowed pin puk wrong network s OperQuery = lock_refusals P pin puk s.lock
 refusals_are P allowed pin puk wrong network s (OperChoose choice) = lock_refusals P pin puk s.lock
 refusals_are P allowed pin puk wrong network s (ContextSet cid pdp apn) = lock_refusals P pin puk s.lock
@@ -113,8 +111,8 @@ refusals_are P allowed pin puk wrong network s ContextQuery = lock_refusals P pi
 refusals_are P allowed pin puk wrong network s (AttachSet true) = attach_refusals P network (lock_error s.lock) (is_registered s.lock s.oper) (lock_refusals P pin puk s.lock)
 refusals_are P allowed pin puk wrong network s (AttachSet false) = lock_refusals P pin puk s.lock
 refusals_are P allowed pin puk wrong network s AttachQuery = lock_refusals P pin puk s.lock
-refusals_are P allowed pin puk wrong network s (ErrorMode n) = tt
 refusals_are P allowed pin puk wrong network s Multiplex = allowed
+refusals_are P allowed pin puk wrong network s c = tt
 
 -- each error that a command is refused with is read back
 refusals : (s : ModemState) (c : Command) → IfSome (refusal_of s c) IsReadBack
@@ -186,11 +184,6 @@ regroup h a b c d e = simp append_assoc
 context_text-split : (c : PdpContext) → context_text c ≡ codes "+CGDCONT: " ++ (decimal c.cid ++ 44 ∷ (in_quotes (pdp_text c.pdp) ++ 44 ∷ in_quotes c.apn))
 context_text-split c = regroup (codes "+CGDCONT: ") (decimal c.cid) (codes ",") (in_quotes (pdp_text c.pdp)) (codes ",") (in_quotes c.apn)
 
-pdp_not_quoted : (pdp : Pdp) → list_any is_quote (pdp_text pdp) ≡ false
-pdp_not_quoted Ip = refl
-pdp_not_quoted Ipv6 = refl
-pdp_not_quoted Ipv4v6 = refl
-
 pdp_params : (pdp : Pdp) (apn : List ℕ) → list_any is_quote apn ≡ false → divided false (in_quotes (pdp_text pdp) ++ 44 ∷ in_quotes apn) ≡ in_quotes (pdp_text pdp) ∷ in_quotes apn ∷ []
 pdp_params Ip apn plain = ap (λ x. in_quotes (codes "IP") ∷ x) (parameters-quoted apn plain)
 pdp_params Ipv6 apn plain = ap (λ x. in_quotes (codes "IPV6") ∷ x) (parameters-quoted apn plain)
@@ -243,18 +236,12 @@ contexts_told contexts kept =
 told_back : (s : ModemState) (c : Command) → IsKept s → reply_of c (good_answer (told_texts s c)) ≡ Ok (told_reply s c)
 unfolding fault_of
 told_back s PinQuery kept = pin_told s.lock
-told_back s (PinEnter pin) kept = refl
-told_back s (RegReport n) kept = refl
 told_back s RegQuery kept = reg_told s.reports (is_registered s.lock s.oper) kept.reports
 told_back s Signal kept = signal_told s.rssi s.ber kept.rssi kept.ber
 told_back s OperQuery kept = oper_told s.oper kept.oper
-told_back s (OperChoose choice) kept = refl
-told_back s (ContextSet cid pdp apn) kept = refl
 told_back s ContextQuery kept = contexts_told s.contexts kept.contexts
-told_back s (AttachSet on) kept = refl
 told_back s AttachQuery kept = attached_told s.attached
-told_back s (ErrorMode n) kept = refl
-told_back s Multiplex kept = refl
+told_back s c kept = refl
 
 answer_back : (o : Option ℕ) (s : ModemState) (c : Command) → refusal_of s c ≡ o → IsKept s → reply_of c (obeyed_unless o s c).answer ≡ meant_unless o s c
 answer_back None s c is kept = told_back s c kept
@@ -263,26 +250,22 @@ answer_back (Some number) s c is kept =
     ap (λ fault. reply_unless fault c (line_of (error_text s.errors number) ∷ [])) (back (s.errors == 0) (s.errors == 1))
 
 -- AT alone is no command
-at_head : (n : Name) → take (length (head n)) (codes "at") ≡ lowered (head n) → ⊥
-at_head Cpin is = cc
-at_head Creg is = cc
-at_head Csq is = cc
-at_head Cops is = cc
-at_head Cgdcont is = cc
-at_head Cgatt is = cc
-at_head Cmee is = cc
-at_head Cmux is = cc
+attention_none : (line : List ℕ) → lowered line ≡ codes "at" → command_of line ≡ None
+unfolding command_of
+attention_none line is =
+    ap (λ x. option_or (find (λ c. bytes_eq x (lowered (fixed_text c))) fixed_commands) (find (λ n. bytes_eq (take (length (head n)) x) (lowered (head n))) names >>= (λ n. command_in n (drop (length (head n)) line)))) is
 
 -- so a command's text isn't AT alone
 pub command_is_no_attention : (line : List ℕ) (c : Command) (at : Bool) → IsTextOf line c → is_attention line ≡ at → is_attention line ≡ false
 command_is_no_attention line c false is here = here
 command_is_no_attention line c true is here =
-    let n = length (head (name_of c)) in
-    absurd (at_head (name_of c) (ap (take n) (sym (same_octets (lowered line) (codes "at") here)) ∙ take-map to_ascii_lowercase n line ∙ is.begins))
+    let none = attention_none line (same_octets (lowered line) (codes "at") here) in
+    let some = read_only line c is in
+    cc
 
 -- the command of a line is that whose text it is
 pub command_is : (line : List ℕ) (c : Command) → IsTextOf line c → command_of line ≡ Some c
-command_is line c is = read_command line (Some c) (record { is = is; only = λ d other. of_one line d c other is })
+command_is line c is = read_only line c is
 
 -- what the modem answers to a command is read back as what its state says
 pub read_back : (s : ModemState) (line : List ℕ) (c : Command) → IsKept s → IsTextOf line c → reply_of c (step s line).answer ≡ meant s c

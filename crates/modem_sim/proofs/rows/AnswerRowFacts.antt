@@ -3,8 +3,7 @@ use Rattle.std.specs.Prelude.{refl}
 use Rattle.std.specs.Fmt.{digits}
 use Rattle.at_cmds.specs.Params.{parameters, unquoted}
 use Rattle.at_cmds.specs.Forms.{numeral_in}
-use Rattle.at_cmds.specs.Values.{command_in}
-use Rattle.modem_sim.specs.Reading.{command_of}
+use Rattle.at_cmds.specs.Values.{command_in, command_of}
 use Rattle.modem_sim.specs.Rows.{PinEntered, ThreeWrongPins, ErrorInWords, NetworkLeft}
 
 -- the PIN is entered, once wrong, then right

@@ -3,10 +3,9 @@ use Rattle.std.specs.Prelude.{refl}
 use Rattle.std.specs.Fmt.{digits}
 use Rattle.at_cmds.specs.Params.{parameters, unquoted}
 use Rattle.at_cmds.specs.Forms.{numeral_in}
-use Rattle.at_cmds.specs.Values.{command_in}
+use Rattle.at_cmds.specs.Values.{command_in, command_of}
 use Rattle.modem_sim.specs.CallRows.{CallsKeepQuiet}
-use Rattle.modem_sim.specs.CommandLines.{commands_in}
-use Rattle.modem_sim.specs.Reading.{command_of}
+use Rattle.at_cmds.specs.CommandLines.{commands_in}
 use Rattle.modem_sim.specs.LineSteps.{line_commands}
 use Rattle.modem_sim.specs.Words.{word_of}
 

@@ -5,7 +5,7 @@ use Rattle.std.specs.Fmt.{digits}
 use Rattle.std.proofs.Common.{◌∙◌, sym, subst}
 use Rattle.at_cmds.specs.Params.{parameters, unquoted}
 use Rattle.at_cmds.specs.Forms.{numeral_in}
-use Rattle.at_cmds.specs.Values.{command_in}
+use Rattle.at_cmds.specs.Values.{command_in, command_of}
 use Rattle.mux_frame.specs.Frames.{Frame}
 use Rattle.mux_frame.specs.declared.frame.Kind.{Kind}
 use Rattle.mux_frame.specs.declared.frame.Kind.TheVariants.{Sabm, Uih}
@@ -18,7 +18,6 @@ use Rattle.mux_station.specs.Offering.{offered, data_out}
 use Rattle.mux_station.specs.Sending.{StationSetting, queue, StationLawful as LawfulThere, StationComplete as CompleteThere, Sends, StationGated, after_act, is_sent, is_loss}
 use Rattle.mux_station.proofs.law_proofs.OwedFrames.{answers_keep}
 use Rattle.modem_sim.specs.declared.script.StepAct.TheVariants.{Announce, Flow, Hold, Disconnect, CloseDown}
-use Rattle.modem_sim.specs.Reading.{command_of}
 use Rattle.modem_sim.specs.Acts.{Act, End, setting, wire, after}
 use Rattle.modem_sim.specs.declared.script.Step.{Step}
 use Rattle.modem_sim.specs.Pieces.{framed, pieces_octets}

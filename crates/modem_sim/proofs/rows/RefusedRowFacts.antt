@@ -5,11 +5,10 @@ use Rattle.std.proofs.lemmas.Bool.Decides.{nat_tests}
 use Rattle.std.proofs.Common.{arith, ap, ◌∙◌, lit<}
 use Rattle.at_cmds.specs.Params.{parameters, unquoted}
 use Rattle.at_cmds.specs.Forms.{numeral_in}
-use Rattle.at_cmds.specs.Values.{command_in}
+use Rattle.at_cmds.specs.Values.{command_in, command_of}
 use Rattle.mux_frame.specs.Frames.{Frame}
 use Rattle.mux_station.specs.Written.{kind_place}
 use Rattle.mux_station.specs.Sending.{StationLawful as LawfulThere, StationComplete as CompleteThere, Sends}
-use Rattle.modem_sim.specs.Reading.{command_of}
 use Rattle.modem_sim.specs.HistoryRows.{plain, simulated, announcing, holding, asking, one, two, IsRefused, WrongAnswers, WrongSteps, WrongOtherwise, answered_twice, answered_unasked, modem_for_each, answered_early, repeated_unasked, not_repeated, unframed, answered_elsewhere, answered_held, answered_after_reopening, answered_while_stopped, done_early, done_twice, done_while_shut, announced_otherwise, closed_unasked, done_without_asking, marked_alone, offered_nothing, ticked, refused_opening, silent, without_msc}
 use Rattle.modem_sim.specs.declared.script.Step.{Step}
 use Rattle.modem_sim.specs.Acts.{after}

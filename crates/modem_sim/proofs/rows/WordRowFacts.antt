@@ -3,9 +3,8 @@ use Rattle.std.specs.Prelude.{refl}
 use Rattle.std.specs.Fmt.{digits}
 use Rattle.at_cmds.specs.Params.{parameters, unquoted}
 use Rattle.at_cmds.specs.Forms.{numeral_in}
-use Rattle.at_cmds.specs.Values.{command_in}
-use Rattle.modem_sim.specs.CommandLines.{commands_in}
-use Rattle.modem_sim.specs.Reading.{command_of}
+use Rattle.at_cmds.specs.Values.{command_in, command_of}
+use Rattle.at_cmds.specs.CommandLines.{commands_in}
 use Rattle.modem_sim.specs.LineSteps.{line_commands}
 use Rattle.modem_sim.specs.WordRows.{BareLines, CallsAnswered, CallsEndLines, CallsMisspelt, CallsRefused, ChangeAnnounced, ClientAsks, ClientBegins, ContextsActivated, ContextsRefused, DialledLine, DividedLine, EchoOff, OperatorNamed, OwnAnswered, OwnLater, PinAnnounced, PinLocks, PukEntered, QuotedLine, RadioOff, RepeatsCommands, ReportsAreHeld, TenWrongPuks, ValuesAsked}
 use Rattle.modem_sim.specs.Words.{word_of}

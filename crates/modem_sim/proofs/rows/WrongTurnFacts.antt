@@ -5,7 +5,7 @@ use Rattle.std.proofs.Common.{arith, sym, ap, ◌∙◌, lit<}
 use Rattle.std.proofs.lemmas.Bool.Decides.{nat_tests}
 use Rattle.at_cmds.specs.Params.{parameters, unquoted}
 use Rattle.at_cmds.specs.Forms.{numeral_in}
-use Rattle.at_cmds.specs.Values.{command_in}
+use Rattle.at_cmds.specs.Values.{command_in, command_of}
 use Rattle.mux_frame.specs.Frames.{Frame}
 use Rattle.mux_frame.specs.declared.frame.Kind.TheVariants.{Sabm, Ua}
 use Rattle.mux_station.specs.declared.role.Role.TheVariants.{Initiator}
@@ -14,7 +14,6 @@ use Rattle.mux_station.specs.Written.{written}
 use Rattle.modem_sim.specs.declared.script.StepAct.TheVariants.{Announce}
 use Rattle.modem_sim.specs.declared.sim.SimTurn.{SimTurn}
 use Rattle.modem_sim.specs.declared.sim.SimTurn.TheVariants.{Moved}
-use Rattle.modem_sim.specs.Reading.{command_of}
 use Rattle.modem_sim.specs.Acts.{Act, after}
 use Rattle.modem_sim.specs.Cores.{after_wire_act}
 use Rattle.modem_sim.specs.Sims.{SimState, is_ended}
@@ -22,7 +21,6 @@ use Rattle.modem_sim.specs.Turns.{DoesSteps, Exchange, GoesTurn, HandsOn, Means,
 use Rattle.modem_sim.specs.HistoryRows.{announcing, comes, one, plain, ready_one, sends, silent}
 use Rattle.modem_sim.specs.TurnRows.{CallsNothing, WrongCalls, WrongCounts, WrongTurns, unseen}
 use Rattle.modem_sim.proofs.rows.TurnRowFacts.{due_now, none_some, stays}
-use Rattle.modem_sim.specs.Reading.{command_of}
 
 no : {P : Type 0} → false ≡ true → P
 no is = cc

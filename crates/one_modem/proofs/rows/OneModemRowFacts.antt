@@ -8,7 +8,7 @@ use Rattle.std.proofs.lemmas.Bool.Decides.{nat_tests}
 use Rattle.std.proofs.lemmas.List.{take-append-drop}
 use Rattle.at_cmds.specs.Forms.{numeral_in}
 use Rattle.at_cmds.specs.Params.{parameters, unquoted}
-use Rattle.at_cmds.specs.Values.{command_in}
+use Rattle.at_cmds.specs.Values.{command_in, command_of}
 use Rattle.mux_frame.specs.Frames.{Frame}
 use Rattle.mux_frame.specs.declared.frame.Kind.TheVariants.{Sabm, Ua, Uih}
 use Rattle.mux_station.specs.Acts as station
@@ -41,7 +41,6 @@ use Rattle.modem_sim.specs.HistoryRows as sim
 use Rattle.modem_sim.specs.HistoryRows.{cr, step_at}
 use Rattle.modem_sim.specs.Laws.{after_lines}
 use Rattle.modem_sim.specs.Pieces.{framed}
-use Rattle.modem_sim.specs.Reading.{command_of}
 use Rattle.modem_sim.specs.Rows.{unlocked}
 use Rattle.modem_sim.specs.LineSteps.{step}
 use Rattle.modem_sim.proofs.rows.HistoryRowFacts.{GoodThere, called, due, end, gave, given_on, got, leaves, next_offer, offer, ready_one_allowed, ready_one_there}

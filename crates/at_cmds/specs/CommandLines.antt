@@ -1,8 +1,8 @@
 -- The commands of one line, as V.250 has them (5.2.1, 5.3.1, 5.4.1, 5.4.2, 6.3.1).
 use Rattle.std.specs.Prelude.{ℕ, ◌==◌, ◌&&◌, ◌||◌, not, nat_lt, Bool, true, false, List, [], ◌∷◌, ◌++◌, length, fold, Option, Some, None, if◌then◌else◌, codes}
 use Rattle.at_text.specs.Octets.{is_blank, is_digit, is_quote}
-use Rattle.modem_sim.specs.declared.command_lines.Place.{Place}
-use Rattle.modem_sim.specs.declared.command_lines.Place.TheVariants.{Before, Letter, Between, Basic, Ampersand, Extended, Quoted, Dialling}
+use Rattle.at_cmds.specs.declared.command_lines.Place.{Place}
+use Rattle.at_cmds.specs.declared.command_lines.Place.TheVariants.{Before, Letter, Between, Basic, Ampersand, Extended, Quoted, Dialling}
 
 -- 3B hex, between commands
 abbrev pub is_semicolon : ℕ → Bool

@@ -1,6 +1,6 @@
 //! The commands of one line (V.250, 5.2.1, 5.3.1, 5.4.1, 6.3.1).
 ghost use Rattle.std.specs.Prelude.{◌≡◌, IfOk, OnOk, option_map};
-ghost use Rattle.modem_sim.specs.CommandLines.{begins_at, begins_with_at, commands_in, commands_read, goes_on_at, is_before_at, is_letter_a, is_letter_d, is_letter_t, is_sign, nothing_read, place_after, place_behind, read_octet};
+ghost use Rattle.at_cmds.specs.CommandLines.{begins_at, begins_with_at, commands_in, commands_read, goes_on_at, is_before_at, is_letter_a, is_letter_d, is_letter_t, is_sign, nothing_read, place_after, place_behind, read_octet};
 ghost use Rattle.at_text.specs.Octets.{is_digit};
 
 use at_text::Text;
@@ -36,15 +36,15 @@ fn is_sign(octet: u8) -> bool
     octet != b' ' && octet != b';'
 }
 
-/// Whether it is an A.
-fn is_letter_a(octet: u8) -> bool
+/// Whether it is an A, in either case.
+pub fn is_letter_a(octet: u8) -> bool
     ensures { result ≡ is_letter_a octet }
 {
     octet == b'A' || octet == b'a'
 }
 
-/// Whether it is a T.
-fn is_letter_t(octet: u8) -> bool
+/// Whether it is a T, in either case.
+pub fn is_letter_t(octet: u8) -> bool
     ensures { result ≡ is_letter_t octet }
 {
     octet == b'T' || octet == b't'
@@ -137,7 +137,7 @@ struct CommandReader {
 }
 
 impl Model for CommandReader {
-    ghost use Rattle.modem_sim.specs.CommandLines.{Read};
+    ghost use Rattle.at_cmds.specs.CommandLines.{Read};
 
     ghost Value = { Read };
 
@@ -146,7 +146,7 @@ impl Model for CommandReader {
 
 impl CommandReader {
     ghost use Rattle.std.specs.Prelude.{◌++◌};
-    ghost use Rattle.modem_sim.specs.CommandLines.{one_begun};
+    ghost use Rattle.at_cmds.specs.CommandLines.{one_begun};
 
     fn new(alloc: Global) -> CommandReader
         ensures { result ≡ nothing_read }
