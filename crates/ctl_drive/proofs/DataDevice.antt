@@ -4,7 +4,7 @@ use Rattle.std.proofs.Common.{ap, arith, inl, suc, sym, subst, zero, ◌∙◌}
 use Rattle.std.specs.Option.{unwrap_or}
 use denote.Ref.{Bor}
 use Rattle.std.proofs.lemmas.List.{map-append, take_all, take_more}
-use Rattle.serial_line.specs.StreamLine.{StreamState, new_stream}
+use Rattle.serial_line.specs.StreamLine.{StreamState, new_stream, stream_view}
 use Rattle.serial_line.specs.declared.stream_line.ZeroRead.TheVariants.{Ended}
 use Rattle.mux_frame.specs.declared.dlci.Dlci.{Dlci}
 use Rattle.at_text.specs.Rules.{Rules}
@@ -20,7 +20,7 @@ use Rattle.ctl_drive.specs.DataDrive.{DroveData}
 use Rattle.ctl_drive.specs.DataDevice.{DroveFiles, DroveFilesCaptured, DroveFilesDevice, DroveFilesLine, EndsFilesByFault, EndsWith, IsFileOf, RanFiles, opened_file, opened_files}
 use Rattle.file_threads.specs.FileEnds.{FileEnd, IsWritten, SaysEnds, SaysFull, ends_texts, full_texts}
 use Rattle.ctl_drive.specs.FileEnds.{NamesEnds}
-use Rattle.ctl_drive.specs.OnDevice.{SaysEnd, SaysFaultIf, capture_path, device_look, driven_status, end_status}
+use Rattle.ctl_drive.specs.OnDevice.{SaysEnd, SaysFaultIf, capture_path, driven_status, end_status}
 use Rattle.file_threads.specs.Said.{AreSaid}
 use Rattle.ctl_drive.specs.Saying.{SaysFault, left_texts, path_for}
 use Rattle.ctl_drive.specs.declared.fault.DriveFault.{DriveFault}
@@ -78,11 +78,11 @@ same_numbers data_paths named files e n = ap dlcis e ∙ (both data_paths ∙ ap
 
 -- nothing has passed between them and their connections
 pub all_fresh : (data_paths : List DataPath) (files : List (FileState StreamState)) → files ≡ opened_files data_paths
-    → All (IsFresh (λ (l : StreamState). l.received) (λ (l : StreamState). l.sent)) files
+    → All (IsFresh stream_view) files
 all_fresh data_paths files e =
-    subst (λ (fs : List (FileState StreamState)). All (IsFresh (λ (l : StreamState). l.received) (λ (l : StreamState). l.sent)) fs) (sym e) (each data_paths)
+    subst (λ (fs : List (FileState StreamState)). All (IsFresh stream_view) fs) (sym e) (each data_paths)
   where
-    each : (ps : List DataPath) → All (IsFresh (λ (l : StreamState). l.received) (λ (l : StreamState). l.sent)) (opened_files ps)
+    each : (ps : List DataPath) → All (IsFresh stream_view) (opened_files ps)
     each [] i f there = absurd (omega (arith, there))
     each (p ∷ ps) zero f there = record { before_is = refl; none_waits = refl; none_read = refl; none_renewed = refl; none_dropped = refl }
     each (p ∷ ps) (suc i) f there = each ps i f (omega (arith, there))
@@ -104,15 +104,15 @@ names_ends input silent named said ends h k = record { named = named; names = h;
 -- ## A drive
 
 -- a drive without a fault, then a turn of each file, until all is written, and a word of each: the line was driven with files
-pub drives_files : {X Y : Type 0} (look : X → LineView) (r s : X → List ℕ) (g t : Y → List ℕ) (e k : Y → ℕ) (rules : Rules) (text : List ℕ) (n1 : ℕ) (line last : X) (files : List (FileState Y))
+pub drives_files : {X Y : Type 0} (look : X → LineView) (file_look : Y → LineView) (rules : Rules) (text : List ℕ) (n1 : ℕ) (line last : X) (files : List (FileState Y))
     (driven in_the_end : FiledState X Y) (input before after silent named said : Option (List ℕ)) (end : Option DriveFault) (was_bad : Bool) (left : Settled)
-    → DroveData look r s g t rules text n1 line files driven input before after silent named end was_bad left → end ≡ None → HadTurns r s g t e k driven in_the_end.files
-    → HasMoved r s g t in_the_end → All IsWritten in_the_end.files → in_the_end.line.line ≡ last → SaysEnds in_the_end.line.relay.pipes in_the_end.files named said
-    → DroveFiles look r s g t e k rules text n1 line last files input before after silent said was_bad left
-drives_files look r s g t e k rules text n1 line last files driven in_the_end input before after silent named said end was_bad left drove none turns moved written last_is ends = record {
+    → DroveData look file_look rules text n1 line files driven input before after silent named end was_bad left → end ≡ None → HadTurns look file_look driven in_the_end.files
+    → HasMoved look file_look in_the_end → All IsWritten in_the_end.files → in_the_end.line.line ≡ last → SaysEnds in_the_end.line.relay.pipes in_the_end.files named said
+    → DroveFiles look file_look rules text n1 line last files input before after silent said was_bad left
+drives_files look file_look rules text n1 line last files driven in_the_end input before after silent named said end was_bad left drove none turns moved written last_is ends = record {
   driven = driven;
   named = named;
-  drove = subst (λ (x : Option DriveFault). DroveData look r s g t rules text n1 line files driven input before after silent named x was_bad left) none drove;
+  drove = subst (λ (x : Option DriveFault). DroveData look file_look rules text n1 line files driven input before after silent named x was_bad left) none drove;
   in_the_end = in_the_end;
   turns = turns;
   moved = moved;
@@ -122,17 +122,17 @@ drives_files look r s g t e k rules text n1 line last files driven in_the_end in
 }
 
 -- the same through a capture that didn't fail
-pub files_captured : {X Y : Type 0} (look : X → LineView) (r s : X → List ℕ) (g t : Y → List ℕ) (e k : Y → ℕ) (rules : Rules) (text : List ℕ) (n1 : ℕ) (line : X) (first : CaptureState)
+pub files_captured : {X Y : Type 0} (look : X → LineView) (file_look : Y → LineView) (rules : Rules) (text : List ℕ) (n1 : ℕ) (line : X) (first : CaptureState)
     (wrapped last : CapturedState X) (files : List (FileState Y)) (input before after silent said : Option (List ℕ)) (end : Option DriveFault) (was_bad : Bool) (left : Settled) (failed : Bool)
-    → (end ≡ None → DroveFiles (λ (l : CapturedState X). look l.line) (λ (l : CapturedState X). r l.line) (λ (l : CapturedState X). s l.line) g t e k rules text n1 wrapped last files input before after silent said was_bad left)
-    → wrapped ≡ captured_line line first → (end ≡ None) × (failed ≡ false) → failed ≡ last.capture.failed → CapturesUnlessFailed (r last.line) (s last.line) last.capture
-    → DroveFilesCaptured look r s g t e k rules text n1 line files input before after silent said was_bad left
-files_captured {X} look r s g t e k rules text n1 line first wrapped last files input before after silent said end was_bad left failed drove same both failed_is captures = record {
+    → (end ≡ None → DroveFiles (λ (l : CapturedState X). look l.line) file_look rules text n1 wrapped last files input before after silent said was_bad left)
+    → wrapped ≡ captured_line line first → (end ≡ None) × (failed ≡ false) → failed ≡ last.capture.failed → CapturesUnlessFailed (look last.line).received (look last.line).sent last.capture
+    → DroveFilesCaptured look file_look rules text n1 line files input before after silent said was_bad left
+files_captured {X} look file_look rules text n1 line first wrapped last files input before after silent said end was_bad left failed drove same both failed_is captures = record {
   first = first;
   last = last;
   drove =
       subst
-      (λ (x : CapturedState X). DroveFiles (λ (l : CapturedState X). look l.line) (λ (l : CapturedState X). r l.line) (λ (l : CapturedState X). s l.line) g t e k rules text n1 x last files input before after silent said was_bad left)
+      (λ (x : CapturedState X). DroveFiles (λ (l : CapturedState X). look l.line) file_look rules text n1 x last files input before after silent said was_bad left)
       same (drove both.0);
   captures = captures (sym failed_is ∙ both.1);
 }
@@ -241,13 +241,13 @@ pub drove_files_device : (b c : Bool) (rules : Rules) (text : List ℕ) (n1 : �
     → b ≡ c → line ≡ new_stream None None Ended → files ≡ opened
     → IfOk r
     (λ d. d.fault ≡ None
-    → DroveFilesLine b device_look (λ (l : StreamState). l.received) (λ (l : StreamState). l.sent) (λ (l : StreamState). l.received) (λ (l : StreamState). l.sent) (λ (l : StreamState). l.empty_reads) (λ (l : StreamState). l.stalled_writes) rules text n1 line files None before after silent said d.was_bad d.left)
+    → DroveFilesLine b stream_view stream_view rules text n1 line files None before after silent said d.was_bad d.left)
     → IfOk r (λ d. d.fault ≡ None → DroveFilesDevice c rules text n1 opened before after silent said d.was_bad d.left)
 drove_files_device b c rules text n1 line files opened before after silent said r same is are h =
     subst
     (λ (x : Bool × StreamState × List (FileState StreamState)). IfOk r
     (λ d. d.fault ≡ None
-    → DroveFilesLine x.0 device_look (λ (l : StreamState). l.received) (λ (l : StreamState). l.sent) (λ (l : StreamState). l.received) (λ (l : StreamState). l.sent) (λ (l : StreamState). l.empty_reads) (λ (l : StreamState). l.stalled_writes) rules text n1 x.1 x.2 None before after silent said d.was_bad d.left))
+    → DroveFilesLine x.0 stream_view stream_view rules text n1 x.1 x.2 None before after silent said d.was_bad d.left))
     (λ i. (same i, is i, are i)) h
 
 -- the path of the capture is the one that is given, or empty

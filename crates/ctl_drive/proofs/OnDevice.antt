@@ -3,14 +3,14 @@ use Rattle.std.specs.Prelude.{◌≡◌, ◌≢◌, ◌==◌, ℕ, Bool, true, f
 use Rattle.std.specs.Option.{unwrap_or}
 use denote.Ref.{Bor}
 use Rattle.std.proofs.Common.{ap, arith, sym, subst, ◌∙◌}
-use Rattle.serial_line.specs.StreamLine.{StreamState, new_stream}
+use Rattle.serial_line.specs.StreamLine.{StreamState, new_stream, stream_view}
 use Rattle.serial_line.specs.declared.stream_line.ZeroRead.TheVariants.{Ended}
 use Rattle.at_text.specs.Rules.{Rules}
 use Rattle.modem_desk.specs.declared.settling.Settled.{Settled}
 use Rattle.modem_history.specs.Sessions.{LineView}
 use Rattle.mux_capture.specs.Passing.{CaptureState, HasCaptured}
 use Rattle.ctl_drive.specs.CapturedLine.{CapturedState, CapturesUnlessFailed, HasBegun, captured_line}
-use Rattle.ctl_drive.specs.OnDevice.{DroveCaptured, DroveDevice, DroveLine, DroveWell, EndsByFault, RanDevice, SaysDriven, SaysEnd, SaysFaultIf, capture_path, device_look, driven_status, end_status}
+use Rattle.ctl_drive.specs.OnDevice.{DroveCaptured, DroveDevice, DroveLine, DroveWell, EndsByFault, RanDevice, SaysDriven, SaysEnd, SaysFaultIf, capture_path, driven_status, end_status}
 use Rattle.ctl_drive.specs.Asking.{NamesRead}
 use Rattle.ctl_drive.specs.Running.{Drove}
 use Rattle.file_threads.specs.Said.{AreSaid}
@@ -52,10 +52,10 @@ well_captured {X} look rules text n1 line first wrapped last input before after 
 
 -- a line between two rings was driven
 pub drove_device : (b : Bool) (rules : Rules) (text : List ℕ) (n1 : ℕ) (line : StreamState) (before after silent said : Option (List ℕ)) (r : Result Driven DriveFault) → line ≡ new_stream None None Ended
-    → IfOk r (λ d. d.fault ≡ None → DroveLine b device_look rules text n1 line None before after silent said d.was_bad d.left)
+    → IfOk r (λ d. d.fault ≡ None → DroveLine b stream_view rules text n1 line None before after silent said d.was_bad d.left)
     → IfOk r (λ d. d.fault ≡ None → DroveDevice b rules text n1 before after silent said d.was_bad d.left)
 drove_device b rules text n1 line before after silent said r same h =
-    subst (λ (x : StreamState). IfOk r (λ d. d.fault ≡ None → DroveLine b device_look rules text n1 x None before after silent said d.was_bad d.left)) same h
+    subst (λ (x : StreamState). IfOk r (λ d. d.fault ≡ None → DroveLine b stream_view rules text n1 x None before after silent said d.was_bad d.left)) same h
 
 -- ## The status
 

@@ -1,6 +1,6 @@
 -- A drive on a device, with files beside connections that carry data.
 use Rattle.std.specs.Prelude.{◌≡◌, ◌<◌, ◌⊎◌, ℕ, Bool, true, false, List, All, Option, None, Result, Ok, Err, IfOk, length, map, slice_index_or}
-use Rattle.serial_line.specs.StreamLine.{StreamState, new_stream}
+use Rattle.serial_line.specs.StreamLine.{StreamState, new_stream, stream_view}
 use Rattle.serial_line.specs.declared.stream_line.ZeroRead.TheVariants.{Ended}
 use Rattle.at_text.specs.Rules.{Rules}
 use Rattle.modem_desk.specs.declared.settling.Settled.{Settled}
@@ -13,7 +13,6 @@ use Rattle.ctl_drive.specs.Asking.{NamesRead}
 use Rattle.ctl_drive.specs.CapturedLine.{CapturedState, CapturesAll, captured_line}
 use Rattle.ctl_drive.specs.DataDrive.{DroveData}
 use Rattle.file_threads.specs.FileEnds.{FileEnd, IsWritten, SaysEnds, ends_texts, full_texts}
-use Rattle.ctl_drive.specs.OnDevice.{device_look}
 use Rattle.file_threads.specs.Said.{AreSaid}
 use Rattle.ctl_drive.specs.Saying.{SaysFault, left_texts, path_for}
 use Rattle.ctl_drive.specs.declared.settings.DataPath.{DataPath}
@@ -22,51 +21,51 @@ use Rattle.ctl_drive.specs.declared.running.Driven.{Driven}
 
 -- A line with files was driven without a fault. Then each file had a turn, and all that was read of the connections went to the
 -- files; what came of each was said. In the end the line is as it is last.
-pub record DroveFiles {X Y : Type 0} (look : X → LineView) (received sent : X → List ℕ) (gave took : Y → List ℕ)
-    (empty_reads stalled_writes : Y → ℕ) (rules : Rules) (text : List ℕ) (n1 : ℕ) (line last : X) (files : List (FileState Y))
+pub record DroveFiles {X Y : Type 0} (look : X → LineView) (file_look : Y → LineView)
+    (rules : Rules) (text : List ℕ) (n1 : ℕ) (line last : X) (files : List (FileState Y))
     (input before after silent said : Option (List ℕ)) (was_bad : Bool) (left : Settled) : Type 0 where
   pub driven : FiledState X Y
   pub named : Option (List ℕ)
-  pub drove : DroveData look received sent gave took rules text n1 line files driven input before after silent named None was_bad left
+  pub drove : DroveData look file_look rules text n1 line files driven input before after silent named None was_bad left
   pub in_the_end : FiledState X Y
-  pub turns : HadTurns received sent gave took empty_reads stalled_writes driven in_the_end.files
-  pub moved : HasMoved received sent gave took in_the_end
+  pub turns : HadTurns look file_look driven in_the_end.files
+  pub moved : HasMoved look file_look in_the_end
   pub written : All IsWritten in_the_end.files
   pub last_is : in_the_end.line.line ≡ last
   pub ends_said : SaysEnds in_the_end.line.relay.pipes in_the_end.files named said
 
 -- on some line in the end
-pub record DroveFilesWell {X Y : Type 0} (look : X → LineView) (received sent : X → List ℕ) (gave took : Y → List ℕ)
-    (empty_reads stalled_writes : Y → ℕ) (rules : Rules) (text : List ℕ) (n1 : ℕ) (line : X) (files : List (FileState Y))
+pub record DroveFilesWell {X Y : Type 0} (look : X → LineView) (file_look : Y → LineView)
+    (rules : Rules) (text : List ℕ) (n1 : ℕ) (line : X) (files : List (FileState Y))
     (input before after silent said : Option (List ℕ)) (was_bad : Bool) (left : Settled) : Type 0 where
   pub last : X
-  pub drove : DroveFiles look received sent gave took empty_reads stalled_writes rules text n1 line last files input before after silent
+  pub drove : DroveFiles look file_look rules text n1 line last files input before after silent
       said was_bad left
 
 -- the same with a capture, which has a packet for each frame that all octets received, and all sent, are read as
-pub record DroveFilesCaptured {X Y : Type 0} (look : X → LineView) (received sent : X → List ℕ) (gave took : Y → List ℕ)
-    (empty_reads stalled_writes : Y → ℕ) (rules : Rules) (text : List ℕ) (n1 : ℕ) (line : X) (files : List (FileState Y))
+pub record DroveFilesCaptured {X Y : Type 0} (look : X → LineView) (file_look : Y → LineView)
+    (rules : Rules) (text : List ℕ) (n1 : ℕ) (line : X) (files : List (FileState Y))
     (input before after silent said : Option (List ℕ)) (was_bad : Bool) (left : Settled) : Type 0 where
   pub first : CaptureState
   pub last : CapturedState X
-  pub drove : DroveFiles (λ l. look l.line) (λ l. received l.line) (λ l. sent l.line) gave took empty_reads stalled_writes rules text n1
+  pub drove : DroveFiles (λ l. look l.line) file_look rules text n1
       (captured_line line first) last files input before after silent said was_bad left
-  pub captures : CapturesAll (received last.line) (sent last.line) last.capture
+  pub captures : CapturesAll (look last.line).received (look last.line).sent last.capture
 
 -- with a capture where one is wanted
-abbrev pub DroveFilesLine : (captures : Bool) {X Y : Type 0} (look : X → LineView) (received sent : X → List ℕ) (gave took : Y → List ℕ)
-    (empty_reads stalled_writes : Y → ℕ) (rules : Rules) (text : List ℕ) (n1 : ℕ) (line : X) (files : List (FileState Y))
+abbrev pub DroveFilesLine : (captures : Bool) {X Y : Type 0} (look : X → LineView) (file_look : Y → LineView)
+    (rules : Rules) (text : List ℕ) (n1 : ℕ) (line : X) (files : List (FileState Y))
     (input before after silent said : Option (List ℕ)) (was_bad : Bool) (left : Settled) → Type 0
-DroveFilesLine false look received sent gave took empty_reads stalled_writes rules text n1 line files input before after silent said was_bad left =
-    DroveFilesWell look received sent gave took empty_reads stalled_writes rules text n1 line files input before after silent said was_bad left
-DroveFilesLine true look received sent gave took empty_reads stalled_writes rules text n1 line files input before after silent said was_bad left =
-    DroveFilesCaptured look received sent gave took empty_reads stalled_writes rules text n1 line files input before after silent said was_bad left
+DroveFilesLine false look file_look rules text n1 line files input before after silent said was_bad left =
+    DroveFilesWell look file_look rules text n1 line files input before after silent said was_bad left
+DroveFilesLine true look file_look rules text n1 line files input before after silent said was_bad left =
+    DroveFilesCaptured look file_look rules text n1 line files input before after silent said was_bad left
 
 -- ## On a device
 
 -- a file beside a connection, between two rings, at which nothing has passed
 abbrev pub opened_file : DataPath → FileState StreamState
-opened_file p = new_file (λ (l : StreamState). l.received) (λ (l : StreamState). l.sent) p.dlci.number p.begin Close (new_stream None None Ended)
+opened_file p = new_file stream_view p.dlci.number p.begin Close (new_stream None None Ended)
 
 abbrev pub opened_files : List DataPath → List (FileState StreamState)
 opened_files data_paths = map (λ p. opened_file p) data_paths
@@ -75,8 +74,7 @@ opened_files data_paths = map (λ p. opened_file p) data_paths
 abbrev pub DroveFilesDevice : (captures : Bool) (rules : Rules) (text : List ℕ) (n1 : ℕ) (files : List (FileState StreamState))
     (before after silent said : Option (List ℕ)) (was_bad : Bool) (left : Settled) → Type 0
 DroveFilesDevice captures rules text n1 files before after silent said was_bad left =
-    DroveFilesLine captures device_look (λ (l : StreamState). l.received) (λ (l : StreamState). l.sent) (λ (l : StreamState). l.received)
-    (λ (l : StreamState). l.sent) (λ (l : StreamState). l.empty_reads) (λ (l : StreamState). l.stalled_writes) rules text n1
+    DroveFilesLine captures stream_view stream_view rules text n1
     (new_stream None None Ended) files None before after silent said was_bad left
 
 -- ## How it ends

@@ -4,31 +4,20 @@ use Rattle.at_text.specs.Rules.{Rules}
 use Rattle.modem_desk.specs.declared.settling.Settled.{Settled}
 use Rattle.modem_history.specs.Sessions.{LineView}
 use Rattle.modem_data.specs.Hops.{Relay}
-use Rattle.data_files.specs.Files.{BeginsFiled, FileState, FiledState, HasMoved}
+use Rattle.data_files.specs.Files.{BeginsFiled, FileState, FiledState, HasMoved, filed_view}
 use Rattle.ctl_drive.specs.Running.{DroveFrom, HasEntered}
 use Rattle.ctl_drive.specs.declared.fault.DriveFault.{DriveFault}
-
--- a line with files, as a driver sees it
-abbrev pub filed_look : {X Y : Type 0} → FiledState X Y → LineView
-filed_look l = record {
-  received = l.line.received;
-  sent = l.line.sent;
-  calls = l.line.calls;
-  failures = l.line.failures;
-  empty_reads = l.line.empty_reads;
-  stalled_writes = l.line.stalled_writes;
-}
 
 -- The multiplexer was entered by this text. Then the lane of each file began, and nothing else, and the line was driven so with
 -- them. In the end all that a file gave was given to its connection's lane, in order, but for what waits, and what was read of the
 -- lane went to the file, in order, but for what waits.
-pub record DroveData {X Y : Type 0} (look : X → LineView) (received sent : X → List ℕ) (gave took : Y → List ℕ) (rules : Rules)
+pub record DroveData {X Y : Type 0} (look : X → LineView) (file_look : Y → LineView) (rules : Rules)
     (text : List ℕ) (n1 : ℕ) (line : X) (files : List (FileState Y)) (last : FiledState X Y)
     (input before after silent said : Option (List ℕ)) (end : Option DriveFault) (was_bad : Bool) (left : Settled) : Type 0 where
   pub now : X
   pub entered : HasEntered n1 text (look line) (look now)
   pub relay : Relay
   pub first : FiledState X Y
-  pub begins : BeginsFiled received sent now relay n1 files first
-  pub from : DroveFrom filed_look rules n1 first last input before after silent said end was_bad left
-  pub moved : HasMoved received sent gave took last
+  pub begins : BeginsFiled look now relay n1 files first
+  pub from : DroveFrom filed_view rules n1 first last input before after silent said end was_bad left
+  pub moved : HasMoved look file_look last

@@ -1,7 +1,7 @@
 -- A drive on a device.
 use Rattle.std.specs.Prelude.{◌≡◌, ℕ, Bool, true, false, List, [], length, Option, None, Some, Result, Ok, Err}
 use denote.Ref.{Bor}
-use Rattle.serial_line.specs.StreamLine.{StreamState, new_stream}
+use Rattle.serial_line.specs.StreamLine.{StreamState, new_stream, stream_view}
 use Rattle.serial_line.specs.declared.stream_line.ZeroRead.TheVariants.{Ended}
 use Rattle.at_text.specs.Rules.{Rules}
 use Rattle.modem_desk.specs.declared.settling.Settled.{Settled}
@@ -37,24 +37,13 @@ DroveLine false look rules text n1 line input before after silent said was_bad l
 DroveLine true look rules text n1 line input before after silent said was_bad left =
     DroveCaptured look rules text n1 line input before after silent said was_bad left
 
--- a line of a device, by its own words
-abbrev pub device_look : StreamState → LineView
-device_look l = record {
-  received = l.received;
-  sent = l.sent;
-  calls = l.calls;
-  failures = l.failures;
-  empty_reads = l.empty_reads;
-  stalled_writes = l.stalled_writes;
-}
-
 -- A line between two rings, on which nothing had happened, was driven so without a fault, with the lines of an input that came
 -- through a ring, and with a capture where one is wanted. What the device behind the rings did, and what the input had, is nobody's
 -- to say.
 abbrev pub DroveDevice : (captures : Bool) (rules : Rules) (text : List ℕ) (n1 : ℕ) (before after silent said : Option (List ℕ))
     (was_bad : Bool) (left : Settled) → Type 0
 DroveDevice captures rules text n1 before after silent said was_bad left =
-    DroveLine captures device_look rules text n1 (new_stream None None Ended) None before after silent said was_bad left
+    DroveLine captures stream_view rules text n1 (new_stream None None Ended) None before after silent said was_bad left
 
 -- ## How it ends
 

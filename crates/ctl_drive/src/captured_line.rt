@@ -24,13 +24,13 @@ impl<L: SerialLine, K: Clock, C: Write> Model for CapturedLine<L, K, C> {
 
     ghost view = { λ l. record { line = l.line; capture = l.capture } };
 
-    ghost invariant = { λ l. CapturesUnlessFailed (L.received l.line) (L.sent l.line) l.capture };
+    ghost invariant = { λ l. CapturesUnlessFailed (L.seen l.line).received (L.seen l.line).sent l.capture };
 }
 
 impl<L: SerialLine, K: Clock, C: Write> CapturedLine<L, K, C> {
     /// This line, on which nothing has passed, with this capture, which has begun.
     pub fn new(line: L, clock: K, capture: Capture<C>) -> CapturedLine<L, K, C>
-        requires fresh { (L.received line ≡ []) × (L.sent line ≡ []) }
+        requires fresh { ((L.seen line).received ≡ []) × ((L.seen line).sent ≡ []) }
         requires begun { HasBegun capture }
         ensures { result ≡ captured_line line capture }
     {
@@ -44,24 +44,14 @@ impl<L: SerialLine, K: Clock, C: Write> CapturedLine<L, K, C> {
     /// Whether the capture has failed.
     pub fn has_failed(&self) -> bool
         ensures failed { result ≡ self.now.capture.failed }
-        ensures captures { CapturesUnlessFailed (L.received self.now.line) (L.sent self.now.line) self.now.capture }
+        ensures captures { CapturesUnlessFailed (L.seen self.now.line).received (L.seen self.now.line).sent self.now.capture }
     {
         self.capture.has_failed()
     }
 }
 
 impl<L: SerialLine, K: Clock, C: Write> SerialLine for CapturedLine<L, K, C> {
-    ghost received = { λ l. L.received l.line };
-
-    ghost sent = { λ l. L.sent l.line };
-
-    ghost calls = { λ l. L.calls l.line };
-
-    ghost failures = { λ l. L.failures l.line };
-
-    ghost empty_reads = { λ l. L.empty_reads l.line };
-
-    ghost stalled_writes = { λ l. L.stalled_writes l.line };
+    ghost seen = { λ l. L.seen l.line };
 
     ghost other_side = { λ l. L.other_side l.line };
 

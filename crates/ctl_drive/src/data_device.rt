@@ -2,7 +2,6 @@
 ghost use Rattle.std.specs.Prelude.{◌≡◌, ◌≢◌, ◌≤◌, ◌==◌, [], All, IfOk, IfSome, None, is_some, map, true};
 ghost use Rattle.data_files.specs.Files.{IsFresh, dlcis};
 ghost use Rattle.modem_data.specs.PipeSets.{numbers};
-ghost use Rattle.modem_driver.specs.SessionStates.{line_by};
 ghost use Rattle.ctl_drive.specs.CapturedLine.{HasBegun};
 ghost use Rattle.ctl_drive.specs.DataDevice.{DroveFiles, DroveFilesCaptured, DroveFilesDevice, DroveFilesLine, DroveFilesWell, EndsFilesByFault, EndsWith, RanFiles, opened_files};
 ghost use Rattle.ctl_drive.specs.Entry.{entry_for, given_text};
@@ -75,11 +74,9 @@ where
     I: Read + Drop,
     W: Write,
     E: Write,
-    requires fresh { All (IsFresh P.received P.sent) files.items }
+    requires fresh { All (IsFresh P.seen) files.items }
     requires named { dlcis files.items ≡ numbers settings.data.now }
-    ensures drove { IfOk result (λ r. r.1.fault ≡ None
-        → DroveFiles (line_by L.received L.sent L.calls L.failures L.empty_reads L.stalled_writes)
-        L.received L.sent P.received P.sent P.empty_reads P.stalled_writes settings.entry.dialect.now
+    ensures drove { IfOk result (λ r. r.1.fault ≡ None → DroveFiles L.seen P.seen settings.entry.dialect.now
         (entry_for (given_text settings.entry.entry) settings.entry.n1) settings.entry.n1 line r.0 files.items (I.remaining input)
         (W.contents output.old) (W.contents output.new) (E.contents faults.old) (E.contents faults.new) r.1.was_bad r.1.left) }
     ensures names { NamesEnds (I.remaining input) (E.contents faults.old) (E.contents faults.new) }
@@ -127,11 +124,9 @@ where
     I: Read + Drop,
     W: Write,
     E: Write,
-    requires fresh { All (IsFresh P.received P.sent) files.items }
+    requires fresh { All (IsFresh P.seen) files.items }
     requires named { dlcis files.items ≡ numbers settings.data.now }
-    ensures drove { IfOk result (λ d. d.fault ≡ None
-        → DroveFilesWell (line_by L.received L.sent L.calls L.failures L.empty_reads L.stalled_writes)
-        L.received L.sent P.received P.sent P.empty_reads P.stalled_writes settings.entry.dialect.now
+    ensures drove { IfOk result (λ d. d.fault ≡ None → DroveFilesWell L.seen P.seen settings.entry.dialect.now
         (entry_for (given_text settings.entry.entry) settings.entry.n1) settings.entry.n1 line files.items (I.remaining input)
         (W.contents output.old) (W.contents output.new) (E.contents faults.old) (E.contents faults.new) d.was_bad d.left) }
     ensures names { NamesEnds (I.remaining input) (E.contents faults.old) (E.contents faults.new) }
@@ -164,13 +159,11 @@ where
     I: Read + Drop,
     W: Write,
     E: Write,
-    requires fresh { All (IsFresh P.received P.sent) files.items }
+    requires fresh { All (IsFresh P.seen) files.items }
     requires named { dlcis files.items ≡ numbers settings.data.now }
-    requires none { (L.received line ≡ []) × (L.sent line ≡ []) }
+    requires none { ((L.seen line).received ≡ []) × ((L.seen line).sent ≡ []) }
     requires begun { HasBegun capture }
-    ensures drove { IfOk result (λ d. d.fault ≡ None
-        → DroveFilesCaptured (line_by L.received L.sent L.calls L.failures L.empty_reads L.stalled_writes)
-        L.received L.sent P.received P.sent P.empty_reads P.stalled_writes settings.entry.dialect.now
+    ensures drove { IfOk result (λ d. d.fault ≡ None → DroveFilesCaptured L.seen P.seen settings.entry.dialect.now
         (entry_for (given_text settings.entry.entry) settings.entry.n1) settings.entry.n1 line files.items (I.remaining input)
         (W.contents output.old) (W.contents output.new) (E.contents faults.old) (E.contents faults.new) d.was_bad d.left) }
     ensures names { NamesEnds (I.remaining input) (E.contents faults.old) (E.contents faults.new) }
@@ -203,13 +196,11 @@ where
     I: Read + Drop,
     W: Write,
     E: Write,
-    requires fresh { All (IsFresh P.received P.sent) files.items }
+    requires fresh { All (IsFresh P.seen) files.items }
     requires named { dlcis files.items ≡ numbers settings.data.now }
-    requires none { (L.received line ≡ []) × (L.sent line ≡ []) }
+    requires none { ((L.seen line).received ≡ []) × ((L.seen line).sent ≡ []) }
     requires begun { IfSome capture HasBegun }
-    ensures drove { IfOk result (λ d. d.fault ≡ None → DroveFilesLine (is_some capture)
-        (line_by L.received L.sent L.calls L.failures L.empty_reads L.stalled_writes)
-        L.received L.sent P.received P.sent P.empty_reads P.stalled_writes settings.entry.dialect.now
+    ensures drove { IfOk result (λ d. d.fault ≡ None → DroveFilesLine (is_some capture) L.seen P.seen settings.entry.dialect.now
         (entry_for (given_text settings.entry.entry) settings.entry.n1) settings.entry.n1 line files.items (I.remaining input)
         (W.contents output.old) (W.contents output.new) (E.contents faults.old) (E.contents faults.new) d.was_bad d.left) }
     ensures names { NamesEnds (I.remaining input) (E.contents faults.old) (E.contents faults.new) }

@@ -2,7 +2,6 @@
 ghost use Rattle.std.specs.Prelude.{◌≡◌, All, IfOk};
 ghost use Rattle.modem_data.specs.Hops.{BeginsRelay};
 ghost use Rattle.modem_data.specs.PipeSets.{numbers};
-ghost use Rattle.modem_driver.specs.SessionStates.{line_by};
 ghost use Rattle.data_files.specs.Files.{BeginsFiled, IsFresh, dlcis};
 ghost use Rattle.ctl_drive.specs.Asking.{NamesRead};
 ghost use Rattle.ctl_drive.specs.DataDrive.{DroveData};
@@ -47,8 +46,8 @@ fn with_files<L: SerialLine + Drop, P: SerialLine + Drop>(
     files: Vec<DataFile<P>>,
 ) -> Result<FiledLine<L, P>, DriveFault>
     requires relay { BeginsRelay n1 (dlcis files.items) relay }
-    requires fresh { All (IsFresh P.received P.sent) files.items }
-    ensures { IfOk result (BeginsFiled L.received L.sent line relay n1 files.items) }
+    requires fresh { All (IsFresh P.seen) files.items }
+    ensures { IfOk result (BeginsFiled L.seen line relay n1 files.items) }
 {
     match FiledLine::new(alloc, line, relay, n1, files) {
         Ok(line) => Ok(line),
@@ -82,10 +81,9 @@ where
     I: Read + Drop,
     W: Write,
     E: Write,
-    requires fresh { All (IsFresh P.received P.sent) files.items }
+    requires fresh { All (IsFresh P.seen) files.items }
     requires named { dlcis files.items ≡ numbers settings.data.now }
-    ensures drove { IfOk result (λ r. DroveData (line_by L.received L.sent L.calls L.failures L.empty_reads L.stalled_writes)
-        L.received L.sent P.received P.sent settings.entry.dialect.now
+    ensures drove { IfOk result (λ r. DroveData L.seen P.seen settings.entry.dialect.now
         (entry_for (given_text settings.entry.entry) settings.entry.n1) settings.entry.n1 line files.items r.0
         (I.remaining input) (W.contents output.old) (W.contents output.new) (E.contents faults.old) (E.contents faults.new)
         r.1.fault r.1.was_bad r.1.left) }

@@ -1,7 +1,6 @@
 //! The loop of a drive: it asks, polls the session, prints what came, and waits.
 ghost use Rattle.std.specs.Prelude.{◌≡◌, ◌<◌, true, false, IfOk, OnErr, OnOk, Option, None, Some};
 ghost use Rattle.std.specs.Duration.{as_nanos};
-ghost use Rattle.modem_driver.specs.SessionStates.{line_by};
 ghost use Rattle.ctl_drive.specs.Asking.{AsksOn, StopsOn};
 ghost use Rattle.ctl_drive.specs.Driving.{DrivesOn, IsDue, IsNotDue};
 ghost use Rattle.ctl_drive.specs.Ending.{HasEndedBy, IsToldFault, KeepsGiven, SaysBy};
@@ -93,7 +92,7 @@ impl Ticks {
 /// A tick where one is due, unless it is refused.
 #[tactic(auto, using(crate::proofs::Drives::drives_none, crate::proofs::Drives::ticked))]
 fn tick_if<L: SerialLine, R: Wait + Drop>(session: &mut Session<L, R>, due: bool)
-    ensures { DrivesOn (line_by L.received L.sent L.calls L.failures L.empty_reads L.stalled_writes) session.old session.new }
+    ensures { DrivesOn L.seen session.old session.new }
 {
     if due {
         let _ = session.tick();
@@ -109,7 +108,7 @@ fn poll<L: SerialLine, R: Wait + Drop, K: Clock>(
 ) -> Progress
     requires { 0 < as_nanos ticks.old.period }
     ensures period { ticks.new.period ≡ ticks.old.period }
-    ensures drives { DrivesOn (line_by L.received L.sent L.calls L.failures L.empty_reads L.stalled_writes) session.old session.new }
+    ensures drives { DrivesOn L.seen session.old session.new }
     ensures ends { KeepsGiven result session.new.machine.course }
 {
     let wanted = session.wants_tick();
@@ -230,7 +229,7 @@ fn round<L: SerialLine, R: Wait + Clock + Drop, I: Read, W: Write, E: Write>(
 ) -> Result<Went, DriveFault>
     requires { 0 < as_nanos ticks.old.period }
     ensures period { ticks.new.period ≡ ticks.old.period }
-    ensures drives { DrivesOn (line_by L.received L.sent L.calls L.failures L.empty_reads L.stalled_writes) session.old session.new }
+    ensures drives { DrivesOn L.seen session.old session.new }
     ensures goes { OnOk result (GoOn (W.contents output.old) (W.contents output.new) users.old users.new) }
     ensures asks { OnOk result (AsksOn plan.old plan.new users.old.caller.submitted users.new.caller.submitted
         (E.contents faults.old) (E.contents faults.new)) }
@@ -269,7 +268,7 @@ pub fn drive_on<L: SerialLine, R: Wait + Clock + Drop, I: Read, W: Write, E: Wri
     faults: &mut E,
 ) -> Result<Option<DriveFault>, DriveFault>
     requires { 0 < as_nanos ticks.old.period }
-    ensures drives { DrivesOn (line_by L.received L.sent L.calls L.failures L.empty_reads L.stalled_writes) session.old session.new }
+    ensures drives { DrivesOn L.seen session.old session.new }
     ensures goes { OnOk result (GoOn (W.contents output.old) (W.contents output.new) users.old users.new) }
     ensures asks { OnOk result (AsksOn plan.old plan.new users.old.caller.submitted users.new.caller.submitted
         (E.contents faults.old) (E.contents faults.new)) }

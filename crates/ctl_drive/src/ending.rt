@@ -2,7 +2,6 @@
 ghost use Rattle.std.specs.Prelude.{◌≡◌, [], ◌∷◌, IfOk, IsOk, OnOk, map, vec_items};
 ghost use Rattle.modem_desk.specs.Books.{DeskBooks};
 ghost use Rattle.modem_desk.specs.Ends.{AreSubscribed, IsWhole, place_of, subscription_of};
-ghost use Rattle.modem_driver.specs.SessionStates.{line_by};
 ghost use Rattle.modem_driver.specs.TurningAway.{offline_from};
 ghost use Rattle.ctl_drive.specs.Ending.{AllHeard, EndsDrive, NoneWaits, TurnsLeft, TurnsSome, all_heard};
 ghost use Rattle.ctl_drive.specs.Showing.{GoOn};
@@ -171,7 +170,7 @@ pub fn end_drive<L: SerialLine + Drop, R: Wait + Clock + Drop, I: Read, W: Write
 ) -> Result<(L, Settled), DriveFault>
     requires whole { IsWhole session.driver.desk (map place_of (users.caller ∷ [])) }
     requires subscribed { AreSubscribed session.driver.desk (map subscription_of users.listeners.items) }
-    ensures ends { IfOk result (λ r. EndsDrive (line_by L.received L.sent L.calls L.failures L.empty_reads L.stalled_writes)
+    ensures ends { IfOk result (λ r. EndsDrive L.seen
         session users (W.contents output.old) (W.contents output.new) r.1) }
     ensures line { IfOk result (λ r. r.0 ≡ session.line) }
     ensures same { plan.new ≡ plan.old }

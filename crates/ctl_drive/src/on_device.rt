@@ -1,6 +1,5 @@
 //! A drive on a device, from its path to its status.
 ghost use Rattle.std.specs.Prelude.{◌≡◌, ◌≢◌, ◌≤◌, ◌==◌, [], false, IfOk, IfSome, None, is_some};
-ghost use Rattle.modem_driver.specs.SessionStates.{line_by};
 ghost use Rattle.ctl_drive.specs.Asking.{NamesRead};
 ghost use Rattle.serial_line.specs.StreamLine.{new_stream};
 ghost use Rattle.serial_line.specs.declared.stream_line.ZeroRead.TheVariants.{Ended};
@@ -94,8 +93,7 @@ where
     I: Read + Drop,
     W: Write,
     E: Write,
-    ensures drove { IfOk result (λ d. d.fault ≡ None
-        → DroveWell (line_by L.received L.sent L.calls L.failures L.empty_reads L.stalled_writes) settings.entry.dialect.now
+    ensures drove { IfOk result (λ d. d.fault ≡ None → DroveWell L.seen settings.entry.dialect.now
         (entry_for (given_text settings.entry.entry) settings.entry.n1) settings.entry.n1 line (I.remaining input)
         (W.contents output.old) (W.contents output.new) (E.contents faults.old) (E.contents faults.new) d.was_bad d.left) }
     ensures named { NamesRead (I.remaining input) (E.contents faults.old) (E.contents faults.new) }
@@ -119,7 +117,7 @@ pub fn judge_capture<L: SerialLine + Drop, K: Clock + Drop, C: Write + Drop>(
     ended: (CapturedLine<L, K, C>, Driven),
 ) -> Driven
     ensures fault { result.fault ≡ None → (ended.1.fault ≡ None) × (ended.0.capture.failed ≡ false) }
-    ensures captures { CapturesUnlessFailed (L.received ended.0.line) (L.sent ended.0.line) ended.0.capture }
+    ensures captures { CapturesUnlessFailed (L.seen ended.0.line).received (L.seen ended.0.line).sent ended.0.capture }
     ensures same { (result.was_bad ≡ ended.1.was_bad) × (result.left ≡ ended.1.left) }
 {
     let (last, driven) = ended;
@@ -156,10 +154,9 @@ where
     I: Read + Drop,
     W: Write,
     E: Write,
-    requires fresh { (L.received line ≡ []) × (L.sent line ≡ []) }
+    requires fresh { ((L.seen line).received ≡ []) × ((L.seen line).sent ≡ []) }
     requires begun { HasBegun capture }
-    ensures drove { IfOk result (λ d. d.fault ≡ None
-        → DroveCaptured (line_by L.received L.sent L.calls L.failures L.empty_reads L.stalled_writes) settings.entry.dialect.now
+    ensures drove { IfOk result (λ d. d.fault ≡ None → DroveCaptured L.seen settings.entry.dialect.now
         (entry_for (given_text settings.entry.entry) settings.entry.n1) settings.entry.n1 line (I.remaining input)
         (W.contents output.old) (W.contents output.new) (E.contents faults.old) (E.contents faults.new) d.was_bad d.left) }
     ensures named { NamesRead (I.remaining input) (E.contents faults.old) (E.contents faults.new) }
@@ -188,10 +185,9 @@ where
     I: Read + Drop,
     W: Write,
     E: Write,
-    requires fresh { (L.received line ≡ []) × (L.sent line ≡ []) }
+    requires fresh { ((L.seen line).received ≡ []) × ((L.seen line).sent ≡ []) }
     requires begun { IfSome capture HasBegun }
-    ensures drove { IfOk result (λ d. d.fault ≡ None → DroveLine (is_some capture)
-        (line_by L.received L.sent L.calls L.failures L.empty_reads L.stalled_writes) settings.entry.dialect.now
+    ensures drove { IfOk result (λ d. d.fault ≡ None → DroveLine (is_some capture) L.seen settings.entry.dialect.now
         (entry_for (given_text settings.entry.entry) settings.entry.n1) settings.entry.n1 line (I.remaining input)
         (W.contents output.old) (W.contents output.new) (E.contents faults.old) (E.contents faults.new) d.was_bad d.left) }
     ensures named { NamesRead (I.remaining input) (E.contents faults.old) (E.contents faults.new) }

@@ -3,7 +3,7 @@ ghost use Rattle.std.specs.Prelude.{◌≡◌, ◌<◌, [], ◌∷◌, ℕ, List
 ghost use Rattle.std.specs.Duration.{as_nanos};
 ghost use Rattle.modem_desk.specs.Ends.{AreSubscribed, IsWhole, place_of, subscription_of};
 ghost use Rattle.at_text.specs.Rules.{dialect_of};
-ghost use Rattle.modem_driver.specs.SessionStates.{FitsAll, beginning_by, line_by};
+ghost use Rattle.modem_driver.specs.SessionStates.{FitsAll, beginning_by};
 ghost use Rattle.ctl_drive.specs.Asking.{NamesRead, StopsOn};
 ghost use Rattle.ctl_drive.specs.Channels.{KeepsOrder};
 ghost use Rattle.ctl_drive.specs.Ending.{HasDriven};
@@ -128,9 +128,7 @@ fn make_session<L: SerialLine + Drop, R: Wait + Drop>(
     n1: u16,
     dialect: &Dialect,
 ) -> Result<Session<L, R>, DriveFault>
-    ensures begins { IfOk result (λ s.
-        FitsAll (beginning_by (dialect_of dialect.now) n1 (line_by L.received L.sent L.calls L.failures L.empty_reads L.stalled_writes line) driver)
-        (line_by L.received L.sent L.calls L.failures L.empty_reads L.stalled_writes) s []) }
+    ensures begins { IfOk result (λ s. FitsAll (beginning_by (dialect_of dialect.now) n1 (L.seen line) driver) L.seen s []) }
     ensures same { IfOk result (λ s. (s.line ≡ line) × (s.driver ≡ driver)) }
 {
     match Session::with_dialect(rt, alloc, line, driver, n1, dialect) {
@@ -146,8 +144,7 @@ fn begin<L: SerialLine + Drop, R: Wait + Drop>(
     line: L,
     settings: &Settings<'_>,
 ) -> Result<(Session<L, R>, Users), DriveFault>
-    ensures { IfOk result (λ r.
-        Begins (line_by L.received L.sent L.calls L.failures L.empty_reads L.stalled_writes) settings.now.dialect.now settings.now.n1 line r.0 r.1) }
+    ensures { IfOk result (λ r. Begins L.seen settings.now.dialect.now settings.now.n1 line r.0 r.1) }
 {
     let quiet_for = quiet_time(settings.quiet_for);
     let (driver, users) = open_desk(alloc, settings.dialect, quiet_for, settings.data)?;
@@ -178,7 +175,7 @@ where
     requires ticks { 0 < as_nanos ticks.old.period }
     requires whole { IsWhole session.driver.desk (map place_of (users.caller ∷ [])) }
     requires subscribed { AreSubscribed session.driver.desk (map subscription_of users.listeners.items) }
-    ensures driven { IfOk result (λ r. HasDriven (line_by L.received L.sent L.calls L.failures L.empty_reads L.stalled_writes)
+    ensures driven { IfOk result (λ r. HasDriven L.seen
         session users plan.old plan.new (W.contents output.old) (W.contents output.new) (E.contents faults.old)
         (E.contents faults.new) r.1 r.0.1 r.0.0) }
     ensures stops { OnErr result (StopsOn plan.old users.caller.submitted (E.contents faults.old) (E.contents faults.new)) }
@@ -229,7 +226,7 @@ where
     E: Write,
     requires whole { IsWhole session.driver.desk (map place_of (users.caller ∷ [])) }
     requires subscribed { AreSubscribed session.driver.desk (map subscription_of users.listeners.items) }
-    ensures driven { IfOk result (λ r. DrivesInput (line_by L.received L.sent L.calls L.failures L.empty_reads L.stalled_writes)
+    ensures driven { IfOk result (λ r. DrivesInput L.seen
         session users (I.remaining input) (W.contents output.old) (W.contents output.new) (E.contents faults.old)
         (E.contents faults.new) r.1.fault r.1.was_bad r.1.left r.0) }
     ensures stops { OnErr result (StopsOn (plan_begun (I.remaining input)) users.caller.submitted (E.contents faults.old)
@@ -260,8 +257,7 @@ pub fn enter<L: SerialLine, R: Wait + Clock>(
     line: &mut L,
     settings: &Settings<'_>,
 ) -> Result<(), DriveFault>
-    ensures { OnOk result (HasEntered settings.now.n1 (entry_for (given_text settings.now.entry) settings.now.n1) (line_by L.received L.sent L.calls L.failures L.empty_reads L.stalled_writes line.old)
-        (line_by L.received L.sent L.calls L.failures L.empty_reads L.stalled_writes line.new)) }
+    ensures { OnOk result (HasEntered settings.now.n1 (entry_for (given_text settings.now.entry) settings.now.n1) (L.seen line.old) (L.seen line.new)) }
 {
     let text = entry_of(alloc, settings)?;
     let mut limit = TimeLimit::new(rt, bell, Duration::from_secs(ENTRY_SECONDS));
@@ -286,7 +282,7 @@ where
     I: Read + Drop,
     W: Write,
     E: Write,
-    ensures drove { IfOk result (λ r. DroveFrom (line_by L.received L.sent L.calls L.failures L.empty_reads L.stalled_writes)
+    ensures drove { IfOk result (λ r. DroveFrom L.seen
         settings.entry.dialect.now settings.entry.n1 line r.0 (I.remaining input) (W.contents output.old) (W.contents output.new)
         (E.contents faults.old) (E.contents faults.new) r.1.fault r.1.was_bad r.1.left) }
     ensures named { NamesRead (I.remaining input) (E.contents faults.old) (E.contents faults.new) }
@@ -329,7 +325,7 @@ where
     I: Read + Drop,
     W: Write,
     E: Write,
-    ensures drove { IfOk result (λ r. Drove (line_by L.received L.sent L.calls L.failures L.empty_reads L.stalled_writes)
+    ensures drove { IfOk result (λ r. Drove L.seen
         settings.entry.dialect.now (entry_for (given_text settings.entry.entry) settings.entry.n1) settings.entry.n1 line r.0
         (I.remaining input) (W.contents output.old) (W.contents output.new) (E.contents faults.old) (E.contents faults.new)
         r.1.fault r.1.was_bad r.1.left) }

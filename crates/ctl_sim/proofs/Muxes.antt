@@ -7,6 +7,7 @@ use Rattle.mux_station.specs.declared.role.ChannelState.TheVariants.{Opened}
 use Rattle.mux_station.specs.Stages.{as_shown}
 use Rattle.mux_station.specs.States.{State, IsShut, IsOpening, IsOpened, IsClosing, IsStopping, is_opened, state_of}
 use Rattle.mux_station.proofs.states.OpenedStates.{opened_is_open}
+use Rattle.serial_line.specs.LineViews.{LineView}
 use Rattle.modem_sim.specs.declared.sim.SimTurn.{SimTurn}
 use Rattle.modem_sim.specs.declared.sim.SimTurn.TheVariants.{Moved, Idle, Ended}
 use Rattle.modem_sim.specs.Acts.{Act, End, is_open_at_modem, wire}
@@ -14,32 +15,32 @@ use Rattle.modem_sim.specs.Cores.{IsLater}
 use Rattle.modem_sim.specs.Heard.{modem_after}
 use Rattle.modem_sim.specs.Histories.{FitsOctets, IsThrough}
 use Rattle.serial_line.specs.OtherSide.{OtherSide}
-use Rattle.modem_sim.specs.Sims.{IsOver, Sight, SimGoes, SimState, has_ended, modem_of, state_shown}
+use Rattle.modem_sim.specs.Sims.{IsOver, SimGoes, SimState, has_ended, modem_of, state_shown}
 use Rattle.modem_sim.specs.Turns.{Exchange, GoesTurn, IsIdle, Means, TurnFrom, at_rest, has_done, is_over, line_is_full, stood_still}
 use Rattle.modem_sim.proofs.ends.OfferedPieces.{later_then}
 use Rattle.modem_sim.proofs.sims.SimPasts as pasts
-use Rattle.ctl_sim.specs.HeldLine.{HeldState, at_first, held_side, sent_by, sight_held}
+use Rattle.ctl_sim.specs.HeldLine.{HeldState, at_first, held_side, held_view}
 use Rattle.ctl_sim.specs.InMux.{is_closed_by}
 use Rattle.ctl_sim.specs.Muxes.{ComesToRest, FedTo, FitsHeld, FitsMux, IsDown, IsFed, Rests, RestsFrom, is_down}
 use Rattle.ctl_sim.specs.Muxes as muxes
 
 -- ## Turns
 
-idle_by : {X : Type 0} (see : Sight X) (e : End) (came went : List ℕ) (old new : SimState X) (t : Exchange) (acts past : List Act) (says : SimTurn) → says ≡ Idle → Means see e came went old new t acts past says → IsIdle e came went new.machine t past
+idle_by : {X : Type 0} (see : X → LineView) (e : End) (came went : List ℕ) (old new : SimState X) (t : Exchange) (acts past : List Act) (says : SimTurn) → says ≡ Idle → Means see e came went old new t acts past says → IsIdle e came went new.machine t past
 idle_by see e came went old new t acts past _ is (has_done moved) = absurd (let bad : Moved ≡ Idle = is in cc)
 idle_by see e came went old new t acts past _ is (stood_still none idle) = idle
 idle_by see e came went old new t acts past _ is (is_over over) = absurd (let bad : Ended ≡ Idle = is in cc)
 
 -- an idle turn behind which nothing is to be written or read
-pub comes_to_rest : (old new : SimState HeldState) → GoesTurn sight_held old new Idle → new.machine.out ≡ [] → new.line.waiting ≡ [] → ComesToRest old new
+pub comes_to_rest : (old new : SimState HeldState) → GoesTurn held_view old new Idle → new.machine.out ≡ [] → new.line.waiting ≡ [] → ComesToRest old new
 comes_to_rest old new turn none read = record {
   read = read;
   rests = λ e past fits.
       let from = turn.turn at_first e past fits in
-      rests_by e past from (idle_by sight_held e from.fits.came from.fits.went old new turn.exchange from.later.newer from.now Idle refl from.means);
+      rests_by e past from (idle_by held_view e from.fits.came from.fits.went old new turn.exchange from.later.newer from.now Idle refl from.means);
 }
   where
-    rests_by : (e : End) (past : List Act) → (from : TurnFrom sight_held at_first e past old new turn.exchange Idle) → IsIdle e from.fits.came from.fits.went new.machine turn.exchange from.now → RestsFrom e past new
+    rests_by : (e : End) (past : List Act) → (from : TurnFrom held_view at_first e past old new turn.exchange Idle) → IsIdle e from.fits.came from.fits.went new.machine turn.exchange from.now → RestsFrom e past new
     rests_by e past from (line_is_full held) = absurd (held.waits none)
     rests_by e past from (at_rest rest) = record {
       now = from.now;
@@ -51,7 +52,7 @@ comes_to_rest old new turn none read = record {
     }
 
 -- turns, and one that comes to rest
-pub rests_then : (a b c : SimState HeldState) → SimGoes (λ (l : HeldState). l.received) sent_by a b → ComesToRest b c → ComesToRest a c
+pub rests_then : (a b c : SimState HeldState) → SimGoes held_view a b → ComesToRest b c → ComesToRest a c
 rests_then a b c goes rest = record {
   read = rest.read;
   rests = λ e past fits.
@@ -94,7 +95,7 @@ down_is past shown is other = sym (sym (opened_is_open Responder (wire past) 0) 
 -- ## A piece
 
 -- how it fits where only octets that wait or that are handed out change
-refits : (e : End) (s : SimState HeldState) (line : HeldState) (past : List Act) → line.received ≡ s.line.received → sent_by line ≡ sent_by s.line → FitsHeld e s past → FitsHeld e (record s { line = line }) past
+refits : (e : End) (s : SimState HeldState) (line : HeldState) (past : List Act) → line.received ≡ s.line.received → (held_view line).sent ≡ (held_view s.line).sent → FitsHeld e s past → FitsHeld e (record s { line = line }) past
 refits e s line past came went fits = record {
   came = fits.came;
   went = fits.went;
@@ -169,7 +170,7 @@ record ClosesHere (e : End) (came went : List ℕ) (past : List Act) (s : SimSta
   closes : IsDown e came went now
   modem_is : modem_of s ≡ modem_after e now
 
-closes_here : (e : End) (came went piece : List ℕ) (past : List Act) (a b : SimState HeldState) → FitsMux e came went a past → SimGoes (λ (l : HeldState). l.received) sent_by (handed_in a piece) b → held_side b.line ≡ held_side (handed_in a piece).line → has_ended b ≡ true → ClosesHere e (came ++ piece) (went ++ b.line.going) past b
+closes_here : (e : End) (came went piece : List ℕ) (past : List Act) (a b : SimState HeldState) → FitsMux e came went a past → SimGoes held_view (handed_in a piece) b → held_side b.line ≡ held_side (handed_in a piece).line → has_ended b ≡ true → ClosesHere e (came ++ piece) (went ++ b.line.going) past b
 unfolding handed_in
 closes_here e came went piece past a b fits goes side ended =
     let from = goes at_first e past (fits_in e a piece past fits.fits) in
@@ -195,7 +196,7 @@ closes_here e came went piece past a b fits goes side ended =
 -- whether 0 was open before and is behind it, and whether it is over
 fed_at : (e : End) (came went piece : List ℕ) (past : List Act) (a b : SimState HeldState) (was up ended over : Bool) → FitsMux e came went a past
     → was ≡ is_open_at_modem 0 past → ((now : List Act) → FitsHeld e (handed_out b) now → up ≡ is_open_at_modem 0 now)
-    → SimGoes (λ (l : HeldState). l.received) sent_by (handed_in a piece) b → held_side b.line ≡ held_side (handed_in a piece).line
+    → SimGoes held_view (handed_in a piece) b → held_side b.line ≡ held_side (handed_in a piece).line
     → (ended ≡ false → ComesToRest (handed_in a piece) b) → (ended ≡ true → has_ended b ≡ true) → over ≡ (ended || (was && not up)) → FedTo e (came ++ piece) (went ++ b.line.going) past (handed_out b) over
 unfolding handed_in handed_out
 fed_at e came went piece past a b was up false over fits was_is up_is goes side rest end over_is =
@@ -234,7 +235,7 @@ fed_at e came went piece past a b was up true over fits was_is up_is goes side r
 pub fed_by : (a into b new : SimState HeldState) (piece before after : List ℕ) (was up ended over : Bool)
     → ((e : End) (past : List Act) → FitsHeld e a past → was ≡ is_open_at_modem 0 past)
     → into ≡ record a { line = record a.line { waiting = a.line.waiting ++ piece } }
-    → SimGoes (λ (l : HeldState). l.received) sent_by into b → held_side b.line ≡ held_side into.line
+    → SimGoes held_view into b → held_side b.line ≡ held_side into.line
     → (ended ≡ false → ComesToRest into b) → (ended ≡ true → has_ended b ≡ true)
     → after ≡ before ++ b.line.going
     → new ≡ record b { line = record b.line { taken = b.line.taken ++ b.line.going; going = [] } }
@@ -248,7 +249,7 @@ fed_by a into b new piece before after was up ended over was_is into_is goes sid
       subst (λ (s : SimState HeldState). FedTo e (came ++ piece) (went ++ b.line.going) past s over) (sym new_is)
       (fed_at e came went piece past a b was up ended over fits (was_is e past fits.fits)
       (λ now there. up_is e now (subst (λ (s : SimState HeldState). FitsHeld e s now) (sym new_is) there))
-      (subst (λ (s : SimState HeldState). SimGoes (λ (l : HeldState). l.received) sent_by s b) into_is goes)
+      (subst (λ (s : SimState HeldState). SimGoes held_view s b) into_is goes)
       (side ∙ ap (λ (s : SimState HeldState). held_side s.line) into_is)
       (λ is. subst (λ (s : SimState HeldState). ComesToRest s b) into_is (rest is)) end over_is);
 }

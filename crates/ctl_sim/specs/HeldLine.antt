@@ -1,7 +1,7 @@
 -- The line of a modem whose client hands octets in and takes octets out.
 use Rattle.std.specs.Prelude.{ℕ, List, [], ◌++◌}
 use Rattle.serial_line.specs.OtherSide.{OtherSide}
-use Rattle.modem_sim.specs.Sims.{LineAt, Sight, sight}
+use Rattle.serial_line.specs.LineViews.{LineView}
 
 pub record HeldState : Type 0 where
   pub received : List ℕ  -- what its reads gave
@@ -24,17 +24,21 @@ new_held = record {
   stalled_writes = 0;
 }
 
--- what its writes took
-abbrev pub sent_by : HeldState → List ℕ
-sent_by l = l.taken ++ l.going
-
 -- what was handed in and handed out
 abbrev pub held_side : HeldState → OtherSide
 held_side l = record { given = l.received ++ l.waiting; passed_on = l.taken }
 
-abbrev pub sight_held : Sight HeldState
-sight_held = sight (λ l. l.received) sent_by (λ l. l.calls) (λ l. 0) (λ l. l.empty_reads) (λ l. l.stalled_writes)
+-- what is seen of it as of any line: no call fails
+abbrev pub held_view : HeldState → LineView
+held_view l = record {
+  received = l.received;
+  sent = l.taken ++ l.going;
+  calls = l.calls;
+  failures = 0;
+  empty_reads = l.empty_reads;
+  stalled_writes = l.stalled_writes;
+}
 
 -- a line on which nothing had happened yet
-abbrev pub at_first : LineAt
-at_first = record { received = []; sent = [] }
+abbrev pub at_first : LineView
+at_first = held_view new_held

@@ -6,7 +6,7 @@ use Rattle.modem_sim.specs.Heard.{modem_after}
 use Rattle.modem_sim.specs.Histories.{SimLawful, SimComplete, FitsOctets, IsThrough, AllIsOut}
 use Rattle.modem_sim.specs.Sims.{FitsSim, IsOver, SimState, modem_of}
 use Rattle.modem_sim.specs.Turns.{NoneCanBeDone}
-use Rattle.ctl_sim.specs.HeldLine.{HeldState, at_first, sent_by}
+use Rattle.ctl_sim.specs.HeldLine.{HeldState, at_first, held_view}
 use Rattle.ctl_sim.specs.InMux.{is_closed_by}
 
 -- At rest: each frame that is called for was sent, and no other; every frame that the octets are read as has come; on each open
@@ -35,7 +35,7 @@ pub data IsEndedBy (e : End) (past : List Act) (came went : List ℕ) (now : Lis
 
 -- it fits a past since its line was new
 abbrev pub FitsHeld : End → SimState HeldState → List Act → Type 0
-FitsHeld e s past = FitsSim (λ l. l.received) sent_by at_first e s past
+FitsHeld e s past = FitsSim held_view at_first e s past
 
 -- it went on to a past that it fits, and is at rest there
 pub record RestsFrom (e : End) (past : List Act) (s : SimState HeldState) : Type 0 where

@@ -1,7 +1,7 @@
 //! The line of a modem whose client hands octets in and takes octets out.
-ghost use Rattle.std.specs.Prelude.{◌≡◌, ◌≢◌, ◌+◌, ◌≤◌, ◌<◌, ◌++◌, [], ◌↔◌, true, length, take, drop, min, IsOk, IfOk, OnOk, OnErr};
+ghost use Rattle.std.specs.Prelude.{IfOk, IsOk, OnErr, OnOk, [], ◌++◌, ◌+◌, ◌<◌, ◌↔◌, ◌≡◌, ◌≢◌, ◌≤◌, drop, length, min, take, true};
 ghost use Rattle.serial_line.specs.Counts.{one_more, counted_if_none};
-ghost use Rattle.ctl_sim.specs.HeldLine.{new_held, held_side, sent_by};
+ghost use Rattle.ctl_sim.specs.HeldLine.{held_side, held_view, new_held};
 
 use crate::history::History;
 use serial_line::{LineFault, SerialLine};
@@ -102,17 +102,7 @@ impl HeldLine {
 }
 
 impl SerialLine for HeldLine {
-    ghost received = { λ l. l.received };
-
-    ghost sent = { sent_by };
-
-    ghost calls = { λ l. l.calls };
-
-    ghost failures = { λ _. 0 };
-
-    ghost empty_reads = { λ l. l.empty_reads };
-
-    ghost stalled_writes = { λ l. l.stalled_writes };
+    ghost seen = { held_view };
 
     ghost other_side = { held_side };
 

@@ -2,7 +2,7 @@
 ghost use Rattle.std.specs.Prelude.{◌≡◌, ◌&&◌, ◌||◌, [], not, true, false, IfErr, IfOk, List};
 ghost use Rattle.modem_sim.specs.Acts.{Act, End, is_open_at_modem};
 ghost use Rattle.modem_sim.specs.Sims.{SimGoes, has_ended};
-ghost use Rattle.ctl_sim.specs.HeldLine.{at_first, held_side, sent_by};
+ghost use Rattle.ctl_sim.specs.HeldLine.{at_first, held_side, held_view};
 ghost use Rattle.ctl_sim.specs.InMux.{mux_end};
 ghost use Rattle.ctl_sim.specs.Leaving.{IsOfModem};
 ghost use Rattle.ctl_sim.specs.Muxes.{ComesToRest, FitsHeld, FitsMux, IsFed};
@@ -42,7 +42,7 @@ enum Turned {
 
 /// One turn.
 fn turn(sim: &mut Sim<HeldLine>) -> Result<Turned, AllocError>
-    ensures goes { SimGoes (λ l. l.received) sent_by sim.old sim.new }
+    ensures goes { SimGoes held_view sim.old sim.new }
     ensures side { held_side sim.new.line ≡ held_side sim.old.line }
     ensures rests { IfOk result (λ turned. turned ≡ Turned.Rests → ComesToRest sim.old sim.new) }
     ensures ends { IfOk result (λ turned. turned ≡ Turned.Ends → has_ended sim.new ≡ true) }
@@ -65,7 +65,7 @@ fn turn(sim: &mut Sim<HeldLine>) -> Result<Turned, AllocError>
 
 /// Turns until it has closed down (true), or is at rest (false).
 fn settle(sim: &mut Sim<HeldLine>) -> Result<bool, ServeFault>
-    ensures goes { SimGoes (λ l. l.received) sent_by sim.old sim.new }
+    ensures goes { SimGoes held_view sim.old sim.new }
     ensures side { held_side sim.new.line ≡ held_side sim.old.line }
     ensures rests { IfOk result (λ ended. ended ≡ false → ComesToRest sim.old sim.new) }
     ensures ends { IfOk result (λ ended. ended ≡ true → has_ended sim.new ≡ true) }

@@ -6,6 +6,7 @@ use Rattle.std.proofs.lemmas.List.{length-append, length-drop}
 use Rattle.mux_station.specs.declared.role.Role.{Role}
 use Rattle.serial_line.specs.Counts.{one_more, counted_if_none}
 use Rattle.serial_line.specs.declared.line.LineFault.{LineFault}
+use Rattle.serial_line.specs.LineViews.{LineView, after_fault, after_read}
 use Rattle.modem_data.specs.declared.error.DataError.{DataError}
 use Rattle.modem_data.specs.DataLanes.{most_to_go}
 use Rattle.modem_data.specs.Passing.{Gave, IsOver, to_go, unread}
@@ -14,7 +15,7 @@ use Rattle.modem_data.specs.Hops.{Hop, Passed, passes}
 use Rattle.modem_data_line.specs.DataLines.{Before, DataLineState, LineFits}
 use Rattle.data_files.specs.Files.{FileState}
 use Rattle.data_files.specs.Moves.{FileGrows, GaveFirst, GivesOn, HasRoom, IsAskedFile, IsKept, IsOfferedFile, IsUnread, KeepsUnread, ReadsOn, StaysOver}
-use Rattle.data_files.proofs.FileSteps.{lane_leads}
+use Rattle.data_files.proofs.FileSteps.{came_by, lane_leads, none_went}
 
 -- ## Counts
 
@@ -36,15 +37,16 @@ none_stalled could n e0 e1 e none some =
     let rises : e1 ≡ one_more e0 = e ∙ (ap (λ (k : ℕ). counted_if_none could k e0) none ∙ ap (λ (b : Bool). if b && (0 == 0) then one_more e0 else e0) (lt-ltb 0 could some)) in
     omega (arith, rises)
 
-kept_read : (e0 e1 : ℕ) (r : Result ℕ LineFault) → IfOk r (λ n. e1 ≡ counted_if_none 512 n e0) → OnErr r (e1 ≡ e0) → IsKept e0 e1
-kept_read e0 e1 (Ok n) empty same = kept_counted 512 n e0 e1 empty
-kept_read e0 e1 (Err why) empty same = kept_same e0 e1 same
+kept_read : {Y : Type 0} (look : Y → LineView) (f h : Y) (more : List ℕ) (r : Result ℕ LineFault) → IfOk r (λ n. look h ≡ after_read 512 n more (look f))
+    → OnErr r (look h ≡ after_fault (look f)) → IsKept (look f).empty_reads (look h).empty_reads
+kept_read look f h more (Ok n) gave fault = kept_counted 512 n (look f).empty_reads (look h).empty_reads (ap (λ (l : LineView). l.empty_reads) gave)
+kept_read look f h more (Err why) gave fault = kept_same (look f).empty_reads (look h).empty_reads (ap (λ (l : LineView). l.empty_reads) fault)
 
 -- ## One step
 
 -- nothing happened to the file
-pub grows_none : {Y : Type 0} (g t : Y → List ℕ) (e s : Y → ℕ) (f : FileState Y) → FileGrows g t e s f f
-grows_none g t e s f = record {
+pub grows_none : {Y : Type 0} (look : Y → LineView) (f : FileState Y) → FileGrows look f f
+grows_none look f = record {
   came = omega arith;
   given = omega arith;
   went = omega arith;
@@ -57,59 +59,60 @@ grows_none g t e s f = record {
 }
 
 -- a read of the file
-pub read_grows : {Y : Type 0} (g t : Y → List ℕ) (e s : Y → ℕ) (f h : FileState Y) (r : Result ℕ LineFault) → f.ungiven ≡ []
-    → g h.file ≡ g f.file ++ h.ungiven → t h.file ≡ t f.file → s h.file ≡ s f.file → IfOk r (λ n. e h.file ≡ counted_if_none 512 n (e f.file))
-    → OnErr r (e h.file ≡ e f.file) → (f.has_ended ≡ true → h.has_ended ≡ true)
-    → h ≡ record f { file = h.file; ungiven = h.ungiven; has_ended = h.has_ended } → FileGrows g t e s f h
-read_grows g t e s f h r none came went stalled empty same ended is =
-    let more : length (g h.file) ≡ length (g f.file) + length h.ungiven = ap length came ∙ length-append (g f.file) h.ungiven in
-    let none_went : length (t h.file) ≡ length (t f.file) = ap length went in
+pub read_grows : {Y : Type 0} (look : Y → LineView) (f h : FileState Y) (r : Result ℕ LineFault) → f.ungiven ≡ [] → IfOk r (λ n. n ≡ length h.ungiven) → OnErr r (h.ungiven ≡ [])
+    → IfOk r (λ n. look h.file ≡ after_read 512 n h.ungiven (look f.file)) → OnErr r (look h.file ≡ after_fault (look f.file)) → (f.has_ended ≡ true → h.has_ended ≡ true)
+    → h ≡ record f { file = h.file; ungiven = h.ungiven; has_ended = h.has_ended } → FileGrows look f h
+read_grows look f h r none count empty gave fault ended is =
+    let came = came_by look f.file h.file h.ungiven r count empty gave fault in
+    let still = none_went look f.file h.file h.ungiven r gave fault in
+    let more : length (look h.file).received ≡ length (look f.file).received + length h.ungiven = ap length came ∙ length-append (look f.file).received h.ungiven in
+    let went : length (look h.file).sent ≡ length (look f.file).sent = ap length still.0 in
     let waits : length h.unwritten ≡ length f.unwritten = ap (λ (x : FileState _). length x.unwritten) is in
     record {
       came = omega (arith, more);
       given = omega (arith, more);
-      went = omega (arith, none_went);
-      read = omega (arith, none_went, waits);
-      empty = kept_read (e f.file) (e h.file) r empty same;
-      stalled = kept_same (s f.file) (s h.file) stalled;
+      went = omega (arith, went);
+      read = omega (arith, went, waits);
+      empty = kept_read look f.file h.file h.ungiven r gave fault;
+      stalled = kept_same (look f.file).stalled_writes (look h.file).stalled_writes still.1;
       renewed = kept_same f.renewals h.renewals (ap (λ (x : FileState _). x.renewals) is);
       ended = ended;
       broken = λ q. ap (λ (x : FileState _). x.is_broken) is ∙ q;
     }
 
 -- fewer of its octets wait
-pub fewer_grows : {Y : Type 0} (g t : Y → List ℕ) (e s : Y → ℕ) (f h : FileState Y) → h ≡ record f { ungiven = h.ungiven }
-    → length h.ungiven ≤ length f.ungiven → FileGrows g t e s f h
-fewer_grows g t e s f h is fewer =
-    let came : length (g h.file) ≡ length (g f.file) = ap (λ (x : FileState _). length (g x.file)) is in
-    let went : length (t h.file) ≡ length (t f.file) = ap (λ (x : FileState _). length (t x.file)) is in
+pub fewer_grows : {Y : Type 0} (look : Y → LineView) (f h : FileState Y) → h ≡ record f { ungiven = h.ungiven }
+    → length h.ungiven ≤ length f.ungiven → FileGrows look f h
+fewer_grows look f h is fewer =
+    let came : length (look h.file).received ≡ length (look f.file).received = ap (λ (x : FileState _). length (look x.file).received) is in
+    let went : length (look h.file).sent ≡ length (look f.file).sent = ap (λ (x : FileState _). length (look x.file).sent) is in
     let waits : length h.unwritten ≡ length f.unwritten = ap (λ (x : FileState _). length x.unwritten) is in
     record {
       came = omega (arith, came);
       given = omega (arith, came, fewer);
       went = omega (arith, went);
       read = omega (arith, went, waits);
-      empty = kept_same (e f.file) (e h.file) (ap (λ (x : FileState _). e x.file) is);
-      stalled = kept_same (s f.file) (s h.file) (ap (λ (x : FileState _). s x.file) is);
+      empty = kept_same (look f.file).empty_reads (look h.file).empty_reads (ap (λ (x : FileState _). (look x.file).empty_reads) is);
+      stalled = kept_same (look f.file).stalled_writes (look h.file).stalled_writes (ap (λ (x : FileState _). (look x.file).stalled_writes) is);
       renewed = kept_same f.renewals h.renewals (ap (λ (x : FileState _). x.renewals) is);
       ended = λ q. ap (λ (x : FileState _). x.has_ended) is ∙ q;
       broken = λ q. ap (λ (x : FileState _). x.is_broken) is ∙ q;
     }
 
 -- more wait for it
-pub more_grows : {Y : Type 0} (g t : Y → List ℕ) (e s : Y → ℕ) (f h : FileState Y) → h ≡ record f { unwritten = h.unwritten; is_over = h.is_over }
-    → length f.unwritten ≤ length h.unwritten → FileGrows g t e s f h
-more_grows g t e s f h is more =
-    let came : length (g h.file) ≡ length (g f.file) = ap (λ (x : FileState _). length (g x.file)) is in
-    let went : length (t h.file) ≡ length (t f.file) = ap (λ (x : FileState _). length (t x.file)) is in
+pub more_grows : {Y : Type 0} (look : Y → LineView) (f h : FileState Y) → h ≡ record f { unwritten = h.unwritten; is_over = h.is_over }
+    → length f.unwritten ≤ length h.unwritten → FileGrows look f h
+more_grows look f h is more =
+    let came : length (look h.file).received ≡ length (look f.file).received = ap (λ (x : FileState _). length (look x.file).received) is in
+    let went : length (look h.file).sent ≡ length (look f.file).sent = ap (λ (x : FileState _). length (look x.file).sent) is in
     let waits : length h.ungiven ≡ length f.ungiven = ap (λ (x : FileState _). length x.ungiven) is in
     record {
       came = omega (arith, came);
       given = omega (arith, came, waits);
       went = omega (arith, went);
       read = omega (arith, went, more);
-      empty = kept_same (e f.file) (e h.file) (ap (λ (x : FileState _). e x.file) is);
-      stalled = kept_same (s f.file) (s h.file) (ap (λ (x : FileState _). s x.file) is);
+      empty = kept_same (look f.file).empty_reads (look h.file).empty_reads (ap (λ (x : FileState _). (look x.file).empty_reads) is);
+      stalled = kept_same (look f.file).stalled_writes (look h.file).stalled_writes (ap (λ (x : FileState _). (look x.file).stalled_writes) is);
       renewed = kept_same f.renewals h.renewals (ap (λ (x : FileState _). x.renewals) is);
       ended = λ q. ap (λ (x : FileState _). x.has_ended) is ∙ q;
       broken = λ q. ap (λ (x : FileState _). x.is_broken) is ∙ q;
@@ -120,22 +123,22 @@ fewer_by (Ok n) xs ys rest same = let long = ap length rest ∙ length-drop n xs
 fewer_by (Err why) xs ys rest same = let long = ap length same in omega (arith, long)
 
 -- a write to the file
-pub write_grows : {Y : Type 0} (g t : Y → List ℕ) (e s : Y → ℕ) (f h : FileState Y) (r : Result ℕ LineFault) → g h.file ≡ g f.file → e h.file ≡ e f.file
-    → t h.file ++ h.unwritten ≡ t f.file ++ f.unwritten → IfOk r (λ n. h.unwritten ≡ drop n f.unwritten) → OnErr r (h.unwritten ≡ f.unwritten)
-    → IsKept (s f.file) (s h.file) → (f.is_broken ≡ true → h.is_broken ≡ true)
-    → h ≡ record f { file = h.file; unwritten = h.unwritten; is_broken = h.is_broken } → FileGrows g t e s f h
-write_grows g t e s f h r came empty split rest same stalled broken is =
-    let none_came : length (g h.file) ≡ length (g f.file) = ap length came in
+pub write_grows : {Y : Type 0} (look : Y → LineView) (f h : FileState Y) (r : Result ℕ LineFault) → (look h.file).received ≡ (look f.file).received → (look h.file).empty_reads ≡ (look f.file).empty_reads
+    → (look h.file).sent ++ h.unwritten ≡ (look f.file).sent ++ f.unwritten → IfOk r (λ n. h.unwritten ≡ drop n f.unwritten) → OnErr r (h.unwritten ≡ f.unwritten)
+    → IsKept (look f.file).stalled_writes (look h.file).stalled_writes → (f.is_broken ≡ true → h.is_broken ≡ true)
+    → h ≡ record f { file = h.file; unwritten = h.unwritten; is_broken = h.is_broken } → FileGrows look f h
+write_grows look f h r came empty split rest same stalled broken is =
+    let none_came : length (look h.file).received ≡ length (look f.file).received = ap length came in
     let waits : length h.ungiven ≡ length f.ungiven = ap (λ (x : FileState _). length x.ungiven) is in
     let fewer : length h.unwritten ≤ length f.unwritten = fewer_by r f.unwritten h.unwritten rest same in
-    let whole : length (t h.file) + length h.unwritten ≡ length (t f.file) + length f.unwritten =
-    sym (length-append (t h.file) h.unwritten) ∙ (ap length split ∙ length-append (t f.file) f.unwritten) in
+    let whole : length (look h.file).sent + length h.unwritten ≡ length (look f.file).sent + length f.unwritten =
+    sym (length-append (look h.file).sent h.unwritten) ∙ (ap length split ∙ length-append (look f.file).sent f.unwritten) in
     record {
       came = omega (arith, none_came);
       given = omega (arith, none_came, waits);
       went = omega (arith, whole, fewer);
       read = omega (arith, whole);
-      empty = kept_same (e f.file) (e h.file) empty;
+      empty = kept_same (look f.file).empty_reads (look h.file).empty_reads empty;
       stalled = stalled;
       renewed = kept_same f.renewals h.renewals (ap (λ (x : FileState _). x.renewals) is);
       ended = λ q. ap (λ (x : FileState _). x.has_ended) is ∙ q;
@@ -145,8 +148,8 @@ write_grows g t e s f h r came empty split rest same stalled broken is =
 -- ## One behind the other
 
 -- a file that goes on twice goes on
-pub grows_then : {Y : Type 0} (g t : Y → List ℕ) (e s : Y → ℕ) (f h k : FileState Y) → FileGrows g t e s f h → FileGrows g t e s h k → FileGrows g t e s f k
-grows_then g t e s f h k one two = record {
+pub grows_then : {Y : Type 0} (look : Y → LineView) (f h k : FileState Y) → FileGrows look f h → FileGrows look h k → FileGrows look f k
+grows_then look f h k one two = record {
   came = let a = one.came in let b = two.came in omega (arith, a, b);
   given = let a = one.given in let b = two.given in omega (arith, a, b);
   went = let a = one.went in let b = two.went in omega (arith, a, b);
@@ -161,23 +164,23 @@ grows_then g t e s f h k one two = record {
 -- ## What waits to be read stays where octets are given
 
 -- the line is the same
-pub unread_same : {X : Type 0} (r s : X → List ℕ) (v w : DataLineState X) (d : ℕ) → w ≡ v → KeepsUnread r s v w d
-unread_same r s v w d e = λ role n1 ds b past h. record { behind = past; fits = subst (λ (x : DataLineState _). LineFits r s role n1 ds b x past) (sym e) h; same = refl }
+pub unread_same : {X : Type 0} (look : X → LineView) (v w : DataLineState X) (d : ℕ) → w ≡ v → KeepsUnread look v w d
+unread_same look v w d e = λ role n1 ds b past h. record { behind = past; fits = subst (λ (x : DataLineState _). LineFits look role n1 ds b x past) (sym e) h; same = refl }
 
 -- octets were given on d
-pub unread_given : {X : Type 0} (r s : X → List ℕ) (v w : DataLineState X) (d : ℕ) (before after : List ℕ) → GaveFirst v.relay w.relay d before after
-    → w ≡ record v { relay = w.relay } → KeepsUnread r s v w d
-unread_given r s v w d before after h e = λ role n1 ds b past x. record {
+pub unread_given : {X : Type 0} (look : X → LineView) (v w : DataLineState X) (d : ℕ) (before after : List ℕ) → GaveFirst v.relay w.relay d before after
+    → w ≡ record v { relay = w.relay } → KeepsUnread look v w d
+unread_given look v w d before after h e = λ role n1 ds b past x. record {
   behind = Passed (Gave d h.octets) ∷ past;
-  fits = lane_leads r s v w (Gave d h.octets) h.gave e role n1 ds b past x;
+  fits = lane_leads look v w (Gave d h.octets) h.gave e role n1 ds b past x;
   same = refl;
 }
 
 -- or the call that gives them was refused
-pub unread_or : {X : Type 0} (r s : X → List ℕ) (v w : DataLineState X) (d : ℕ) (before after : List ℕ) (result : Result ℕ DataError)
-    → OnOk result (GaveFirst v.relay w.relay d before after) → OnErr result ((w ≡ v) × (after ≡ before)) → w ≡ record v { relay = w.relay } → KeepsUnread r s v w d
-unread_or r s v w d before after (Ok n) gave err beside = unread_given r s v w d before after gave beside
-unread_or r s v w d before after (Err why) gave err beside = unread_same r s v w d err.0
+pub unread_or : {X : Type 0} (look : X → LineView) (v w : DataLineState X) (d : ℕ) (before after : List ℕ) (result : Result ℕ DataError)
+    → OnOk result (GaveFirst v.relay w.relay d before after) → OnErr result ((w ≡ v) × (after ≡ before)) → w ≡ record v { relay = w.relay } → KeepsUnread look v w d
+unread_or look v w d before after (Ok n) gave err beside = unread_given look v w d before after gave beside
+unread_or look v w d before after (Err why) gave err beside = unread_same look v w d err.0
 
 -- ## A turn
 
@@ -185,11 +188,11 @@ some_length : (xs : List ℕ) → xs ≢ [] → 0 < length xs
 some_length [] some = absurd (some refl)
 some_length (x ∷ xs) some = omega arith
 
-gave_some : {X : Type 0} (r s : X → List ℕ) (role : Role) (n1 : ℕ) (ds : List ℕ) (b : Before) (v : DataLineState X) (past : List Hop) (d : ℕ) (before after : List ℕ)
-    → LineFits r s role n1 ds b v past → HasRoom role d (passes past) → (NoneOf ds d → ⊥) → before ≢ [] → GivesOn v.relay.pipes d before after → length after < length before
+gave_some : {X : Type 0} (look : X → LineView) (role : Role) (n1 : ℕ) (ds : List ℕ) (b : Before) (v : DataLineState X) (past : List Hop) (d : ℕ) (before after : List ℕ)
+    → LineFits look role n1 ds b v past → HasRoom role d (passes past) → (NoneOf ds d → ⊥) → before ≢ [] → GivesOn v.relay.pipes d before after → length after < length before
 unfolding OfEachPast IsNotData
-gave_some r s role n1 ds b v past d before after fits room among some (inl none) = absurd (among (none role n1 ds (passes past) fits.relay_fits.pipes_fit))
-gave_some r s role n1 ds b v past d before after fits room among some (inr on) =
+gave_some look role n1 ds b v past d before after fits room among some (inl none) = absurd (among (none role n1 ds (passes past) fits.relay_fits.pipes_fit))
+gave_some look role n1 ds b v past d before after fits room among some (inr on) =
     let rest : after ≡ drop (min (length before) (most_to_go - to_go d (passes past))) before =
     on role n1 ds (passes past) fits.relay_fits.pipes_fit room.takes room.open_there in
     let long : length after ≡ length before - min (length before) (most_to_go - to_go d (passes past)) =
@@ -198,79 +201,79 @@ gave_some r s role n1 ds b v past d before after fits room among some (inr on) =
     let space = room.room in
     omega (arith, long, there, space)
 
-read_some : {X : Type 0} (r s : X → List ℕ) (role : Role) (n1 : ℕ) (ds : List ℕ) (b : Before) (v : DataLineState X) (past : List Hop) (d : ℕ) (octets : List ℕ)
-    → LineFits r s role n1 ds b v past → (NoneOf ds d → ⊥) → 0 < unread role d (passes past) → ReadsOn v.relay.pipes d octets → 0 < length octets
+read_some : {X : Type 0} (look : X → LineView) (role : Role) (n1 : ℕ) (ds : List ℕ) (b : Before) (v : DataLineState X) (past : List Hop) (d : ℕ) (octets : List ℕ)
+    → LineFits look role n1 ds b v past → (NoneOf ds d → ⊥) → 0 < unread role d (passes past) → ReadsOn v.relay.pipes d octets → 0 < length octets
 unfolding OfEachPast IsNotData IsUnread
-read_some r s role n1 ds b v past d octets fits among some (inl none) = absurd (among (none role n1 ds (passes past) fits.relay_fits.pipes_fit))
-read_some r s role n1 ds b v past d octets fits among some (inr count) =
+read_some look role n1 ds b v past d octets fits among some (inl none) = absurd (among (none role n1 ds (passes past) fits.relay_fits.pipes_fit))
+read_some look role n1 ds b v past d octets fits among some (inr count) =
     let long = count role n1 ds (passes past) fits.relay_fits.pipes_fit in
     omega (arith, long, some)
 
 -- a file that was asked, and went on, was asked
-pub asked_later : {Y : Type 0} (g t : Y → List ℕ) (e s : Y → ℕ) (f h k : FileState Y) → IsAskedFile g e f h → FileGrows g t e s h k → IsAskedFile g e f k
-asked_later g t e s f h k (inl x) on = inl (on.ended x)
-asked_later g t e s f h k (inr (inl x)) on = inr (inl (let more = on.came in omega (arith, x, more)))
-asked_later g t e s f h k (inr (inr x)) on = inr (inr (let more = on.empty in omega (arith, x, more)))
+pub asked_later : {Y : Type 0} (look : Y → LineView) (f h k : FileState Y) → IsAskedFile look f h → FileGrows look h k → IsAskedFile look f k
+asked_later look f h k (inl x) on = inl (on.ended x)
+asked_later look f h k (inr (inl x)) on = inr (inl (let more = on.came in omega (arith, x, more)))
+asked_later look f h k (inr (inr x)) on = inr (inr (let more = on.empty in omega (arith, x, more)))
 
 -- one that was offered octets, and went on, was offered them
-pub offered_later : {Y : Type 0} (g t : Y → List ℕ) (e s : Y → ℕ) (f h k : FileState Y) → IsOfferedFile t s f h → FileGrows g t e s h k → IsOfferedFile t s f k
-offered_later g t e s f h k (inl x) on = inl (on.broken x)
-offered_later g t e s f h k (inr (inl x)) on = inr (inl (let more = on.went in omega (arith, x, more)))
-offered_later g t e s f h k (inr (inr x)) on = inr (inr (let more = on.stalled in omega (arith, x, more)))
+pub offered_later : {Y : Type 0} (look : Y → LineView) (f h k : FileState Y) → IsOfferedFile look f h → FileGrows look h k → IsOfferedFile look f k
+offered_later look f h k (inl x) on = inl (on.broken x)
+offered_later look f h k (inr (inl x)) on = inr (inl (let more = on.went in omega (arith, x, more)))
+offered_later look f h k (inr (inr x)) on = inr (inr (let more = on.stalled in omega (arith, x, more)))
 
-offered_earlier : {Y : Type 0} (g t : Y → List ℕ) (e s : Y → ℕ) (f h k : FileState Y) → FileGrows g t e s f h → IsOfferedFile t s h k → IsOfferedFile t s f k
-offered_earlier g t e s f h k on (inl x) = inl x
-offered_earlier g t e s f h k on (inr (inl x)) = inr (inl (let more = on.went in omega (arith, x, more)))
-offered_earlier g t e s f h k on (inr (inr x)) = inr (inr (let more = on.stalled in omega (arith, x, more)))
+offered_earlier : {Y : Type 0} (look : Y → LineView) (f h k : FileState Y) → FileGrows look f h → IsOfferedFile look h k → IsOfferedFile look f k
+offered_earlier look f h k on (inl x) = inl x
+offered_earlier look f h k on (inr (inl x)) = inr (inl (let more = on.went in omega (arith, x, more)))
+offered_earlier look f h k on (inr (inr x)) = inr (inr (let more = on.stalled in omega (arith, x, more)))
 
 -- f before, a behind its read, b behind what was given, c behind what was taken, h behind its write
-pub record Steps {X Y : Type 0} (r s : X → List ℕ) (g t : Y → List ℕ) (e k : Y → ℕ) (u v : DataLineState X) (f a b c h : FileState Y) : Type 0 where
-  pub asks : f.ungiven ≡ [] → f.has_ended ≡ false → IsAskedFile g e f a
+pub record Steps {X Y : Type 0} (look : X → LineView) (file_look : Y → LineView) (u v : DataLineState X) (f a b c h : FileState Y) : Type 0 where
+  pub asks : f.ungiven ≡ [] → f.has_ended ≡ false → IsAskedFile file_look f a
   pub still : f.ungiven ≢ [] → a ≡ f
   pub a_is : a ≡ record f { file = a.file; ungiven = a.ungiven; has_ended = a.has_ended }
-  pub a_grows : FileGrows g t e k f a
+  pub a_grows : FileGrows file_look f a
   pub gives : GivesOn u.relay.pipes a.dlci a.ungiven b.ungiven
-  pub keeps : KeepsUnread r s u v a.dlci
+  pub keeps : KeepsUnread look u v a.dlci
   pub b_is : b ≡ record a { ungiven = b.ungiven }
   pub fewer : length b.ungiven ≤ length a.ungiven
   pub reads : b.unwritten ≡ [] → ReadsOn v.relay.pipes b.dlci c.unwritten
   pub kept : b.unwritten ≢ [] → c ≡ b
   pub c_is : c ≡ record b { unwritten = c.unwritten; is_over = c.is_over }
   pub more : length b.unwritten ≤ length c.unwritten
-  pub offers : c.unwritten ≢ [] → IsOfferedFile t k c h
-  pub h_grows : FileGrows g t e k c h
+  pub offers : c.unwritten ≢ [] → IsOfferedFile file_look c h
+  pub h_grows : FileGrows file_look c h
 
 -- a lane that is over and read begins anew
-pub not_over : {X : Type 0} (r s : X → List ℕ) (role : Role) (n1 : ℕ) (ds : List ℕ) (b : Before) (v : DataLineState X) (past : List Hop) (d : ℕ) (renews : Bool)
-    → LineFits r s role n1 ds b v past → (NoneOf ds d → ⊥) → renews ≡ true → IsOver role d (passes past) → StaysOver renews v.relay.pipes d → ⊥
+pub not_over : {X : Type 0} (look : X → LineView) (role : Role) (n1 : ℕ) (ds : List ℕ) (b : Before) (v : DataLineState X) (past : List Hop) (d : ℕ) (renews : Bool)
+    → LineFits look role n1 ds b v past → (NoneOf ds d → ⊥) → renews ≡ true → IsOver role d (passes past) → StaysOver renews v.relay.pipes d → ⊥
 unfolding OfEachPast IsNotData
-not_over r s role n1 ds b v past d renews fits among is over (inl never) = true≢false (sym is ∙ never)
-not_over r s role n1 ds b v past d renews fits among is over (inr (inl none)) = among (none role n1 ds (passes past) fits.relay_fits.pipes_fit)
-not_over r s role n1 ds b v past d renews fits among is over (inr (inr stays)) = stays role n1 ds (passes past) fits.relay_fits.pipes_fit over
+not_over look role n1 ds b v past d renews fits among is over (inl never) = true≢false (sym is ∙ never)
+not_over look role n1 ds b v past d renews fits among is over (inr (inl none)) = among (none role n1 ds (passes past) fits.relay_fits.pipes_fit)
+not_over look role n1 ds b v past d renews fits among is over (inr (inr stays)) = stays role n1 ds (passes past) fits.relay_fits.pipes_fit over
 
 -- a turn in which no lane began
-pub record Turned {X Y : Type 0} (r s : X → List ℕ) (g t : Y → List ℕ) (e k : Y → ℕ) (role : Role) (n1 : ℕ) (ds : List ℕ) (p : Before) (v : DataLineState X) (f h : FileState Y) : Type 0 where
-  pub asked : f.ungiven ≡ [] → f.has_ended ≡ false → IsAskedFile g e f h
-  pub given : f.ungiven ≢ [] → (past : List Hop) → LineFits r s role n1 ds p v past → HasRoom role f.dlci (passes past)
-      → length (g f.file) + length h.ungiven < length (g h.file) + length f.ungiven
-  pub read : f.unwritten ≡ [] → (past : List Hop) → LineFits r s role n1 ds p v past → 0 < unread role f.dlci (passes past)
-      → length (t f.file) + length f.unwritten < length (t h.file) + length h.unwritten
-  pub offered : f.unwritten ≢ [] → IsOfferedFile t k f h
-  pub grows : FileGrows g t e k f h
+pub record Turned {X Y : Type 0} (look : X → LineView) (file_look : Y → LineView) (role : Role) (n1 : ℕ) (ds : List ℕ) (p : Before) (v : DataLineState X) (f h : FileState Y) : Type 0 where
+  pub asked : f.ungiven ≡ [] → f.has_ended ≡ false → IsAskedFile file_look f h
+  pub given : f.ungiven ≢ [] → (past : List Hop) → LineFits look role n1 ds p v past → HasRoom role f.dlci (passes past)
+      → length (file_look f.file).received + length h.ungiven < length (file_look h.file).received + length f.ungiven
+  pub read : f.unwritten ≡ [] → (past : List Hop) → LineFits look role n1 ds p v past → 0 < unread role f.dlci (passes past)
+      → length (file_look f.file).sent + length f.unwritten < length (file_look h.file).sent + length h.unwritten
+  pub offered : f.unwritten ≢ [] → IsOfferedFile file_look f h
+  pub grows : FileGrows file_look f h
 
 -- these steps are a turn in which no lane began
-pub had_turn : {X Y : Type 0} (r s : X → List ℕ) (g t : Y → List ℕ) (e k : Y → ℕ) (u v : DataLineState X) (f a b c h : FileState Y)
-    → Steps r s g t e k u v f a b c h → (role : Role) (n1 : ℕ) (ds : List ℕ) (p : Before) → (NoneOf ds f.dlci → ⊥) → Turned r s g t e k role n1 ds p u f h
-had_turn r s g t e k u v f a b c h x role n1 ds p among = record {
-  asked = λ none more. asked_later g t e k f a h (x.asks none more) (grows_then g t e k a c h ac x.h_grows);
+pub had_turn : {X Y : Type 0} (look : X → LineView) (file_look : Y → LineView) (u v : DataLineState X) (f a b c h : FileState Y)
+    → Steps look file_look u v f a b c h → (role : Role) (n1 : ℕ) (ds : List ℕ) (p : Before) → (NoneOf ds f.dlci → ⊥) → Turned look file_look role n1 ds p u f h
+had_turn look file_look u v f a b c h x role n1 ds p among = record {
+  asked = λ none more. asked_later file_look f a h (x.asks none more) (grows_then file_look a c h ac x.h_grows);
   given = λ some past fits room.
       let same : a ≡ f = x.still some in
       let on : GivesOn u.relay.pipes f.dlci f.ungiven b.ungiven =
       subst (λ (y : FileState _). GivesOn u.relay.pipes y.dlci y.ungiven b.ungiven) same x.gives in
-      let lower = gave_some r s role n1 ds p u past f.dlci f.ungiven b.ungiven fits room among some on in
-      let file : length (g b.file) ≡ length (g f.file) =
-      ap (λ (y : FileState _). length (g y.file)) x.b_is ∙ ap (λ (y : FileState _). length (g y.file)) same in
-      let rest = (grows_then g t e k b c h bc x.h_grows).given in
+      let lower = gave_some look role n1 ds p u past f.dlci f.ungiven b.ungiven fits room among some on in
+      let file : length (file_look b.file).received ≡ length (file_look f.file).received =
+      ap (λ (y : FileState _). length (file_look y.file).received) x.b_is ∙ ap (λ (y : FileState _). length (file_look y.file).received) same in
+      let rest = (grows_then file_look b c h bc x.h_grows).given in
       omega (arith, lower, file, rest);
   read = λ none past fits some.
       let on = x.keeps role n1 ds p past fits in
@@ -278,16 +281,16 @@ had_turn r s g t e k u v f a b c h x role n1 ds p among = record {
       subst (λ (d : ℕ). 0 < unread role d (passes on.behind)) dlci_a (subst (λ (n : ℕ). 0 < n) (sym on.same) (subst (λ (d : ℕ). 0 < unread role d (passes past)) (sym dlci_a) some)) in
       let got : ReadsOn v.relay.pipes f.dlci c.unwritten =
       subst (λ (d : ℕ). ReadsOn v.relay.pipes d c.unwritten) (ap (λ (y : FileState _). y.dlci) x.b_is ∙ dlci_a) (x.reads (waits ∙ none)) in
-      let came = read_some r s role n1 ds p v on.behind f.dlci c.unwritten on.fits among there got in
+      let came = read_some look role n1 ds p v on.behind f.dlci c.unwritten on.fits among there got in
       let first : length f.unwritten ≡ 0 = ap length none in
-      let before = (grows_then g t e k f a c x.a_grows ac).went in
+      let before = (grows_then file_look f a c x.a_grows ac).went in
       let rest = x.h_grows.read in
       omega (arith, came, first, before, rest);
   offered = λ some.
       let kept : c ≡ b = x.kept (λ q. some (sym waits ∙ q)) in
       let still_some : c.unwritten ≢ [] = λ q. some (sym (ap (λ (y : FileState _). y.unwritten) kept ∙ waits) ∙ q) in
-      offered_earlier g t e k f c h (grows_then g t e k f a c x.a_grows ac) (x.offers still_some);
-  grows = grows_then g t e k f a h x.a_grows (grows_then g t e k a c h ac x.h_grows);
+      offered_earlier file_look f c h (grows_then file_look f a c x.a_grows ac) (x.offers still_some);
+  grows = grows_then file_look f a h x.a_grows (grows_then file_look a c h ac x.h_grows);
 }
   where
     dlci_a : a.dlci ≡ f.dlci
@@ -296,11 +299,11 @@ had_turn r s g t e k u v f a b c h x role n1 ds p among = record {
     waits : b.unwritten ≡ f.unwritten
     waits = ap (λ (y : FileState _). y.unwritten) x.b_is ∙ ap (λ (y : FileState _). y.unwritten) x.a_is
 
-    ab : FileGrows g t e k a b
-    ab = fewer_grows g t e k a b x.b_is x.fewer
+    ab : FileGrows file_look a b
+    ab = fewer_grows file_look a b x.b_is x.fewer
 
-    bc : FileGrows g t e k b c
-    bc = more_grows g t e k b c x.c_is x.more
+    bc : FileGrows file_look b c
+    bc = more_grows file_look b c x.c_is x.more
 
-    ac : FileGrows g t e k a c
-    ac = grows_then g t e k a b c ab bc
+    ac : FileGrows file_look a c
+    ac = grows_then file_look a b c ab bc

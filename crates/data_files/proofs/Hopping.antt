@@ -6,6 +6,7 @@ use Rattle.std.proofs.lemmas.Bool.{and_from, and_parts, eqb-true}
 use Rattle.std.proofs.lemmas.List.Folds.{list_all-append}
 use Rattle.std.proofs.lemmas.List.Elements.{filter_map-append}
 use Rattle.mux_station.specs.declared.role.Role.{Role}
+use Rattle.serial_line.specs.LineViews.{LineView}
 use Rattle.modem_data.specs.Passing.{Pass, Came, Went, Flowed, Left, Lost, Began, EndedLane, Gave, Read, begin_of, carries, data_came, data_read, given, left, to_go, unread, wire}
 use Rattle.modem_data.specs.Hops.{Hop, Fed, Handed, Took, Wrote, Passed, pass_of, passes}
 use Rattle.modem_data_line.specs.DataLines.{is_of_driver, may_go, may_pass}
@@ -259,9 +260,9 @@ unsent_stays d (Took o ∷ hops) past e = unsent_stays d hops past e
 unsent_stays d (Wrote o ∷ hops) past e = unsent_stays d hops past e
 
 -- a file beside such hops fits as before
-pub fits_beside : {Y : Type 0} (gave took : Y → List ℕ) (f : FileState Y) (hops : List Hop) (past : List Pass) → list_all (is_beside f.dlci) hops ≡ true
-    → FileFits gave took past f → FileFits gave took (passes hops ++ past) f
-fits_beside gave took f hops past e h = record {
+pub fits_beside : {Y : Type 0} (look : Y → LineView) (f : FileState Y) (hops : List Hop) (past : List Pass) → list_all (is_beside f.dlci) hops ≡ true
+    → FileFits look past f → FileFits look (passes hops ++ past) f
+fits_beside look f hops past e h = record {
   given_are = h.given_are ∙ ap (λ (xs : List ℕ). f.before.received ++ (xs ++ f.ungiven)) (sym (all_given_stays f.dlci hops past e));
   read_are = ap (λ (xs : List ℕ). f.before.sent ++ xs) (all_read_stays f.dlci hops past e) ∙ h.read_are;
   renewals_are = let same = lanes_stay f.dlci hops past e in let few = h.renewals_are in omega (arith, same, few);
@@ -269,10 +270,10 @@ fits_beside gave took f hops past e h = record {
 }
 
 -- so does any file beside hops that may pass
-pub fits_passing : {Y : Type 0} (gave took : Y → List ℕ) (f : FileState Y) (hops : List Hop) (past : List Pass) → list_all (may_pass false) hops ≡ true
-    → FileFits gave took past f → FileFits gave took (passes hops ++ past) f
-fits_passing gave took f hops past e h =
-    fits_beside gave took f hops past (all_kind (may_pass false) (is_beside f.dlci) hops (passes_beside f.dlci) e) h
+pub fits_passing : {Y : Type 0} (look : Y → LineView) (f : FileState Y) (hops : List Hop) (past : List Pass) → list_all (may_pass false) hops ≡ true
+    → FileFits look past f → FileFits look (passes hops ++ past) f
+fits_passing look f hops past e h =
+    fits_beside look f hops past (all_kind (may_pass false) (is_beside f.dlci) hops (passes_beside f.dlci) e) h
 
 -- ## What decides of the data of d
 

@@ -3,6 +3,7 @@ use Rattle.std.specs.Prelude.{◌≡◌, ℕ, ◌+◌, ◌-◌, ◌≤◌, ◌==
 use Rattle.std.proofs.Common.{ap, arith, sym, ◌∙◌, subst, true≢false}
 use Rattle.std.proofs.lemmas.Bool.{and_from}
 use Rattle.std.proofs.lemmas.List.{append_assoc, append-nil, drop-append-le, drop_all, length-append, length-drop, length-take, take-append-le, take_all}
+use Rattle.serial_line.specs.LineViews.{LineView}
 use Rattle.modem_data.specs.Switching.{is_behind_lines}
 use Rattle.modem_data.specs.Passing.{Pass, Read, carries, unread}
 use Rattle.modem_data.specs.PipeSets.{OfEachPast, PipeSet}
@@ -97,26 +98,26 @@ on_ok (Err e) f h = tt
 
 -- ## A file
 
-kept_fits : {Y : Type 0} (g t : Y → List ℕ) (f : FileState Y) (octets : List ℕ) (over : Bool) (past : List Pass) → FileFits g t past f
-    → FileFits g t (Read f.dlci octets ∷ past) (record f { unwritten = f.unwritten ++ octets; is_over = over })
-kept_fits g t f octets over past h = record {
+kept_fits : {Y : Type 0} (look : Y → LineView) (f : FileState Y) (octets : List ℕ) (over : Bool) (past : List Pass) → FileFits look past f
+    → FileFits look (Read f.dlci octets ∷ past) (record f { unwritten = f.unwritten ++ octets; is_over = over })
+kept_fits look f octets over past h = record {
   given_are = h.given_are;
   read_are = rw (same_dlci f.dlci)
-      (sym (append_assoc f.before.sent (all_read f.dlci past) octets) ∙ (ap (λ (xs : List ℕ). xs ++ octets) h.read_are ∙ append_assoc (t f.file) f.unwritten octets));
+      (sym (append_assoc f.before.sent (all_read f.dlci past) octets) ∙ (ap (λ (xs : List ℕ). xs ++ octets) h.read_are ∙ append_assoc (look f.file).sent f.unwritten octets));
   renewals_are = h.renewals_are;
   dropped_are = h.dropped_are;
 }
 
 -- what is read and kept moves a file as a read of its connection does
-pub keeps : {X Y : Type 0} (r s : X → List ℕ) (g t : Y → List ℕ) (v w : DataLineState X) (f h : FileState Y) → KeepsOn v.relay w.relay f.dlci f.unwritten h.unwritten
-    → w ≡ record v { relay = w.relay } → h ≡ record f { unwritten = h.unwritten; is_over = h.is_over } → FileMoves r s g t v w f h
-keeps r s g t v w f h k beside e = record {
+pub keeps : {X Y : Type 0} (look : X → LineView) (file_look : Y → LineView) (v w : DataLineState X) (f h : FileState Y) → KeepsOn v.relay w.relay f.dlci f.unwritten h.unwritten
+    → w ≡ record v { relay = w.relay } → h ≡ record f { unwritten = h.unwritten; is_over = h.is_over } → FileMoves look file_look v w f h
+keeps look file_look v w f h k beside e = record {
   hops = Passed (Read f.dlci k.octets) ∷ [];
   only = and_from (f.dlci == f.dlci) true (same_dlci f.dlci) refl;
-  leads = lane_leads r s v w (Read f.dlci k.octets) k.read beside;
+  leads = lane_leads look v w (Read f.dlci k.octets) k.read beside;
   dlci_is = ap (λ (x : FileState _). x.dlci) e;
-  fits = λ role n1 ds b past fits x. subst (λ (y : FileState _). FileFits g t (Read f.dlci k.octets ∷ passes past) y)
-      (ap (λ (xs : List ℕ). record f { unwritten = xs; is_over = h.is_over }) (sym k.kept) ∙ sym e) (kept_fits g t f k.octets h.is_over (passes past) x);
+  fits = λ role n1 ds b past fits x. subst (λ (y : FileState _). FileFits file_look (Read f.dlci k.octets ∷ passes past) y)
+      (ap (λ (xs : List ℕ). record f { unwritten = xs; is_over = h.is_over }) (sym k.kept) ∙ sym e) (kept_fits file_look f k.octets h.is_over (passes past) x);
 }
 
 -- octets more make no fewer

@@ -6,6 +6,7 @@ use Rattle.std.proofs.lemmas.Bool.{eqb-true, eqb-false}
 use Rattle.std.proofs.lemmas.List.{append_assoc, length-map, length-set, get_or-map, get_or-set_same, get_or-set_other}
 use Rattle.std.proofs.lemmas.List.Elements.{All-weaker, All-get_or, All-from_get_or}
 use Rattle.serial_line.specs.declared.line.LineFault.{LineFault}
+use Rattle.serial_line.specs.LineViews.{LineView}
 use Rattle.modem_data.specs.Passing.{Pass}
 use Rattle.mux_station.specs.declared.role.Role.{Role}
 use Rattle.modem_data.specs.PipeSets.{AreApart}
@@ -18,37 +19,37 @@ use Rattle.data_files.proofs.Hopping.{all_both, all_kind, any_passes, driver_pas
 -- ## The line alone
 
 -- by hops that give and read nothing of any file
-by_hops : {X Y : Type 0} (r s : X → List ℕ) (g t : Y → List ℕ) (v : FiledState X Y) (x : DataLineState X) (hops : List Hop)
+by_hops : {X Y : Type 0} (look : X → LineView) (file_look : Y → LineView) (v : FiledState X Y) (x : DataLineState X) (hops : List Hop)
     → ((d : ℕ) → list_all (is_beside d) hops ≡ true)
-    → ((past : List Hop) → LineFits r s v.role v.n1 (dlcis v.files) v.before v.line past → LineFits r s v.role v.n1 (dlcis v.files) v.before x (hops ++ past))
-    → HasMoved r s g t v → HasMoved r s g t (record v { line = x })
-by_hops r s g t v x hops beside leads h = record {
+    → ((past : List Hop) → LineFits look v.role v.n1 (dlcis v.files) v.before v.line past → LineFits look v.role v.n1 (dlcis v.files) v.before x (hops ++ past))
+    → HasMoved look file_look v → HasMoved look file_look (record v { line = x })
+by_hops look file_look v x hops beside leads h = record {
   past = hops ++ h.past;
   fits = leads h.past h.fits;
-  files = subst (λ (ps : List Pass). All (FileFits g t ps) v.files) (sym (passes_both hops h.past))
-      (All-weaker (FileFits g t (passes h.past)) (FileFits g t (passes hops ++ passes h.past))
-      (λ (f : FileState _) k. fits_beside g t f hops (passes h.past) (beside f.dlci) k) v.files h.files);
+  files = subst (λ (ps : List Pass). All (FileFits file_look ps) v.files) (sym (passes_both hops h.past))
+      (All-weaker (FileFits file_look (passes h.past)) (FileFits file_look (passes hops ++ passes h.past))
+      (λ (f : FileState _) k. fits_beside file_look f hops (passes h.past) (beside f.dlci) k) v.files h.files);
 }
 
 passing : (hops : List Hop) → list_all (may_pass false) hops ≡ true → (d : ℕ) → list_all (is_beside d) hops ≡ true
 passing hops e d = all_kind (may_pass false) (is_beside d) hops (passes_beside d) e
 
 -- where octets and frames pass the line, and no lane is called, all its files still fit
-pub line_passes : {X Y : Type 0} (r s : X → List ℕ) (g t : Y → List ℕ) (v : FiledState X Y) (x : DataLineState X) (behind : Bool)
-    → LeadsBy r s (may_pass behind) v.line x → HasMoved r s g t v → HasMoved r s g t (record v { line = x })
-line_passes r s g t v x behind l h =
-    by_hops r s g t v x l.hops (passing l.hops (all_kind (may_pass behind) (may_pass false) l.hops (any_passes behind) l.only)) (l.leads v.role v.n1 (dlcis v.files) v.before) h
+pub line_passes : {X Y : Type 0} (look : X → LineView) (file_look : Y → LineView) (v : FiledState X Y) (x : DataLineState X) (behind : Bool)
+    → LeadsBy look (may_pass behind) v.line x → HasMoved look file_look v → HasMoved look file_look (record v { line = x })
+line_passes look file_look v x behind l h =
+    by_hops look file_look v x l.hops (passing l.hops (all_kind (may_pass behind) (may_pass false) l.hops (any_passes behind) l.only)) (l.leads v.role v.n1 (dlcis v.files) v.before) h
 
 -- so they do where octets and frames go out
-pub line_goes : {X Y : Type 0} (r s : X → List ℕ) (g t : Y → List ℕ) (v : FiledState X Y) (x : DataLineState X) (behind : Bool)
-    → LeadsBy r s (may_go behind) v.line x → HasMoved r s g t v → HasMoved r s g t (record v { line = x })
-line_goes r s g t v x behind l h =
-    by_hops r s g t v x l.hops (passing l.hops (all_kind (may_go behind) (may_pass false) l.hops (goes_passes behind) l.only)) (l.leads v.role v.n1 (dlcis v.files) v.before) h
+pub line_goes : {X Y : Type 0} (look : X → LineView) (file_look : Y → LineView) (v : FiledState X Y) (x : DataLineState X) (behind : Bool)
+    → LeadsBy look (may_go behind) v.line x → HasMoved look file_look v → HasMoved look file_look (record v { line = x })
+line_goes look file_look v x behind l h =
+    by_hops look file_look v x l.hops (passing l.hops (all_kind (may_go behind) (may_pass false) l.hops (goes_passes behind) l.only)) (l.leads v.role v.n1 (dlcis v.files) v.before) h
 
 -- what the line itself gave and took stays
-pub line_same : {X Y : Type 0} (r s : X → List ℕ) (g t : Y → List ℕ) (v : FiledState X Y) (x : DataLineState X) (w : X) → x ≡ record v.line { line = w }
-    → r w ≡ r v.line.line → s w ≡ s v.line.line → HasMoved r s g t v → HasMoved r s g t (record v { line = x })
-line_same r s g t v x w e came went h = subst (λ (y : DataLineState _). HasMoved r s g t (record v { line = y })) (sym e) (record {
+pub line_same : {X Y : Type 0} (look : X → LineView) (file_look : Y → LineView) (v : FiledState X Y) (x : DataLineState X) (w : X) → x ≡ record v.line { line = w }
+    → (look w).received ≡ (look v.line.line).received → (look w).sent ≡ (look v.line.line).sent → HasMoved look file_look v → HasMoved look file_look (record v { line = x })
+line_same look file_look v x w e came went h = subst (λ (y : DataLineState _). HasMoved look file_look (record v { line = y })) (sym e) (record {
   past = h.past;
   fits = record {
     relay_fits = h.fits.relay_fits;
@@ -70,21 +71,21 @@ taken_beside [] before d e = e
 taken_beside (o ∷ octets) before d e = e
 
 -- and where octets of the driver's are taken
-pub line_takes : {X Y : Type 0} (r s : X → List ℕ) (g t : Y → List ℕ) (v : FiledState X Y) (x : DataLineState X) (octets : List ℕ)
-    → TakesBy r s octets v.line x → HasMoved r s g t v → HasMoved r s g t (record v { line = x })
-line_takes r s g t v x octets l h =
-    by_hops r s g t v x (l.after ++ with_taken octets l.before)
+pub line_takes : {X Y : Type 0} (look : X → LineView) (file_look : Y → LineView) (v : FiledState X Y) (x : DataLineState X) (octets : List ℕ)
+    → TakesBy look octets v.line x → HasMoved look file_look v → HasMoved look file_look (record v { line = x })
+line_takes look file_look v x octets l h =
+    by_hops look file_look v x (l.after ++ with_taken octets l.before)
     (λ d. all_both (is_beside d) l.after (with_taken octets l.before)
     (passing l.after (all_kind (may_go x.is_behind) (may_pass false) l.after (goes_passes x.is_behind) l.only_after) d)
     (taken_beside octets l.before d (passing l.before (all_kind is_of_driver (may_pass false) l.before driver_passes l.only_before) d)))
-    (λ past k. subst (λ (hs : List Hop). LineFits r s v.role v.n1 (dlcis v.files) v.before x hs)
+    (λ past k. subst (λ (hs : List Hop). LineFits look v.role v.n1 (dlcis v.files) v.before x hs)
     (ap (λ (hs : List Hop). l.after ++ hs) (taken_before octets l.before past) ∙ sym (append_assoc l.after (with_taken octets l.before) past))
     (l.leads v.role v.n1 (dlcis v.files) v.before past k)) h
 
 -- a call that failed, and was counted
-pub line_counts : {X Y : Type 0} (r s : X → List ℕ) (g t : Y → List ℕ) (v : FiledState X Y) (x : DataLineState X) (calls failures : ℕ)
-    → x ≡ record v.line { calls = calls; failures = failures } → HasMoved r s g t v → HasMoved r s g t (record v { line = x })
-line_counts r s g t v x calls failures e h = subst (λ (y : DataLineState _). HasMoved r s g t (record v { line = y })) (sym e) (record {
+pub line_counts : {X Y : Type 0} (look : X → LineView) (file_look : Y → LineView) (v : FiledState X Y) (x : DataLineState X) (calls failures : ℕ)
+    → x ≡ record v.line { calls = calls; failures = failures } → HasMoved look file_look v → HasMoved look file_look (record v { line = x })
+line_counts look file_look v x calls failures e h = subst (λ (y : DataLineState _). HasMoved look file_look (record v { line = y })) (sym e) (record {
   past = h.past;
   fits = record {
     relay_fits = h.fits.relay_fits;
@@ -97,11 +98,11 @@ line_counts r s g t v x calls failures e h = subst (λ (y : DataLineState _). Ha
 })
 
 -- what a write of the driver's does
-pub line_writes : {X Y : Type 0} (r s : X → List ℕ) (g t : Y → List ℕ) (v : FiledState X Y) (x : DataLineState X) (octets : List ℕ) (calls failures : ℕ)
-    (result : Result ℕ LineFault) (P : ℕ → Type 0) → IfOk result (λ n. TakesBy r s (take n octets) v.line x)
-    → MatchResult result P (λ _. x ≡ record v.line { calls = calls; failures = failures }) → HasMoved r s g t v → HasMoved r s g t (record v { line = x })
-line_writes r s g t v x octets calls failures (Ok n) P takes call h = line_takes r s g t v x (take n octets) takes h
-line_writes r s g t v x octets calls failures (Err why) P takes call h = line_counts r s g t v x calls failures call h
+pub line_writes : {X Y : Type 0} (look : X → LineView) (file_look : Y → LineView) (v : FiledState X Y) (x : DataLineState X) (octets : List ℕ) (calls failures : ℕ)
+    (result : Result ℕ LineFault) (P : ℕ → Type 0) → IfOk result (λ n. TakesBy look (take n octets) v.line x)
+    → MatchResult result P (λ _. x ≡ record v.line { calls = calls; failures = failures }) → HasMoved look file_look v → HasMoved look file_look (record v { line = x })
+line_writes look file_look v x octets calls failures (Ok n) P takes call h = line_takes look file_look v x (take n octets) takes h
+line_writes look file_look v x octets calls failures (Err why) P takes call h = line_counts look file_look v x calls failures call h
 
 -- ## One file
 
@@ -128,31 +129,31 @@ apart_at files i j f apart there short other =
     (subst (λ (d : ℕ). (slice_index_or (dlcis files) i 0 == d) ≡ false) (dlci_at files j f 0 short)
     (apart j i 0 (in_there files j short) (in_there files i there) (λ q. other (sym q))))
 
-each_on : {X Y : Type 0} (r s : X → List ℕ) (g t : Y → List ℕ) (files : List (FileState Y)) (v w : DataLineState X) (i : ℕ) (f : FileState Y)
-    (role : Role) (n1 : ℕ) (b : Before) (past : List Hop) → LineFits r s role n1 (dlcis files) b v past → i < length files
-    → (m : FileMoves r s g t v w (slice_index_or files i f) f) → All (FileFits g t (passes past)) files
-    → All (FileFits g t (passes (m.hops ++ past))) (slice_set files i f)
-each_on r s g t files v w i f role n1 b past fits there m each =
-    All-from_get_or (FileFits g t (passes (m.hops ++ past))) (slice_set files i f) f (λ j short. at j (j == i) refl (subst (λ (n : ℕ). j < n) (length-set files i f) short))
+each_on : {X Y : Type 0} (look : X → LineView) (file_look : Y → LineView) (files : List (FileState Y)) (v w : DataLineState X) (i : ℕ) (f : FileState Y)
+    (role : Role) (n1 : ℕ) (b : Before) (past : List Hop) → LineFits look role n1 (dlcis files) b v past → i < length files
+    → (m : FileMoves look file_look v w (slice_index_or files i f) f) → All (FileFits file_look (passes past)) files
+    → All (FileFits file_look (passes (m.hops ++ past))) (slice_set files i f)
+each_on look file_look files v w i f role n1 b past fits there m each =
+    All-from_get_or (FileFits file_look (passes (m.hops ++ past))) (slice_set files i f) f (λ j short. at j (j == i) refl (subst (λ (n : ℕ). j < n) (length-set files i f) short))
   where
-    at : (j : ℕ) (b : Bool) → (j == i) ≡ b → j < length files → FileFits g t (passes (m.hops ++ past)) (slice_index_or (slice_set files i f) j f)
-    at j true e short = subst (λ (h : FileState _). FileFits g t (passes (m.hops ++ past)) h)
+    at : (j : ℕ) (b : Bool) → (j == i) ≡ b → j < length files → FileFits file_look (passes (m.hops ++ past)) (slice_index_or (slice_set files i f) j f)
+    at j true e short = subst (λ (h : FileState _). FileFits file_look (passes (m.hops ++ past)) h)
         (sym (get_or-set_same files i f f there) ∙ ap (λ (k : ℕ). slice_index_or (slice_set files i f) k f) (sym (eqb-true j i e)))
-        (m.fits role n1 (dlcis files) b past fits (All-get_or (FileFits g t (passes past)) files i f there each))
+        (m.fits role n1 (dlcis files) b past fits (All-get_or (FileFits file_look (passes past)) files i f there each))
     at j false e short =
         let other : j ≢ i = λ q. eqb-false j i e q in
         let here = slice_index_or files j f in
         let apart_here = apart_at files i j f fits.relay_fits.pipes_fit.apart there short other in
-        subst (λ (h : FileState _). FileFits g t (passes (m.hops ++ past)) h) (sym (get_or-set_other files i j f f other))
-        (subst (λ (ps : List Pass). FileFits g t ps here) (sym (passes_both m.hops past)) (fits_beside g t here m.hops (passes past) (all_kind (is_of_file (slice_index_or files i f).dlci) (is_beside here.dlci) m.hops
-        (of_file_beside (slice_index_or files i f).dlci here.dlci apart_here) m.only) (All-get_or (FileFits g t (passes past)) files j f short each)))
+        subst (λ (h : FileState _). FileFits file_look (passes (m.hops ++ past)) h) (sym (get_or-set_other files i j f f other))
+        (subst (λ (ps : List Pass). FileFits file_look ps here) (sym (passes_both m.hops past)) (fits_beside file_look here m.hops (passes past) (all_kind (is_of_file (slice_index_or files i f).dlci) (is_beside here.dlci) m.hops
+        (of_file_beside (slice_index_or files i f).dlci here.dlci apart_here) m.only) (All-get_or (FileFits file_look (passes past)) files j f short each)))
 
 -- the file at a place moves with the line, and all files fit
-pub moves_at : {X Y : Type 0} (r s : X → List ℕ) (g t : Y → List ℕ) (v : FiledState X Y) (x : DataLineState X) (i : ℕ) (f : FileState Y)
-    → i < length v.files → FileMoves r s g t v.line x (slice_index_or v.files i f) f → HasMoved r s g t v
-    → HasMoved r s g t (record v { line = x; files = slice_set v.files i f })
-moves_at r s g t v x i f there m h = record {
+pub moves_at : {X Y : Type 0} (look : X → LineView) (file_look : Y → LineView) (v : FiledState X Y) (x : DataLineState X) (i : ℕ) (f : FileState Y)
+    → i < length v.files → FileMoves look file_look v.line x (slice_index_or v.files i f) f → HasMoved look file_look v
+    → HasMoved look file_look (record v { line = x; files = slice_set v.files i f })
+moves_at look file_look v x i f there m h = record {
   past = m.hops ++ h.past;
-  fits = subst (λ (ds : List ℕ). LineFits r s v.role v.n1 ds v.before x (m.hops ++ h.past)) (sym (set_dlcis v.files i f m.dlci_is)) (m.leads v.role v.n1 (dlcis v.files) v.before h.past h.fits);
-  files = each_on r s g t v.files v.line x i f v.role v.n1 v.before h.past h.fits there m h.files;
+  fits = subst (λ (ds : List ℕ). LineFits look v.role v.n1 ds v.before x (m.hops ++ h.past)) (sym (set_dlcis v.files i f m.dlci_is)) (m.leads v.role v.n1 (dlcis v.files) v.before h.past h.fits);
+  files = each_on look file_look v.files v.line x i f v.role v.n1 v.before h.past h.fits there m h.files;
 }

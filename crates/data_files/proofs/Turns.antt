@@ -6,6 +6,7 @@ use Rattle.std.proofs.lemmas.List.{get_or-set_same, get_or-set_other, get_or_def
 use Rattle.std.proofs.lemmas.List.Elements.{All-get_or}
 use Rattle.mux_station.specs.Opening.{is_open}
 use Rattle.mux_station.specs.declared.role.Role.{Role}
+use Rattle.serial_line.specs.LineViews.{LineView}
 use Rattle.modem_data.specs.Switching.{takes_given}
 use Rattle.modem_data.specs.Passing.{Pass, IsOver}
 use Rattle.modem_data.specs.PipeSets.{NoneOf}
@@ -29,17 +30,17 @@ not_none files i f there none =
 -- ## What passed before a file's turn
 
 -- the line has come to fit a past from this one, beside d
-pub record Reached {X : Type 0} (r s : X → List ℕ) (role : Role) (n1 : ℕ) (ds : List ℕ) (p : Before) (v : DataLineState X) (d : ℕ) (past : List Hop) : Type 0 where
+pub record Reached {X : Type 0} (look : X → LineView) (role : Role) (n1 : ℕ) (ds : List ℕ) (p : Before) (v : DataLineState X) (d : ℕ) (past : List Hop) : Type 0 where
   pub behind : List Hop
-  pub fits : LineFits r s role n1 ds p v behind
+  pub fits : LineFits look role n1 ds p v behind
   pub beside : IsBeside role d (passes past) (passes behind)
 
 over_beside : (role : Role) (d : ℕ) (past behind : List Pass) → IsBeside role d past behind → IsOver role d past → IsOver role d behind
 over_beside role d past behind x over = record { idle = x.carries_is ∙ over.idle; all_read = x.read_is ∙ (over.all_read ∙ sym x.came_is) }
 
-turn_back : {X Y : Type 0} (r s : X → List ℕ) (g t : Y → List ℕ) (e k : Y → ℕ) (role : Role) (n1 : ℕ) (ds : List ℕ) (p : Before) (u v : DataLineState X) (f h : FileState Y)
-    → ((past : List Hop) → LineFits r s role n1 ds p u past → Reached r s role n1 ds p v f.dlci past) → HadTurn r s g t e k role n1 ds p v f h → HadTurn r s g t e k role n1 ds p u f h
-turn_back r s g t e k role n1 ds p u v f h reach turn = record {
+turn_back : {X Y : Type 0} (look : X → LineView) (file_look : Y → LineView) (role : Role) (n1 : ℕ) (ds : List ℕ) (p : Before) (u v : DataLineState X) (f h : FileState Y)
+    → ((past : List Hop) → LineFits look role n1 ds p u past → Reached look role n1 ds p v f.dlci past) → HadTurn look file_look role n1 ds p v f h → HadTurn look file_look role n1 ds p u f h
+turn_back look file_look role n1 ds p u v f h reach turn = record {
   asked = turn.asked;
   given = λ some past fits room.
       let x = reach past fits in
@@ -60,45 +61,45 @@ turn_back r s g t e k role n1 ds p u v f h reach turn = record {
 -- ## One behind the other
 
 -- where the file grows behind its turn, both are one turn
-pub turn_then : {X Y : Type 0} (r s : X → List ℕ) (g t : Y → List ℕ) (e k : Y → ℕ) (role : Role) (n1 : ℕ) (ds : List ℕ) (p : Before) (u : DataLineState X) (f h m : FileState Y)
-    → HadTurn r s g t e k role n1 ds p u f h → FileGrows g t e k h m → HadTurn r s g t e k role n1 ds p u f m
-turn_then r s g t e k role n1 ds p u f h m turn on = record {
-  asked = λ none more. asked_later g t e k f h m (turn.asked none more) on;
+pub turn_then : {X Y : Type 0} (look : X → LineView) (file_look : Y → LineView) (role : Role) (n1 : ℕ) (ds : List ℕ) (p : Before) (u : DataLineState X) (f h m : FileState Y)
+    → HadTurn look file_look role n1 ds p u f h → FileGrows file_look h m → HadTurn look file_look role n1 ds p u f m
+turn_then look file_look role n1 ds p u f h m turn on = record {
+  asked = λ none more. asked_later file_look f h m (turn.asked none more) on;
   given = λ some past fits room. let one = turn.given some past fits room in let two = on.given in omega (arith, one, two);
   read = λ none past fits some. let one = turn.read none past fits some in let two = on.read in omega (arith, one, two);
-  offered = λ some. offered_later g t e k f h m (turn.offered some) on;
+  offered = λ some. offered_later file_look f h m (turn.offered some) on;
   renewed = λ renews past fits over. let one = turn.renewed renews past fits over in let two = on.renewed in omega (arith, one, two);
-  grows = grows_then g t e k f h m turn.grows on;
+  grows = grows_then file_look f h m turn.grows on;
 }
 
 -- the turns of all came, and then they went on
-pub turns_then : {X Y : Type 0} (r s : X → List ℕ) (g t : Y → List ℕ) (e k : Y → ℕ) (u v : FiledState X Y) (now : List (FileState Y))
-    → HadTurns r s g t e k u v.files → HadTurns r s g t e k v now → HadTurns r s g t e k u now
-turns_then r s g t e k u v now one two = record {
+pub turns_then : {X Y : Type 0} (look : X → LineView) (file_look : Y → LineView) (u v : FiledState X Y) (now : List (FileState Y))
+    → HadTurns look file_look u v.files → HadTurns look file_look v now → HadTurns look file_look u now
+turns_then look file_look u v now one two = record {
   count = two.count ∙ one.count;
   each = λ i f there.
-      turn_then r s g t e k u.role u.n1 (dlcis u.files) u.before u.line (slice_index_or u.files i f) (slice_index_or v.files i f) (slice_index_or now i f) (one.each i f there)
+      turn_then look file_look u.role u.n1 (dlcis u.files) u.before u.line (slice_index_or u.files i f) (slice_index_or v.files i f) (slice_index_or now i f) (one.each i f there)
       (two.each i f (let same = one.count in omega (arith, there, same))).grows;
 }
 
 -- ## All of a line's
 
 -- the turn of the first so many came, and the others are as they were
-pub record TurnsSoFar {X Y : Type 0} (r s : X → List ℕ) (g t : Y → List ℕ) (e k : Y → ℕ) (n : ℕ) (u v : FiledState X Y) : Type 0 where
+pub record TurnsSoFar {X Y : Type 0} (look : X → LineView) (file_look : Y → LineView) (n : ℕ) (u v : FiledState X Y) : Type 0 where
   pub long : length v.files ≡ length u.files
   pub role_is : v.role ≡ u.role
   pub n1_is : v.n1 ≡ u.n1
   pub before_is : v.before ≡ u.before
   pub dlcis_are : dlcis v.files ≡ dlcis u.files
   pub came : (i : ℕ) (f : FileState Y) → i < n → i < length u.files
-      → HadTurn r s g t e k u.role u.n1 (dlcis u.files) u.before u.line (slice_index_or u.files i f) (slice_index_or v.files i f)
+      → HadTurn look file_look u.role u.n1 (dlcis u.files) u.before u.line (slice_index_or u.files i f) (slice_index_or v.files i f)
   pub others : (i : ℕ) (f : FileState Y) → n ≤ i → slice_index_or v.files i f ≡ slice_index_or u.files i f
-  pub reaches : (i : ℕ) (f : FileState Y) → n ≤ i → i < length u.files → (past : List Hop) → LineFits r s u.role u.n1 (dlcis u.files) u.before u.line past
-      → Reached r s u.role u.n1 (dlcis u.files) u.before v.line (slice_index_or u.files i f).dlci past
+  pub reaches : (i : ℕ) (f : FileState Y) → n ≤ i → i < length u.files → (past : List Hop) → LineFits look u.role u.n1 (dlcis u.files) u.before u.line past
+      → Reached look u.role u.n1 (dlcis u.files) u.before v.line (slice_index_or u.files i f).dlci past
 
 -- no file had its turn yet
-pub turns_none : {X Y : Type 0} (r s : X → List ℕ) (g t : Y → List ℕ) (e k : Y → ℕ) (u : FiledState X Y) → TurnsSoFar r s g t e k 0 u u
-turns_none r s g t e k u = record {
+pub turns_none : {X Y : Type 0} (look : X → LineView) (file_look : Y → LineView) (u : FiledState X Y) → TurnsSoFar look file_look 0 u u
+turns_none look file_look u = record {
   long = refl;
   role_is = refl;
   n1_is = refl;
@@ -110,16 +111,16 @@ turns_none r s g t e k u = record {
 }
 
 -- the next one has its turn
-pub turns_more : {X Y : Type 0} (r s : X → List ℕ) (g t : Y → List ℕ) (e k : Y → ℕ) (n : ℕ) (u v w : FiledState X Y) → TurnsSoFar r s g t e k n u v
-    → n < length v.files → MovesAt r s g t e k n v w → w ≡ record v { line = w.line; files = w.files } → length w.files ≡ length v.files
-    → TurnsSoFar r s g t e k (n + 1) u w
-turns_more r s g t e k n u v w h short m same long = record {
+pub turns_more : {X Y : Type 0} (look : X → LineView) (file_look : Y → LineView) (n : ℕ) (u v w : FiledState X Y) → TurnsSoFar look file_look n u v
+    → n < length v.files → MovesAt look file_look n v w → w ≡ record v { line = w.line; files = w.files } → length w.files ≡ length v.files
+    → TurnsSoFar look file_look (n + 1) u w
+turns_more look file_look n u v w h short m same long = record {
   long = long ∙ h.long;
   role_is = ap (λ (x : FiledState _ _). x.role) same ∙ h.role_is;
   n1_is = ap (λ (x : FiledState _ _). x.n1) same ∙ h.n1_is;
   before_is = ap (λ (x : FiledState _ _). x.before) same ∙ h.before_is;
   dlcis_are = ap dlcis m.files_are ∙ (set_dlcis v.files n m.file m.moves.dlci_is ∙ h.dlcis_are);
-  came = λ i f few there. subst (λ (xs : List (FileState _)). HadTurn r s g t e k u.role u.n1 (dlcis u.files) u.before u.line (slice_index_or u.files i f) (slice_index_or xs i f))
+  came = λ i f few there. subst (λ (xs : List (FileState _)). HadTurn look file_look u.role u.n1 (dlcis u.files) u.before u.line (slice_index_or u.files i f) (slice_index_or xs i f))
       (sym m.files_are) (at i f (i == n) refl few there);
   others = λ i f most. ap (λ (xs : List (FileState _)). slice_index_or xs i f) m.files_are
       ∙ (get_or-set_other v.files n i m.file f (λ q. omega (arith, most, q)) ∙ h.others i f (omega (arith, most)));
@@ -143,31 +144,31 @@ turns_more r s g t e k n u v w h short m same long = record {
     here : (f : FileState _) → slice_index_or v.files n m.file ≡ slice_index_or u.files n f
     here f = get_or_default v.files n m.file f short ∙ h.others n f (omega arith)
 
-    turn : HadTurn r s g t e k u.role u.n1 (dlcis u.files) u.before v.line (slice_index_or v.files n m.file) m.file
-    turn = subst (λ (o : Role). HadTurn r s g t e k o u.n1 (dlcis u.files) u.before v.line (slice_index_or v.files n m.file) m.file) h.role_is
-        (subst (λ (x : ℕ × List ℕ × Before). HadTurn r s g t e k v.role x.0 x.1 x.2 v.line (slice_index_or v.files n m.file) m.file)
+    turn : HadTurn look file_look u.role u.n1 (dlcis u.files) u.before v.line (slice_index_or v.files n m.file) m.file
+    turn = subst (λ (o : Role). HadTurn look file_look o u.n1 (dlcis u.files) u.before v.line (slice_index_or v.files n m.file) m.file) h.role_is
+        (subst (λ (x : ℕ × List ℕ × Before). HadTurn look file_look v.role x.0 x.1 x.2 v.line (slice_index_or v.files n m.file) m.file)
         (λ i. (h.n1_is i, h.dlcis_are i, h.before_is i)) m.turn)
 
     at : (i : ℕ) (f : FileState _) (b : Bool) → (i == n) ≡ b → i < n + 1 → i < length u.files
-        → HadTurn r s g t e k u.role u.n1 (dlcis u.files) u.before u.line (slice_index_or u.files i f) (slice_index_or (slice_set v.files n m.file) i f)
+        → HadTurn look file_look u.role u.n1 (dlcis u.files) u.before u.line (slice_index_or u.files i f) (slice_index_or (slice_set v.files n m.file) i f)
     at i f true q few there =
         let same_place : i ≡ n = eqb-true i n q in
         let now : slice_index_or (slice_set v.files n m.file) i f ≡ m.file =
         ap (λ (j : ℕ). slice_index_or (slice_set v.files n m.file) j f) same_place ∙ get_or-set_same v.files n m.file f short in
         let was : slice_index_or v.files n m.file ≡ slice_index_or u.files i f = here f ∙ ap (λ (j : ℕ). slice_index_or u.files j f) (sym same_place) in
-        subst (λ (x : FileState _). HadTurn r s g t e k u.role u.n1 (dlcis u.files) u.before u.line (slice_index_or u.files i f) x) (sym now)
-        (turn_back r s g t e k u.role u.n1 (dlcis u.files) u.before u.line v.line (slice_index_or u.files i f) m.file
+        subst (λ (x : FileState _). HadTurn look file_look u.role u.n1 (dlcis u.files) u.before u.line (slice_index_or u.files i f) x) (sym now)
+        (turn_back look file_look u.role u.n1 (dlcis u.files) u.before u.line v.line (slice_index_or u.files i f) m.file
         (h.reaches i f (omega (arith, same_place)) there)
-        (subst (λ (x : FileState _). HadTurn r s g t e k u.role u.n1 (dlcis u.files) u.before v.line x m.file) was turn))
+        (subst (λ (x : FileState _). HadTurn look file_look u.role u.n1 (dlcis u.files) u.before v.line x m.file) was turn))
     at i f false q few there =
         let other : i ≢ n = λ r. eqb-false i n q r in
-        subst (λ (x : FileState _). HadTurn r s g t e k u.role u.n1 (dlcis u.files) u.before u.line (slice_index_or u.files i f) x)
+        subst (λ (x : FileState _). HadTurn look file_look u.role u.n1 (dlcis u.files) u.before u.line (slice_index_or u.files i f) x)
         (sym (get_or-set_other v.files n i m.file f other)) (h.came i f (omega (arith, few, other)) there)
 
 -- when the first so many are all, each file of the line had its turn
-pub turns_all : {X Y : Type 0} (r s : X → List ℕ) (g t : Y → List ℕ) (e k : Y → ℕ) (n : ℕ) (u v : FiledState X Y) → TurnsSoFar r s g t e k n u v
-    → length v.files ≤ n → HadTurns r s g t e k u v.files
-turns_all r s g t e k n u v h most = record {
+pub turns_all : {X Y : Type 0} (look : X → LineView) (file_look : Y → LineView) (n : ℕ) (u v : FiledState X Y) → TurnsSoFar look file_look n u v
+    → length v.files ≤ n → HadTurns look file_look u v.files
+turns_all look file_look n u v h most = record {
   count = h.long;
   each = λ i f there. let long = h.long in h.came i f (omega (arith, there, most, long)) there;
 }

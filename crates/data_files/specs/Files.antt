@@ -1,11 +1,12 @@
 -- A line some of whose connections carry the data of files, as contracts see it. A past is written newest first.
 use Rattle.std.specs.Prelude.{◌≡◌, ℕ, ◌+◌, ◌-◌, ◌^◌, ◌≤◌, ◌==◌, Bool, false, List, [], ◌∷◌, ◌++◌, All, length, map, min, take, if◌then◌else◌}
 use Rattle.mux_station.specs.declared.role.Role.{Role}
+use Rattle.serial_line.specs.LineViews.{LineView}
 use Rattle.modem_data.specs.declared.begin.Begin.{Begin}
 use Rattle.modem_data.specs.declared.begin.Until.{Until}
 use Rattle.modem_data.specs.Passing.{Pass, Began, Gave, Read, to_go}
 use Rattle.modem_data.specs.Hops.{Hop, Passed, Relay, passes}
-use Rattle.modem_data_line.specs.DataLines.{Before, DataLineState, LineFits, new_data_line}
+use Rattle.modem_data_line.specs.DataLines.{Before, DataLineState, LineFits, data_view, new_data_line}
 use Rattle.modem_data_line.specs.LineLaws.{before_of}
 
 -- a file beside a connection, which is a line of its own
@@ -25,14 +26,14 @@ pub record FileState (Y : Type 0) : Type 0 where
   pub dropped : ℕ  -- how many octets lanes took that were over before these left
 
 -- nothing passes between it and its connection yet
-abbrev pub new_file : {Y : Type 0} → (received sent : Y → List ℕ) → ℕ → (how : Begin) → (until : Until) → Y → FileState Y
-new_file received sent dlci how until file = record {
+abbrev pub new_file : {Y : Type 0} → (look : Y → LineView) → ℕ → (how : Begin) → (until : Until) → Y → FileState Y
+new_file look dlci how until file = record {
   dlci = dlci;
   how = how;
   until = until;
   renews = false;
   file = file;
-  before = before_of received sent file;
+  before = before_of look file;
   ungiven = [];
   unwritten = [];
   has_ended = false;
@@ -43,11 +44,11 @@ new_file received sent dlci how until file = record {
 }
 
 -- The same file for another line: what it gave and took before is all but what waits. Its counts begin anew.
-abbrev pub again : {Y : Type 0} → (received sent : Y → List ℕ) → FileState Y → FileState Y
-again received sent f = record f {
+abbrev pub again : {Y : Type 0} → (look : Y → LineView) → FileState Y → FileState Y
+again look f = record f {
   before = record {
-    received = take (length (received f.file) - length f.ungiven) (received f.file);
-    sent = sent f.file ++ f.unwritten;
+    received = take (length (look f.file).received - length f.ungiven) (look f.file).received;
+    sent = (look f.file).sent ++ f.unwritten;
   };
   is_over = false;
   renewals = 0;
@@ -64,6 +65,10 @@ pub record FiledState (X Y : Type 0) : Type 0 where
   pub role : Role
   pub n1 : ℕ
   pub before : Before
+
+-- what the driver sees of it as of any line
+abbrev pub filed_view : {X Y : Type 0} → FiledState X Y → LineView
+filed_view v = data_view v.line
 
 -- what was given to the lanes of d, to one after the other, and what was read of them
 abbrev pub all_given : ℕ → List Pass → List ℕ
@@ -91,21 +96,21 @@ unsent_before d (_ ∷ past) = unsent_before d past
 -- All that the file gave since it was put beside its connection was given to the lanes there, in order, but for what waits; and what was
 -- read of them went to the file, in order, but for what waits. No more lanes are counted than began; what was given to lanes and never
 -- left is counted, to u64::MAX.
-pub record FileFits {Y : Type 0} (received sent : Y → List ℕ) (past : List Pass) (f : FileState Y) : Type 0 where
-  pub given_are : received f.file ≡ f.before.received ++ (all_given f.dlci past ++ f.ungiven)
-  pub read_are : f.before.sent ++ all_read f.dlci past ≡ sent f.file ++ f.unwritten
+pub record FileFits {Y : Type 0} (look : Y → LineView) (past : List Pass) (f : FileState Y) : Type 0 where
+  pub given_are : (look f.file).received ≡ f.before.received ++ (all_given f.dlci past ++ f.ungiven)
+  pub read_are : f.before.sent ++ all_read f.dlci past ≡ (look f.file).sent ++ f.unwritten
   pub renewals_are : f.renewals ≤ lanes_begun f.dlci past
   pub dropped_are : f.dropped ≡ min (unsent_before f.dlci past) (2 ^ 64 - 1)
 
 -- The line fits a past in which just the connections of the files may carry data, and each file fits that past too.
-pub record HasMoved {X Y : Type 0} (received sent : X → List ℕ) (gave took : Y → List ℕ) (v : FiledState X Y) : Type 0 where
+pub record HasMoved {X Y : Type 0} (look : X → LineView) (file_look : Y → LineView) (v : FiledState X Y) : Type 0 where
   pub past : List Hop
-  pub fits : LineFits received sent v.role v.n1 (dlcis v.files) v.before v.line past
-  pub files : All (FileFits gave took (passes past)) v.files
+  pub fits : LineFits look v.role v.n1 (dlcis v.files) v.before v.line past
+  pub files : All (FileFits file_look (passes past)) v.files
 
 -- nothing has passed between a file and its connection, and nothing waits
-pub record IsFresh {Y : Type 0} (received sent : Y → List ℕ) (f : FileState Y) : Type 0 where
-  pub before_is : f.before ≡ before_of received sent f.file
+pub record IsFresh {Y : Type 0} (look : Y → LineView) (f : FileState Y) : Type 0 where
+  pub before_is : f.before ≡ before_of look f.file
   pub none_waits : f.ungiven ≡ []
   pub none_read : f.unwritten ≡ []
   pub none_renewed : f.renewals ≡ 0
@@ -117,11 +122,11 @@ begun [] past = past
 begun (f ∷ files) past = begun files (Passed (Began f.dlci f.how f.until) ∷ past)
 
 -- This line has these files, and on it nothing has passed but that each file's lane began.
-pub record BeginsFiled {X Y : Type 0} (received sent : X → List ℕ) (line : X) (relay : Relay) (n1 : ℕ) (files : List (FileState Y))
+pub record BeginsFiled {X Y : Type 0} (look : X → LineView) (line : X) (relay : Relay) (n1 : ℕ) (files : List (FileState Y))
     (v : FiledState X Y) : Type 0 where
   pub files_are : v.files ≡ files
   pub role_is : v.role ≡ relay.pipes.role
   pub n1_is : v.n1 ≡ n1
-  pub before_is : v.before ≡ before_of received sent line
+  pub before_is : v.before ≡ before_of look line
   pub line_is : v.line ≡ record (new_data_line line relay) { relay = v.line.relay }
-  pub fits : LineFits received sent v.role n1 (dlcis files) v.before v.line (begun files [])
+  pub fits : LineFits look v.role n1 (dlcis files) v.before v.line (begun files [])

@@ -4,6 +4,7 @@ use Rattle.std.specs.List.{list_all}
 use Rattle.mux_station.specs.Opening.{is_open}
 use Rattle.mux_station.specs.declared.role.Role.{Role}
 use Rattle.serial_line.specs.Counts.{one_more}
+use Rattle.serial_line.specs.LineViews.{LineView}
 use Rattle.modem_data.specs.DataLanes.{most_to_go}
 use Rattle.modem_data.specs.Switching.{is_behind_lines, takes_given}
 use Rattle.modem_data.specs.Passing.{Pass, Began, Gave, Read, IsOver, carries, to_go, unread, wire}
@@ -21,15 +22,15 @@ is_of_file d a = false
 
 -- by some hops, by which no other connection's data is given or read, and no lane of another begins, the one line leads to the other, and
 -- the file goes along
-pub record FileMoves {X Y : Type 0} (received sent : X → List ℕ) (gave took : Y → List ℕ) (old new : DataLineState X)
+pub record FileMoves {X Y : Type 0} (look : X → LineView) (file_look : Y → LineView) (old new : DataLineState X)
     (f g : FileState Y) : Type 0 where
   pub hops : List Hop
   pub only : list_all (is_of_file f.dlci) hops ≡ true
-  pub leads : (role : Role) (n1 : ℕ) (ds : List ℕ) (b : Before) (past : List Hop) → LineFits received sent role n1 ds b old past
-      → LineFits received sent role n1 ds b new (hops ++ past)
+  pub leads : (role : Role) (n1 : ℕ) (ds : List ℕ) (b : Before) (past : List Hop) → LineFits look role n1 ds b old past
+      → LineFits look role n1 ds b new (hops ++ past)
   pub dlci_is : g.dlci ≡ f.dlci
-  pub fits : (role : Role) (n1 : ℕ) (ds : List ℕ) (b : Before) (past : List Hop) → LineFits received sent role n1 ds b old past
-      → FileFits gave took (passes past) f → FileFits gave took (passes (hops ++ past)) g
+  pub fits : (role : Role) (n1 : ℕ) (ds : List ℕ) (b : Before) (past : List Hop) → LineFits look role n1 ds b old past
+      → FileFits file_look (passes past) f → FileFits file_look (passes (hops ++ past)) g
 
 -- the first of these octets were given on d, and the others are left
 pub record GaveFirst (old new : Relay) (d : ℕ) (before after : List ℕ) : Type 0 where
@@ -82,28 +83,28 @@ abbrev pub ReadsOn : PipeSet → ℕ → (octets : List ℕ) → Type 0
 ReadsOn pipes d octets = IsNotData pipes d ⊎ IsUnread pipes d (length octets)
 
 -- the data that waits to be read of d is the same behind one line as before, whatever passed
-pub record StaysUnread {X : Type 0} (received sent : X → List ℕ) (new : DataLineState X) (role : Role) (n1 : ℕ) (ds : List ℕ) (b : Before) (d : ℕ)
+pub record StaysUnread {X : Type 0} (look : X → LineView) (new : DataLineState X) (role : Role) (n1 : ℕ) (ds : List ℕ) (b : Before) (d : ℕ)
     (past : List Hop) : Type 0 where
   pub behind : List Hop
-  pub fits : LineFits received sent role n1 ds b new behind
+  pub fits : LineFits look role n1 ds b new behind
   pub same : unread role d (passes behind) ≡ unread role d (passes past)
 
 -- that holds of each past
-abbrev pub KeepsUnread : {X : Type 0} (received sent : X → List ℕ) → (old new : DataLineState X) → ℕ → Type 0
-KeepsUnread received sent old new d = (role : Role) (n1 : ℕ) (ds : List ℕ) (b : Before) (past : List Hop) → LineFits received sent role n1 ds b old past
-    → StaysUnread received sent new role n1 ds b d past
+abbrev pub KeepsUnread : {X : Type 0} (look : X → LineView) → (old new : DataLineState X) → ℕ → Type 0
+KeepsUnread look old new d = (role : Role) (n1 : ℕ) (ds : List ℕ) (b : Before) (past : List Hop) → LineFits look role n1 ds b old past
+    → StaysUnread look new role n1 ds b d past
 
 -- ## A turn
 
 -- a file was asked for octets: it gave some, or had none and that was counted, or gives no more
-abbrev pub IsAskedFile : {Y : Type 0} (received : Y → List ℕ) (empty_reads : Y → ℕ) → (old new : FileState Y) → Type 0
-IsAskedFile received empty_reads old new = (new.has_ended ≡ true)
-    ⊎ ((length (received old.file) < length (received new.file)) ⊎ (one_more (empty_reads old.file) ≤ empty_reads new.file))
+abbrev pub IsAskedFile : {Y : Type 0} (look : Y → LineView) → (old new : FileState Y) → Type 0
+IsAskedFile look old new = (new.has_ended ≡ true)
+    ⊎ ((length (look old.file).received < length (look new.file).received) ⊎ (one_more (look old.file).empty_reads ≤ (look new.file).empty_reads))
 
 -- a file was offered octets: it took some, or took none and that was counted, or takes no more
-abbrev pub IsOfferedFile : {Y : Type 0} (sent : Y → List ℕ) (stalled_writes : Y → ℕ) → (old new : FileState Y) → Type 0
-IsOfferedFile sent stalled_writes old new = (new.is_broken ≡ true)
-    ⊎ ((length (sent old.file) < length (sent new.file)) ⊎ (one_more (stalled_writes old.file) ≤ stalled_writes new.file))
+abbrev pub IsOfferedFile : {Y : Type 0} (look : Y → LineView) → (old new : FileState Y) → Type 0
+IsOfferedFile look old new = (new.is_broken ≡ true)
+    ⊎ ((length (look old.file).sent < length (look new.file).sent) ⊎ (one_more (look old.file).stalled_writes ≤ (look new.file).stalled_writes))
 
 -- a count that stops at u64::MAX doesn't fall
 abbrev pub IsKept : (before after : ℕ) → Type 0
@@ -111,13 +112,13 @@ IsKept before after = min before (2 ^ 64 - 1) ≤ after
 
 -- Nothing of a file came back: what it gave and took only grows, and so does what was given of it and read for it, and the count of its
 -- lanes; and one that gives or takes no more stays so.
-pub record FileGrows {Y : Type 0} (received sent : Y → List ℕ) (empty_reads stalled_writes : Y → ℕ) (f g : FileState Y) : Type 0 where
-  pub came : length (received f.file) ≤ length (received g.file)
-  pub given : length (received f.file) + length g.ungiven ≤ length (received g.file) + length f.ungiven
-  pub went : length (sent f.file) ≤ length (sent g.file)
-  pub read : length (sent f.file) + length f.unwritten ≤ length (sent g.file) + length g.unwritten
-  pub empty : IsKept (empty_reads f.file) (empty_reads g.file)
-  pub stalled : IsKept (stalled_writes f.file) (stalled_writes g.file)
+pub record FileGrows {Y : Type 0} (look : Y → LineView) (f g : FileState Y) : Type 0 where
+  pub came : length (look f.file).received ≤ length (look g.file).received
+  pub given : length (look f.file).received + length g.ungiven ≤ length (look g.file).received + length f.ungiven
+  pub went : length (look f.file).sent ≤ length (look g.file).sent
+  pub read : length (look f.file).sent + length f.unwritten ≤ length (look g.file).sent + length g.unwritten
+  pub empty : IsKept (look f.file).empty_reads (look g.file).empty_reads
+  pub stalled : IsKept (look f.file).stalled_writes (look g.file).stalled_writes
   pub renewed : IsKept f.renewals g.renewals
   pub ended : f.has_ended ≡ true → g.has_ended ≡ true
   pub broken : f.is_broken ≡ true → g.is_broken ≡ true
@@ -131,37 +132,37 @@ pub record HasRoom (role : Role) (d : ℕ) (past : List Pass) : Type 0 where
 -- Since a line was as it is here, a file had a turn. Where none of its octets waited it was asked for some; where some did, and its
 -- connection had room, some more of them were given there. Where none waited for it, and there was data, some was read; where some
 -- did, they were offered to it. Where the lane of one that begins anew was over and read, the next began. And nothing of it came back.
-pub record HadTurn {X Y : Type 0} (received sent : X → List ℕ) (gave took : Y → List ℕ) (empty_reads stalled_writes : Y → ℕ)
+pub record HadTurn {X Y : Type 0} (look : X → LineView) (file_look : Y → LineView)
     (role : Role) (n1 : ℕ) (ds : List ℕ) (b : Before) (v : DataLineState X) (f g : FileState Y) : Type 0 where
-  pub asked : f.ungiven ≡ [] → f.has_ended ≡ false → IsAskedFile gave empty_reads f g
-  pub given : f.ungiven ≢ [] → (past : List Hop) → LineFits received sent role n1 ds b v past → HasRoom role f.dlci (passes past)
-      → length (gave f.file) + length g.ungiven < length (gave g.file) + length f.ungiven
-  pub read : f.unwritten ≡ [] → (past : List Hop) → LineFits received sent role n1 ds b v past → 0 < unread role f.dlci (passes past)
-      → length (took f.file) + length f.unwritten < length (took g.file) + length g.unwritten
-  pub offered : f.unwritten ≢ [] → IsOfferedFile took stalled_writes f g
-  pub renewed : f.renews ≡ true → (past : List Hop) → LineFits received sent role n1 ds b v past → IsOver role f.dlci (passes past)
+  pub asked : f.ungiven ≡ [] → f.has_ended ≡ false → IsAskedFile file_look f g
+  pub given : f.ungiven ≢ [] → (past : List Hop) → LineFits look role n1 ds b v past → HasRoom role f.dlci (passes past)
+      → length (file_look f.file).received + length g.ungiven < length (file_look g.file).received + length f.ungiven
+  pub read : f.unwritten ≡ [] → (past : List Hop) → LineFits look role n1 ds b v past → 0 < unread role f.dlci (passes past)
+      → length (file_look f.file).sent + length f.unwritten < length (file_look g.file).sent + length g.unwritten
+  pub offered : f.unwritten ≢ [] → IsOfferedFile file_look f g
+  pub renewed : f.renews ≡ true → (past : List Hop) → LineFits look role n1 ds b v past → IsOver role f.dlci (passes past)
       → one_more f.renewals ≤ g.renewals
-  pub grows : FileGrows gave took empty_reads stalled_writes f g
+  pub grows : FileGrows file_look f g
 
 -- so had each of a line's, which are so now
-pub record HadTurns {X Y : Type 0} (received sent : X → List ℕ) (gave took : Y → List ℕ) (empty_reads stalled_writes : Y → ℕ)
+pub record HadTurns {X Y : Type 0} (look : X → LineView) (file_look : Y → LineView)
     (v : FiledState X Y) (now : List (FileState Y)) : Type 0 where
   pub count : length now ≡ length v.files
   pub each : (i : ℕ) (f : FileState Y) → i < length v.files
-      → HadTurn received sent gave took empty_reads stalled_writes v.role v.n1 (dlcis v.files) v.before v.line
+      → HadTurn look file_look v.role v.n1 (dlcis v.files) v.before v.line
       (slice_index_or v.files i f) (slice_index_or now i f)
 
 -- at one place the file moved on with the line, and no other changed
-pub record MovesAt {X Y : Type 0} (received sent : X → List ℕ) (gave took : Y → List ℕ) (empty_reads stalled_writes : Y → ℕ) (place : ℕ)
+pub record MovesAt {X Y : Type 0} (look : X → LineView) (file_look : Y → LineView) (place : ℕ)
     (v w : FiledState X Y) : Type 0 where
   pub file : FileState Y
-  pub moves : FileMoves received sent gave took v.line w.line (slice_index_or v.files place file) file
-  pub turn : HadTurn received sent gave took empty_reads stalled_writes v.role v.n1 (dlcis v.files) v.before v.line
+  pub moves : FileMoves look file_look v.line w.line (slice_index_or v.files place file) file
+  pub turn : HadTurn look file_look v.role v.n1 (dlcis v.files) v.before v.line
       (slice_index_or v.files place file) file
   pub files_are : w.files ≡ slice_set v.files place file
 
 -- the lanes of the first so many files began on a line, in order, and nothing else happened to it
-pub record HasBegunTo {X Y : Type 0} (received sent : X → List ℕ) (files : List (FileState Y)) (old new : DataLineState X) : Type 0 where
-  pub leads : (role : Role) (n1 : ℕ) (ds : List ℕ) (b : Before) (past : List Hop) → LineFits received sent role n1 ds b old past
-      → LineFits received sent role n1 ds b new (begun files past)
+pub record HasBegunTo {X Y : Type 0} (look : X → LineView) (files : List (FileState Y)) (old new : DataLineState X) : Type 0 where
+  pub leads : (role : Role) (n1 : ℕ) (ds : List ℕ) (b : Before) (past : List Hop) → LineFits look role n1 ds b old past
+      → LineFits look role n1 ds b new (begun files past)
   pub same : new ≡ record old { relay = new.relay }

@@ -26,34 +26,34 @@ impl Model for Before {
 struct Received;
 
 impl<'a, L: SerialLine> Names<&'a L> for Received {
-    ghost numbers = { λ line. L.received line.now };
+    ghost numbers = { λ line. (L.seen line.now).received };
 }
 
 // The octets that a line has taken.
 struct Sent;
 
 impl<'a, L: SerialLine> Names<&'a L> for Sent {
-    ghost numbers = { λ line. L.sent line.now };
+    ghost numbers = { λ line. (L.seen line.now).sent };
 }
 
 // The octets that a line has given, but for these last ones.
 struct ReceivedBut;
 
 impl<'a, L: SerialLine> Names<(&'a L, &'a ReadBuffer)> for ReceivedBut {
-    ghost numbers = { λ both. take (length (L.received both.0.now) - length both.1.now) (L.received both.0.now) };
+    ghost numbers = { λ both. take (length (L.seen both.0.now).received - length both.1.now) (L.seen both.0.now).received };
 }
 
 // The octets that a line has taken, and then these.
 struct SentWith;
 
 impl<'a, L: SerialLine> Names<(&'a L, &'a Unwritten)> for SentWith {
-    ghost numbers = { λ both. L.sent both.0.now ++ both.1.now };
+    ghost numbers = { λ both. (L.seen both.0.now).sent ++ both.1.now };
 }
 
 impl Before {
     /// What this line has given and taken.
     pub fn of<L: SerialLine>(line: &L) -> Before
-        ensures { result ≡ before_of L.received L.sent line.now }
+        ensures { result ≡ before_of L.seen line.now }
     {
         Before {
             received: Tag::of::<&L, Received>(&line),
@@ -64,8 +64,8 @@ impl Before {
     /// What this line has given but for `ungiven`, and taken with `unwritten`.
     pub fn but<L: SerialLine>(line: &L, ungiven: &ReadBuffer, unwritten: &Unwritten) -> Before
         ensures { result ≡ record {
-          received = take (length (L.received line.now) - length ungiven.now) (L.received line.now);
-          sent = L.sent line.now ++ unwritten.now;
+          received = take (length (L.seen line.now).received - length ungiven.now) (L.seen line.now).received;
+          sent = (L.seen line.now).sent ++ unwritten.now;
         } }
     {
         Before {

@@ -96,7 +96,7 @@ impl<P: SerialLine + Drop> DataFile<P> {
         until: Until,
         file: P,
     ) -> Result<DataFile<P>, AllocError>
-        ensures { IfOk result (λ f. f ≡ new_file P.received P.sent dlci.number how until file) }
+        ensures { IfOk result (λ f. f ≡ new_file P.seen dlci.number how until file) }
     {
         let ungiven = ReadBuffer::new(alloc)?;
         let before = Before::of(&file);
@@ -140,7 +140,7 @@ impl<P: SerialLine> DataFile<P> {
 
     /// For another line, at which nothing has passed: what waits for the file and of it goes on there. Its counts begin anew.
     pub(crate) fn begin_again(&mut self)
-        ensures { self.new ≡ again P.received P.sent self.old }
+        ensures { self.new ≡ again P.seen self.old }
     {
         self.before = Before::but(&self.file, &self.ungiven, &self.unwritten);
         self.is_over = false;
@@ -222,16 +222,16 @@ impl<P: SerialLine> DataFile<P> {
     /// Reads the file once, where none of its octets wait to be given.
     #[tactic(auto, using(crate::proofs::FileSteps::came_of_file, crate::proofs::Growing::grows_none))]
     fn read_file(&mut self)
-        ensures fits { (past : List Pass) → FileFits P.received P.sent past self.old → FileFits P.received P.sent past self.new }
+        ensures fits { (past : List Pass) → FileFits P.seen past self.old → FileFits P.seen past self.new }
         ensures same { self.new ≡ record self.old {
           file = self.new.file;
           ungiven = self.new.ungiven;
           has_ended = self.new.has_ended;
         } }
-        ensures asked { self.old.ungiven ≡ [] → self.old.has_ended ≡ false → IsAskedFile P.received P.empty_reads self.old self.new }
+        ensures asked { self.old.ungiven ≡ [] → self.old.has_ended ≡ false → IsAskedFile P.seen self.old self.new }
         ensures still { self.old.ungiven ≢ [] → self.new ≡ self.old }
-        ensures grows { FileGrows P.received P.sent P.empty_reads P.stalled_writes self.old self.new }
-        ensures none_went { (P.sent self.new.file ≡ P.sent self.old.file) × (P.stalled_writes self.new.file ≡ P.stalled_writes self.old.file) }
+        ensures grows { FileGrows P.seen self.old self.new }
+        ensures none_went { ((P.seen self.new.file).sent ≡ (P.seen self.old.file).sent) × ((P.seen self.new.file).stalled_writes ≡ (P.seen self.old.file).stalled_writes) }
     {
         if self.has_ended || !self.ungiven.is_empty() {
             return;
@@ -244,12 +244,12 @@ impl<P: SerialLine> DataFile<P> {
     /// Gives the connection octets that wait for it, and says whether it took some.
     #[tactic(auto, using(crate::proofs::FileSteps::gives, crate::proofs::FileSteps::moves_same, crate::proofs::Growing::unread_same))]
     fn give<L: SerialLine>(&mut self, line: &mut DataLine<L>) -> bool
-        ensures moves { FileMoves L.received L.sent P.received P.sent line.old line.new self.old self.new }
+        ensures moves { FileMoves L.seen P.seen line.old line.new self.old self.new }
         ensures same { self.new ≡ record self.old { ungiven = self.new.ungiven } }
         ensures beside { line.new ≡ record line.old { relay = line.new.relay } }
         ensures gives { GivesOn line.old.relay.pipes self.old.dlci self.old.ungiven self.new.ungiven }
         ensures fewer { length self.new.ungiven ≤ length self.old.ungiven }
-        ensures unread { KeepsUnread L.received L.sent line.old line.new self.old.dlci }
+        ensures unread { KeepsUnread L.seen line.old line.new self.old.dlci }
     {
         match give(line, self.dlci, &mut self.ungiven) {
             Ok(count) => count > 0,
@@ -260,7 +260,7 @@ impl<P: SerialLine> DataFile<P> {
     /// Reads data of the connection, where none waits for the file, and says whether some came.
     #[tactic(auto, using(crate::proofs::FileSteps::takes, crate::proofs::FileSteps::moves_same))]
     fn take<L: SerialLine>(&mut self, line: &mut DataLine<L>) -> bool
-        ensures moves { FileMoves L.received L.sent P.received P.sent line.old line.new self.old self.new }
+        ensures moves { FileMoves L.seen P.seen line.old line.new self.old self.new }
         ensures same { self.new ≡ record self.old { unwritten = self.new.unwritten; is_over = self.new.is_over } }
         ensures beside { line.new ≡ record line.old { relay = line.new.relay } }
         ensures reads { self.old.unwritten ≡ [] → ReadsOn line.old.relay.pipes self.old.dlci self.new.unwritten }
@@ -282,16 +282,16 @@ impl<P: SerialLine> DataFile<P> {
     /// Writes octets that wait to the file, once, and says whether it took some.
     #[tactic(auto, using(crate::proofs::FileSteps::went_to_file, crate::proofs::Growing::grows_none))]
     fn write_file(&mut self) -> bool
-        ensures fits { (past : List Pass) → FileFits P.received P.sent past self.old → FileFits P.received P.sent past self.new }
+        ensures fits { (past : List Pass) → FileFits P.seen past self.old → FileFits P.seen past self.new }
         ensures same { self.new ≡ record self.old {
           file = self.new.file;
           unwritten = self.new.unwritten;
           is_broken = self.new.is_broken;
         } }
-        ensures offered { self.old.unwritten ≢ [] → IsOfferedFile P.sent P.stalled_writes self.old self.new }
+        ensures offered { self.old.unwritten ≢ [] → IsOfferedFile P.seen self.old self.new }
         ensures still { self.old.unwritten ≡ [] → self.new ≡ self.old }
-        ensures grows { FileGrows P.received P.sent P.empty_reads P.stalled_writes self.old self.new }
-        ensures none_came { (P.received self.new.file ≡ P.received self.old.file) × (P.empty_reads self.new.file ≡ P.empty_reads self.old.file) }
+        ensures grows { FileGrows P.seen self.old self.new }
+        ensures none_came { ((P.seen self.new.file).received ≡ (P.seen self.old.file).received) × ((P.seen self.new.file).empty_reads ≡ (P.seen self.old.file).empty_reads) }
     {
         if self.is_broken || self.unwritten.is_empty() {
             return false;
@@ -337,7 +337,7 @@ impl<P: SerialLine> DataFile<P> {
     /// Where data waits for the file and none is under way on the connection, reads what is left of a lane that is over, at most 512 octets, so
     /// that the next can begin. Says whether some came. Refused for memory: then nothing is read.
     fn keep<L: SerialLine>(&mut self, line: &mut DataLine<L>) -> Result<bool, DataError>
-        ensures moves { FileMoves L.received L.sent P.received P.sent line.old line.new self.old self.new }
+        ensures moves { FileMoves L.seen P.seen line.old line.new self.old self.new }
         ensures keeps { OnOk result (self.old.renews ≡ true → self.old.unwritten ≢ []
             → KeepsLeft line.old.relay.pipes self.old.dlci self.old.unwritten self.new.unwritten) }
         ensures some { IfOk result (λ some. some ≡ false → length self.new.unwritten ≤ length self.old.unwritten) }
@@ -364,10 +364,10 @@ impl<P: SerialLine> DataFile<P> {
     /// Begins the next lane where one is due, moves octets between the connection and its file, both ways, and says whether anything
     /// moved. What a lane that is over left is kept, where there is memory.
     pub(crate) fn move_on<L: SerialLine>(&mut self, line: &mut DataLine<L>) -> bool
-        ensures moves { FileMoves L.received L.sent P.received P.sent line.old line.new self.old self.new }
+        ensures moves { FileMoves L.seen P.seen line.old line.new self.old self.new }
         ensures beside { line.new ≡ record line.old { relay = line.new.relay } }
         ensures turn { (role : Role) (n1 : ℕ) (ds : List ℕ) (b : Had) → (NoneOf ds self.old.dlci → ⊥)
-            → HadTurn L.received L.sent P.received P.sent P.empty_reads P.stalled_writes role n1 ds b line.old self.old self.new }
+            → HadTurn L.seen P.seen role n1 ds b line.old self.old self.new }
     {
         let began = self.renew(line);
         self.read_file();

@@ -40,7 +40,7 @@ impl<L: SerialLine, P: SerialLine> Model for FiledLine<L, P> {
 
     ghost view = { λ l. record { line = l.line; files = l.files.items; role = l.role; n1 = l.n1; before = l.before } };
 
-    ghost invariant = { λ l. HasMoved L.received L.sent P.received P.sent (record {
+    ghost invariant = { λ l. HasMoved L.seen P.seen (record {
       line = l.line;
       files = l.files.items;
       role = l.role;
@@ -52,7 +52,7 @@ impl<L: SerialLine, P: SerialLine> Model for FiledLine<L, P> {
 /// Has each file begin again, for another line.
 #[tactic(auto, using(crate::proofs::Again::again_none, crate::proofs::Again::again_more, crate::proofs::Again::again_all))]
 fn begin_again<P: SerialLine>(files: &mut Vec<DataFile<P>>)
-    ensures { files.new.items ≡ map (again P.received P.sent) files.old.items }
+    ensures { files.new.items ≡ map (again P.seen) files.old.items }
 {
     let mut place = 0;
     while place < files.len() {
@@ -67,7 +67,7 @@ fn begin_all<L: SerialLine, P: SerialLine>(
     line: &mut DataLine<L>,
     files: &[DataFile<P>],
 ) -> Result<(), DataError>
-    ensures { OnOk result (HasBegunTo L.received L.sent files.now line.old line.new) }
+    ensures { OnOk result (HasBegunTo L.seen files.now line.old line.new) }
 {
     let mut place = 0;
     while place < files.len() {
@@ -85,7 +85,7 @@ fn begun_line<L: SerialLine + Drop, P: SerialLine>(
     relay: Relay,
     files: &[DataFile<P>],
 ) -> Result<DataLine<L>, DataError>
-    ensures { IfOk result (HasBegunTo L.received L.sent files.now (new_data_line line relay)) }
+    ensures { IfOk result (HasBegunTo L.seen files.now (new_data_line line relay)) }
 {
     let Ok(mut line) = DataLine::new(alloc, line, relay) else {
         return Err(DataError::NoMemory);
@@ -107,8 +107,8 @@ impl<L: SerialLine + Drop, P: SerialLine + Drop> FiledLine<L, P> {
         files: Vec<DataFile<P>>,
     ) -> Result<FiledLine<L, P>, DataError>
         requires relay { BeginsRelay n1 (dlcis files.items) relay }
-        requires fresh { All (IsFresh P.received P.sent) files.items }
-        ensures begins { IfOk result (BeginsFiled L.received L.sent line relay n1 files.items) }
+        requires fresh { All (IsFresh P.seen) files.items }
+        ensures begins { IfOk result (BeginsFiled L.seen line relay n1 files.items) }
     {
         FiledLine::with_role(alloc, Role::Initiator, line, relay, n1, files)
     }
@@ -126,8 +126,8 @@ impl<L: SerialLine + Drop, P: SerialLine + Drop> FiledLine<L, P> {
         files: Vec<DataFile<P>>,
     ) -> Result<FiledLine<L, P>, DataError>
         requires relay { BeginsAs role n1 (dlcis files.items) relay }
-        requires fits { All (FileFits P.received P.sent []) files.items }
-        ensures begins { IfOk result (BeginsFiled L.received L.sent line relay n1 files.items) }
+        requires fits { All (FileFits P.seen []) files.items }
+        ensures begins { IfOk result (BeginsFiled L.seen line relay n1 files.items) }
     {
         let before = Before::of(&line);
         let line = begun_line(alloc, line, relay, files.as_slice())?;
@@ -144,7 +144,7 @@ impl<L: SerialLine + Drop, P: SerialLine + Drop> FiledLine<L, P> {
 impl<L: SerialLine, P: SerialLine> FiledLine<L, P> {
     /// What has moved: it does nothing, and its clause says so of the line as it is.
     pub fn has_moved(&self)
-        ensures { HasMoved L.received L.sent P.received P.sent self.now }
+        ensures { HasMoved L.seen P.seen self.now }
     {
         let _ = &self.line;
     }
@@ -167,7 +167,7 @@ impl<L: SerialLine, P: SerialLine> FiledLine<L, P> {
     pub fn into_parts(self) -> (DataLine<L>, Vec<DataFile<P>>)
         ensures line { result.0 ≡ self.line }
         ensures files { result.1.items ≡ self.files }
-        ensures moved { HasMoved L.received L.sent P.received P.sent self }
+        ensures moved { HasMoved L.seen P.seen self }
     {
         (self.line, self.files)
     }
@@ -176,8 +176,8 @@ impl<L: SerialLine, P: SerialLine> FiledLine<L, P> {
     pub fn into_files(self) -> Vec<DataFile<P>>
     where
         L: Drop,
-        ensures files { result.items ≡ map (again P.received P.sent) self.files }
-        ensures fits { All (FileFits P.received P.sent []) result.items }
+        ensures files { result.items ≡ map (again P.seen) self.files }
+        ensures fits { All (FileFits P.seen []) result.items }
     {
         let (_line, files) = self.into_parts();
         let mut files = files;
@@ -189,7 +189,7 @@ impl<L: SerialLine, P: SerialLine> FiledLine<L, P> {
     #[tactic(auto, using(crate::proofs::Lifts::moves_at))]
     fn move_file(&mut self, place: usize) -> bool
         requires { place < length self.old.files }
-        ensures moves { MovesAt L.received L.sent P.received P.sent P.empty_reads P.stalled_writes place self.old self.new }
+        ensures moves { MovesAt L.seen P.seen place self.old self.new }
         ensures same { self.new ≡ record self.old { line = self.new.line; files = self.new.files } }
         ensures beside { self.new.line ≡ record self.old.line { relay = self.new.line.relay } }
         ensures count { length self.new.files ≡ length self.old.files }
@@ -200,7 +200,7 @@ impl<L: SerialLine, P: SerialLine> FiledLine<L, P> {
     /// Moves octets of each file and its connection, and says whether any moved.
     #[tactic(auto, using(crate::proofs::Turns::turns_none, crate::proofs::Turns::turns_more, crate::proofs::Turns::turns_all))]
     fn move_files(&mut self) -> bool
-        ensures turns { HadTurns L.received L.sent P.received P.sent P.empty_reads P.stalled_writes self.old self.new.files }
+        ensures turns { HadTurns L.seen P.seen self.old self.new.files }
         ensures same { self.new ≡ record self.old { line = self.new.line; files = self.new.files } }
         ensures beside { self.new.line ≡ record self.old.line { relay = self.new.line.relay } }
     {
@@ -242,7 +242,7 @@ impl<L: SerialLine, P: SerialLine> FiledLine<L, P> {
 
     /// One round: it moves octets of each file, writes the line once and reads it once, and says whether anything moved.
     fn round(&mut self) -> bool
-        ensures turns { HadTurns L.received L.sent P.received P.sent P.empty_reads P.stalled_writes self.old self.new.files }
+        ensures turns { HadTurns L.seen P.seen self.old self.new.files }
         ensures same { self.new ≡ record self.old { line = self.new.line; files = self.new.files } }
         ensures beside { self.new.line ≡ record self.old.line {
           line = self.new.line.line;
@@ -261,7 +261,7 @@ impl<L: SerialLine, P: SerialLine> FiledLine<L, P> {
     /// nothing, at most 256. Each file has a turn. The driver sees nothing of it.
     #[tactic(auto, using(crate::proofs::Turns::turns_then))]
     pub fn move_all(&mut self)
-        ensures turns { HadTurns L.received L.sent P.received P.sent P.empty_reads P.stalled_writes self.old self.new.files }
+        ensures turns { HadTurns L.seen P.seen self.old self.new.files }
         ensures same { self.new ≡ record self.old { line = self.new.line; files = self.new.files } }
         ensures beside { self.new.line ≡ record self.old.line {
           line = self.new.line.line;

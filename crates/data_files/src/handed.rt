@@ -13,20 +13,20 @@ pub trait HandedLine: SerialLine {
         ensures given { OnOk result
             ((Self.other_side self.new).given ≡ (Self.other_side self.old).given ++ octets.now) }
         ensures err { OnErr result (self.new ≡ self.old) }
-        ensures received { Self.received self.new ≡ Self.received self.old }
-        ensures sent { Self.sent self.new ≡ Self.sent self.old };
+        ensures received { (Self.seen self.new).received ≡ (Self.seen self.old).received }
+        ensures sent { (Self.seen self.new).sent ≡ (Self.seen self.old).sent };
 
     /// Whether all that was handed in is read.
     fn is_read(&self) -> bool
-        ensures { result ≡ true → (Self.other_side self.now).given ≡ Self.received self.now };
+        ensures { result ≡ true → (Self.other_side self.now).given ≡ (Self.seen self.now).received };
 
     /// Hands out what it took, behind other octets. Refused for memory: then nothing is handed out.
     fn take(&mut self, out: &mut Vec<u8>) -> Result<(), AllocError>
-        ensures out { OnOk result (HandsOut (Self.other_side self.old).passed_on (Self.sent self.old) out.old.items out.new.items) }
-        ensures passed { OnOk result ((Self.other_side self.new).passed_on ≡ Self.sent self.old) }
+        ensures out { OnOk result (HandsOut (Self.other_side self.old).passed_on (Self.seen self.old).sent out.old.items out.new.items) }
+        ensures passed { OnOk result ((Self.other_side self.new).passed_on ≡ (Self.seen self.old).sent) }
         ensures err { OnErr result ((self.new ≡ self.old) × (out.new.items ≡ out.old.items)) }
-        ensures received { Self.received self.new ≡ Self.received self.old }
-        ensures sent { Self.sent self.new ≡ Self.sent self.old };
+        ensures received { (Self.seen self.new).received ≡ (Self.seen self.old).received }
+        ensures sent { (Self.seen self.new).sent ≡ (Self.seen self.old).sent };
 }
 
 impl<L: HandedLine, P: SerialLine> FiledLine<L, P> {
@@ -43,7 +43,7 @@ impl<L: HandedLine, P: SerialLine> FiledLine<L, P> {
 
     /// Whether the line itself has read all that was handed in.
     pub fn is_read(&self) -> bool
-        ensures { result ≡ true → (L.other_side self.now.line.line).given ≡ L.received self.now.line.line }
+        ensures { result ≡ true → (L.other_side self.now.line.line).given ≡ (L.seen self.now.line.line).received }
     {
         self.line.line().is_read()
     }
@@ -51,7 +51,7 @@ impl<L: HandedLine, P: SerialLine> FiledLine<L, P> {
     /// Hands out what the line itself took, as `HandedLine::take` does.
     #[tactic(auto, using(crate::proofs::Lifts::line_same))]
     pub fn take(&mut self, out: &mut Vec<u8>) -> Result<(), AllocError>
-        ensures out { OnOk result (HandsOut (L.other_side self.old.line.line).passed_on (L.sent self.old.line.line) out.old.items out.new.items) }
+        ensures out { OnOk result (HandsOut (L.other_side self.old.line.line).passed_on (L.seen self.old.line.line).sent out.old.items out.new.items) }
         ensures err { OnErr result ((self.new ≡ self.old) × (out.new.items ≡ out.old.items)) }
         ensures same { self.new ≡ record self.old { line = record self.old.line { line = self.new.line.line } } }
     {

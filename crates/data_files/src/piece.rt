@@ -93,14 +93,14 @@ impl Piece {
     /// Writes them to a file, once, and says how many it took.
     #[tactic(auto, using(crate::proofs::Waiting::splits, crate::proofs::Waiting::grew, crate::proofs::Growing::none_stalled, crate::proofs::Growing::kept_counted, crate::proofs::Growing::kept_same))]
     pub fn write<P: SerialLine>(&mut self, file: &mut P) -> Result<usize, LineFault>
-        ensures split { P.sent file.new ++ self.new ≡ P.sent file.old ++ self.old }
-        ensures same { (P.received file.new ≡ P.received file.old) × (P.empty_reads file.new ≡ P.empty_reads file.old) }
+        ensures split { (P.seen file.new).sent ++ self.new ≡ (P.seen file.old).sent ++ self.old }
+        ensures same { ((P.seen file.new).received ≡ (P.seen file.old).received) × ((P.seen file.new).empty_reads ≡ (P.seen file.old).empty_reads) }
         ensures count { IfOk result (λ n. self.new ≡ drop n self.old) }
         ensures bound { IfOk result (λ n. n ≤ length self.old) }
-        ensures some { IfOk result (λ n. 0 < n → length (P.sent file.old) < length (P.sent file.new)) }
+        ensures some { IfOk result (λ n. 0 < n → length (P.seen file.old).sent < length (P.seen file.new).sent) }
         ensures none { IfOk result (λ n. n ≡ 0 → 0 < length self.old
-            → one_more (P.stalled_writes file.old) ≤ P.stalled_writes file.new) }
-        ensures stalled { IsKept (P.stalled_writes file.old) (P.stalled_writes file.new) }
+            → one_more (P.seen file.old).stalled_writes ≤ (P.seen file.new).stalled_writes) }
+        ensures stalled { IsKept (P.seen file.old).stalled_writes (P.seen file.new).stalled_writes }
         ensures err { OnErr result (self.new ≡ self.old) }
     {
         let count = file.try_write(self.as_slice())?;

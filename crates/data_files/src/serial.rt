@@ -2,30 +2,21 @@
 ghost use Rattle.std.specs.Prelude.{◌≡◌, ◌+◌, ◌<◌, ◌≤◌, ◌++◌, length, take, IfOk, MatchResult, OnErr};
 ghost use Rattle.serial_line.specs.Counts.{one_more, counted_if_none};
 ghost use Rattle.serial_line.specs.OtherSide.{unknown_side};
+ghost use Rattle.data_files.specs.Files.{filed_view};
 ghost use Rattle.data_files.specs.Moves.{HadTurns};
 
 use crate::filed_line::FiledLine;
 use serial_line::{LineFault, SerialLine};
 
 impl<L: SerialLine, P: SerialLine> SerialLine for FiledLine<L, P> {
-    ghost received = { λ l. l.line.received };
-
-    ghost sent = { λ l. l.line.sent };
-
-    ghost calls = { λ l. l.line.calls };
-
-    ghost failures = { λ l. l.line.failures };
-
-    ghost empty_reads = { λ l. l.line.empty_reads };
-
-    ghost stalled_writes = { λ l. l.line.stalled_writes };
+    ghost seen = { filed_view };
 
     ghost other_side = { λ _. unknown_side };
 
     /// Moves octets between connections and files, until none move, and then reads as `DataLine` does.
     fn try_read(&mut self, buffer: &mut [u8]) -> Result<usize, LineFault>
         ensures bound { IfOk result (λ n. n ≤ length buffer.old) }
-        ensures turns { HadTurns L.received L.sent P.received P.sent P.empty_reads P.stalled_writes self.old self.new.files }
+        ensures turns { HadTurns L.seen P.seen self.old self.new.files }
         ensures call { MatchResult result
             (λ n. self.new ≡ record self.old {
               files = self.new.files;

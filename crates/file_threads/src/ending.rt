@@ -35,7 +35,7 @@ pub fn write_out<L: SerialLine, P: SerialLine, K: Clock>(
     clock: &K,
     line: &mut FiledLine<L, P>,
 ) -> bool
-    ensures turns { HadTurns L.received L.sent P.received P.sent P.empty_reads P.stalled_writes line.old line.new.files }
+    ensures turns { HadTurns L.seen P.seen line.old line.new.files }
     ensures written { result ≡ true → All IsWritten line.new.files }
 {
     line.move_all();

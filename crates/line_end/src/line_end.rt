@@ -5,7 +5,7 @@ ghost use Rattle.std.specs.Io.BufRead.{Rests};
 ghost use Rattle.mux_frame.specs.Deframing.{Deframes, HandsOver, TakesIn, ring_room};
 ghost use Rattle.mux_frame.specs.Frames.{Frame, frame_of};
 ghost use Rattle.mux_frame.specs.Spelling.{most_info, spelled, IsBadN1};
-ghost use Rattle.serial_line.specs.Counts.{counted_if_none, one_more};
+ghost use Rattle.serial_line.specs.LineViews.{after_fault, after_read, after_write};
 ghost use Rattle.line_end.specs.LineEnds.{new_end};
 
 use mux_frame::{Deframer, FrameError, FrameView};
@@ -89,15 +89,8 @@ impl LineEnd {
         ensures count { IfOk result (λ n. n ≡ length self.new.unfed) }
         ensures ok { OnOk result (self.new ≡ record self.old { unfed = self.new.unfed }) }
         ensures err { OnErr result (self.new ≡ record self.old { failed = true }) }
-        ensures came { L.received line.new ≡ L.received line.old ++ self.new.unfed }
-        ensures none_went { L.sent line.new ≡ L.sent line.old }
-        ensures counted { L.calls line.new ≡ one_more (L.calls line.old) }
-        ensures sound { OnOk result (L.failures line.new ≡ L.failures line.old) }
-        ensures failure { OnErr result (L.failures line.new ≡ L.failures line.old + 1) }
-        ensures empty { IfOk result (λ n.
-            L.empty_reads line.new ≡ counted_if_none 512 n (L.empty_reads line.old)) }
-        ensures not_empty { OnErr result (L.empty_reads line.new ≡ L.empty_reads line.old) }
-        ensures no_write { L.stalled_writes line.new ≡ L.stalled_writes line.old }
+        ensures came { IfOk result (λ n. L.seen line.new ≡ after_read 512 n self.new.unfed (L.seen line.old)) }
+        ensures fault { OnErr result (L.seen line.new ≡ after_fault (L.seen line.old)) }
         ensures beyond { L.other_side line.new ≡ L.other_side line.old }
     {
         let came = self.unfed.read(line);
@@ -185,16 +178,8 @@ impl LineEnd {
         ensures bound { IfOk result (λ n. n ≤ length self.old.unwritten) }
         ensures ok { IfOk result (λ n. self.new ≡ record self.old { unwritten = drop n self.old.unwritten }) }
         ensures err { OnErr result (self.new ≡ record self.old { failed = true }) }
-        ensures went { IfOk result (λ n. L.sent line.new ≡ L.sent line.old ++ take n self.old.unwritten) }
-        ensures none_went { OnErr result (L.sent line.new ≡ L.sent line.old) }
-        ensures none_came { L.received line.new ≡ L.received line.old }
-        ensures counted { L.calls line.new ≡ one_more (L.calls line.old) }
-        ensures sound { OnOk result (L.failures line.new ≡ L.failures line.old) }
-        ensures failure { OnErr result (L.failures line.new ≡ L.failures line.old + 1) }
-        ensures stalled { IfOk result (λ n.
-            L.stalled_writes line.new ≡ counted_if_none (length self.old.unwritten) n (L.stalled_writes line.old)) }
-        ensures not_stalled { OnErr result (L.stalled_writes line.new ≡ L.stalled_writes line.old) }
-        ensures no_read { L.empty_reads line.new ≡ L.empty_reads line.old }
+        ensures went { IfOk result (λ n. L.seen line.new ≡ after_write n self.old.unwritten (L.seen line.old)) }
+        ensures fault { OnErr result (L.seen line.new ≡ after_fault (L.seen line.old)) }
         ensures beyond { L.other_side line.new ≡ L.other_side line.old }
     {
         match line.try_write(self.unwritten.as_slice()) {

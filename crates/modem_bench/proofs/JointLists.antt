@@ -1,7 +1,7 @@
 -- The joint list of a session and a simulated modem goes on.
 use Rattle.std.proofs.Common.{◌∙◌, append_assoc, sym, subst, ap}
 use Rattle.std.specs.Prelude.{◌≡◌, ℕ, nat_lt, ◌+◌, ◌||◌, List, [], ◌∷◌, ◌++◌, length, Option, None, Some, IfSome, Result, Ok, refl}
-use Rattle.serial_line.specs.CutLine.{CutState, after_carry, carried}
+use Rattle.serial_line.specs.CutLine.{CutState, after_carry, carried, cut_view}
 use Rattle.modem_history.specs.Acts as driver
 use Rattle.modem_history.specs.Acts.{after}
 use Rattle.modem_driver.specs.Polls.{SessionGoesOn}
@@ -11,7 +11,7 @@ use Rattle.modem_sim.specs.Acts.{End}
 use Rattle.modem_sim.specs.Sims.{FitsSim, SimGoes, SimState}
 use Rattle.one_modem.specs.OneModem.{AtDriver, EndAct, driver_past, modem_past}
 use Rattle.one_modem.proofs.octets.LineGoesOn.{after_near, at_far}
-use Rattle.modem_bench.specs.Rounds.{AreJoined, IsFull, IsLastRound, IsRound, JoinsOn, Pair, Says, carried_between, is_full, judged, look_in, moved_in, pair, sight_in}
+use Rattle.modem_bench.specs.Rounds.{AreJoined, IsFull, IsLastRound, IsRound, JoinsOn, Pair, Says, carried_between, is_full, judged, moved_in, pair}
 use Rattle.modem_bench.specs.declared.rounds.Rest.{Rest}
 use Rattle.modem_bench.specs.declared.rounds.Rest.TheVariants.{Full}
 use Rattle.modem_bench.specs.declared.signals.Fault.{Fault}
@@ -61,17 +61,17 @@ joins_then p q r f g b at e line j =
     record { newer = two.newer ++ one.newer; joined = subst (λ (l : List EndAct). AreJoined b at e l r) (sym (append_assoc two.newer one.newer line)) two.joined }
 
 -- it goes on where the session does
-pub joins_near : (old new : SessionState CutState) (far : SimState CutState) → SessionGoesOn look_in old new → JoinsOn (pair old far) (pair new far)
+pub joins_near : (old new : SessionState CutState) (far : SimState CutState) → SessionGoesOn cut_view old new → JoinsOn (pair old far) (pair new far)
 unfolding SessionGoesOn JoinsOn
 joins_near old new far goes b at e line j =
     let now : AreJoined b at e (after_near line goes.acts) (pair new far) = record {
-      near = subst (FitsAll b look_in new) (sym (near_past line goes.acts)) (goes.goes b (driver_past line) j.near);
-      far = subst (FitsSim sight_in.received sight_in.sent at e far) (sym (near_other line goes.acts)) j.far;
+      near = subst (FitsAll b cut_view new) (sym (near_past line goes.acts)) (goes.goes b (driver_past line) j.near);
+      far = subst (FitsSim cut_view at e far) (sym (near_other line goes.acts)) j.far;
     } in
     record { newer = after_near [] goes.acts; joined = subst (λ (l : List EndAct). AreJoined b at e l (pair new far)) (near_joins line [] goes.acts) now }
 
 -- and where the modem does
-pub joins_far : (near : SessionState CutState) (old new : SimState CutState) → SimGoes sight_in.received sight_in.sent old new → JoinsOn (pair near old) (pair near new)
+pub joins_far : (near : SessionState CutState) (old new : SimState CutState) → SimGoes cut_view old new → JoinsOn (pair near old) (pair near new)
 unfolding JoinsOn
 joins_far near old new goes b at e line j =
     let from = goes at e (modem_past line) j.far in
@@ -79,8 +79,8 @@ joins_far near old new goes b at e line j =
     record {
       newer = at_far newer;
       joined = record {
-        near = subst (FitsAll b look_in near) (sym (far_other line newer)) j.near;
-        far = subst (FitsSim sight_in.received sight_in.sent at e new) (sym (far_past line newer ∙ from.later.joins)) from.fits;
+        near = subst (FitsAll b cut_view near) (sym (far_other line newer)) j.near;
+        far = subst (FitsSim cut_view at e new) (sym (far_past line newer ∙ from.later.joins)) from.fits;
       };
     }
 

@@ -4,7 +4,7 @@ use Rattle.std.proofs.Math.Seq.{take-add}
 use Rattle.std.proofs.lemmas.List.{append_cancel_left}
 use Rattle.std.specs.Prelude.{◌≡◌, ℕ, ◌+◌, true, false, List, [], ◌∷◌, ◌++◌, drop, take, None, min, refl}
 use Rattle.mux_frame.specs.Laws.{AreOctets}
-use Rattle.serial_line.specs.CutLine.{CutState, after_carry, carried, other_side_of, unmoved}
+use Rattle.serial_line.specs.CutLine.{CutState, after_carry, carried, cut_view, other_side_of, unmoved}
 use Rattle.serial_line.specs.OtherSide.{OtherSide}
 use Rattle.at_text.specs.Commands.{refusal_of}
 use Rattle.modem_desk.specs.Ends.{DriverView}
@@ -14,7 +14,7 @@ use Rattle.modem_desk.specs.declared.request.Request.{Request}
 use Rattle.modem_history.specs.Acts as driver
 use Rattle.modem_history.specs.Acts.{Took, Got, Sent, Told, Heard, Tick, Lost, Held, Freed, Given, after, wire}
 use Rattle.modem_history.specs.Information.{command_on, line_in}
-use Rattle.modem_history.specs.Sessions.{Beginning, driving}
+use Rattle.modem_history.specs.Sessions.{Beginning, LineView, driving}
 use Rattle.modem_history.specs.TwoEnds.{AsksOnce, ComesInOrder, TakesCommandLines}
 use Rattle.modem_history.specs.Wholes.{taken_requests}
 use Rattle.modem_driver.specs.Polls.{SessionGoesOn}
@@ -23,14 +23,14 @@ use Rattle.modem_driver.proofs.sessions.steps.CoreCalls.{is_run}
 use Rattle.modem_sim.specs.Acts as modem
 use Rattle.modem_sim.specs.Acts.{End}
 use Rattle.modem_sim.specs.Replied.{AnnouncesUnsolicited}
-use Rattle.modem_sim.specs.Sims.{FitsSim, LineAt, SimGoes, SimState}
+use Rattle.modem_sim.specs.Sims.{FitsSim, SimGoes, SimState}
 use Rattle.one_modem.specs.OneModem.{EndAct, IsOneModem, TellsModem, driver_past, driver_wire, modem_past}
 use Rattle.one_modem.proofs.law_proofs.OneModem.{tells_modem}
 use Rattle.one_modem.proofs.octets.DriverWithin.{IsShortAsk, TakesShort}
 use Rattle.one_modem.proofs.octets.FramesInOrder.{driver_gets, modem_gets}
 use Rattle.one_modem.proofs.octets.LineGoesOn.{after_near, at_far, far_line, near_line}
 use Rattle.modem_bench.specs.OneLine.{AreOnOneLine, BeginsOnOneLine, StaysOneLine, TellsModemTo, TookFormed}
-use Rattle.modem_bench.specs.Rounds.{Pair, carried_between, look_in, pair, sight_in}
+use Rattle.modem_bench.specs.Rounds.{Pair, carried_between, pair}
 use Rattle.modem_bench.proofs.JointLists.{far_other, far_past, near_joins, near_other, near_past}
 
 -- ## Requests have their form
@@ -87,7 +87,7 @@ takes_short (Freed d ∷ past) h = takes_short past h
 takes_short (Given ∷ past) h = takes_short past h
 
 -- what its history took has its form
-history_formed : (b : Beginning) (s : SessionState CutState) (past : List driver.Act) → FitsAll b look_in s past → TookFormed b s → AreFormed (taken_requests past)
+history_formed : (b : Beginning) (s : SessionState CutState) (past : List driver.Act) → FitsAll b cut_view s past → TookFormed b s → AreFormed (taken_requests past)
 history_formed b s past f t =
     let r = f.session.requests in
     subst AreFormed (append_cancel_left b.desk.taken t.since (taken_requests past) (sym t.taken_are ∙ r.taken_are)) t.formed
@@ -108,23 +108,23 @@ behind_read received waiting sent moved e =
     ∙ (ap (λ (xs : List ℕ). xs ++ drop moved sent) e ∙ take-append-drop moved sent)
 
 -- the session goes on by what its line was given, and takes requests: the joint list stays one line's
-pub near_goes : (old new : SessionState CutState) (far : SimState CutState) → SessionGoesOn look_in old new → TakesMore old.driver new.driver → other_side_of new.line ≡ other_side_of old.line → AreOctets far.line.sent → AreOctets far.machine.out
+pub near_goes : (old new : SessionState CutState) (far : SimState CutState) → SessionGoesOn cut_view old new → TakesMore old.driver new.driver → other_side_of new.line ≡ other_side_of old.line → AreOctets far.line.sent → AreOctets far.machine.out
     → StaysOneLine (pair old far) (pair new far)
 unfolding SessionGoesOn StaysOneLine
 near_goes old new far goes takes beyond octets waiting b at e line on =
     let acts = goes.acts in
     let j = on.joined in
     let later = after_near line acts in
-    let fits : FitsAll b look_in new (driver_past later) = subst (FitsAll b look_in new) (sym (near_past line acts)) (goes.goes b (driver_past line) j.near) in
+    let fits : FitsAll b cut_view new (driver_past later) = subst (FitsAll b cut_view new) (sym (near_past line acts)) (goes.goes b (driver_past line) j.near) in
     let given : new.line.received ++ new.line.waiting ≡ take far.line.moved far.line.sent = ap (λ (o : OtherSide). o.given) beyond ∙ on.crossed.to_near in
     let went : far.line.sent ≡ j.far.went = j.far.sent_is ∙ ap (λ (xs : List ℕ). xs ++ j.far.went) on.began.far_sent in
     let joins : new.line.received ++ (new.line.waiting ++ drop far.line.moved far.line.sent) ≡ j.far.went = behind_read new.line.received new.line.waiting far.line.sent far.line.moved given ∙ went in
     let gets : ComesInOrder (modem.wire (modem_past line)) (driver.wire (driver_past later)) =
-    driver_gets b (session_view look_in new) (driver_past later) e j.far.came j.far.went (new.line.waiting ++ drop far.line.moved far.line.sent) far.machine (modem_past line) fits.session j.far.machine_fits
+    driver_gets b (session_view cut_view new) (driver_past later) e j.far.came j.far.went (new.line.waiting ++ drop far.line.moved far.line.sent) far.machine (modem_past line) fits.session j.far.machine_fits
     on.began.low on.began.high on.began.same on.began.near_received joins (subst AreOctets went octets) waiting in
     let now : AreOnOneLine b at e later (pair new far) = record {
       began = on.began;
-      joined = record { near = fits; far = subst (FitsSim sight_in.received sight_in.sent at e far) (sym (near_other line acts)) j.far };
+      joined = record { near = fits; far = subst (FitsSim cut_view at e far) (sym (near_other line acts)) j.far };
       one_line = near_line line acts on.one_line gets;
       crossed = record { to_far = on.crossed.to_far ∙ sym (ap (λ (o : OtherSide). o.passed_on) beyond); to_near = given };
       taken = took_more b old new on.taken takes;
@@ -134,7 +134,7 @@ near_goes old new far goes takes beyond octets waiting b at e line on =
 -- ## The modem's acts
 
 -- the modem goes on by what its line was given: so it does
-pub far_goes : (near : SessionState CutState) (old new : SimState CutState) → SimGoes sight_in.received sight_in.sent old new → other_side_of new.line ≡ other_side_of old.line → AreOctets near.line.sent → AreOctets near.machine.unwritten
+pub far_goes : (near : SessionState CutState) (old new : SimState CutState) → SimGoes cut_view old new → other_side_of new.line ≡ other_side_of old.line → AreOctets near.line.sent → AreOctets near.machine.unwritten
     → StaysOneLine (pair near old) (pair near new)
 unfolding StaysOneLine
 far_goes near old new goes beyond octets waiting b at e line on =
@@ -142,19 +142,19 @@ far_goes near old new goes beyond octets waiting b at e line on =
     let from = goes at e (modem_past line) j.far in
     let acts = from.later.newer in
     let later = at_far acts ++ line in
-    let fits : FitsSim sight_in.received sight_in.sent at e new (modem_past later) = subst (FitsSim sight_in.received sight_in.sent at e new) (sym (far_past line acts ∙ from.later.joins)) from.fits in
+    let fits : FitsSim cut_view at e new (modem_past later) = subst (FitsSim cut_view at e new) (sym (far_past line acts ∙ from.later.joins)) from.fits in
     let given : new.line.received ++ new.line.waiting ≡ take near.line.moved near.line.sent = ap (λ (o : OtherSide). o.given) beyond ∙ on.crossed.to_far in
     let came : new.line.received ≡ fits.came = fits.received_is ∙ ap (λ (xs : List ℕ). xs ++ fits.came) on.began.far_received in
     let joins : fits.came ++ (new.line.waiting ++ drop near.line.moved near.line.sent) ≡ near.line.sent =
     ap (λ (xs : List ℕ). xs ++ (new.line.waiting ++ drop near.line.moved near.line.sent)) (sym came) ∙ behind_read new.line.received new.line.waiting near.line.sent near.line.moved given in
     let gets : ComesInOrder (driver.wire (driver_past line)) (modem.wire (modem_past later)) =
-    modem_gets b (session_view look_in near) (driver_past line) e fits.came fits.went (new.line.waiting ++ drop near.line.moved near.line.sent) new.machine (modem_past later) j.near.session fits.machine_fits
+    modem_gets b (session_view cut_view near) (driver_past line) e fits.came fits.went (new.line.waiting ++ drop near.line.moved near.line.sent) new.machine (modem_past later) j.near.session fits.machine_fits
     on.began.low on.began.high on.began.same (takes_short (driver_past line) (history_formed b near (driver_past line) j.near on.taken)) on.began.near_sent joins octets waiting in
     record {
       newer = at_far acts;
       on = record {
         began = on.began;
-        joined = record { near = subst (FitsAll b look_in near) (sym (far_other line acts)) j.near; far = fits };
+        joined = record { near = subst (FitsAll b cut_view near) (sym (far_other line acts)) j.near; far = fits };
         one_line = far_line line acts on.one_line gets (λ more. ap driver.wire (far_other line more));
         crossed = record { to_far = given; to_near = on.crossed.to_near ∙ sym (ap (λ (o : OtherSide). o.passed_on) beyond) };
         taken = on.taken;
@@ -254,9 +254,9 @@ begins_on_one_line n1 near_room far_room near_reads near_writes far_reads far_wr
 
 -- ## One modem
 
-is_one_modem : (p : Pair) (b : Beginning) (at : LineAt) (e : End) (line : List EndAct) → AreOnOneLine b at e line p → AsksOnce (driver_wire line) → AnnouncesUnsolicited (modem_past line) → IsOneModem (driving b) e line
+is_one_modem : (p : Pair) (b : Beginning) (at : LineView) (e : End) (line : List EndAct) → AreOnOneLine b at e line p → AsksOnce (driver_wire line) → AnnouncesUnsolicited (modem_past line) → IsOneModem (driving b) e line
 is_one_modem p b at e line on once announced =
-    let run = is_run b (look_in p.near.line) p.near.driver p.near.machine (driver_past line) on.joined.near in
+    let run = is_run b (cut_view p.near.line) p.near.driver p.near.machine (driver_past line) on.joined.near in
     record {
       is_initiator = refl;
       codes = on.began.codes;

@@ -21,7 +21,7 @@ use Rattle.modem_driver.specs.SessionStates.{FitsAll, SessionState, beginning_of
 use Rattle.modem_driver.proofs.law_proofs.GrownHistories.{lived_grows}
 use Rattle.modem_driver.proofs.law_proofs.Headlines.{headline}
 use Rattle.modem_driver.proofs.law_proofs.OneSessions.{one_session}
-use Rattle.modem_sim.specs.Sims.{Sight, SimState}
+use Rattle.modem_sim.specs.Sims.{SimState}
 use Rattle.modem_bench.specs.Driving.{Continues, Goes, GoesByStandard, IsBegun, IsOver, MakesPolls, MovesAndPolls, moves, no_poll, one_more, stays}
 use Rattle.modem_bench.specs.Running.{AreCalled, RanFor}
 use Rattle.modem_bench.specs.Simulating.{IsSimulated}
@@ -137,13 +137,13 @@ module _ {X : Type 0} (look : X → LineView) where
         books = over.books;
       }
 
-  pub ran_for : (see : Sight X) (all : List Submission) (fresh cs : List CallerView) (ws : List Worked) (vs : List (Vec Outcome Global)) (s0 s1 : SessionState X) (m : SimState X) (ls : List ListenerView) (settled : Settled)
+  pub ran_for : (all : List Submission) (fresh cs : List CallerView) (ws : List Worked) (vs : List (Vec Outcome Global)) (s0 s1 : SessionState X) (m : SimState X) (ls : List ListenerView) (settled : Settled)
       → AreCalled all fresh ws → cs ≡ map (λ (w : Worked). w.caller) ws → vs ≡ map (λ (w : Worked). w.outcomes) ws
-      → IsBegun look s0 → Continues look s0 s1 → IsSimulated see m
+      → IsBegun look s0 → Continues look s0 s1 → IsSimulated look m
       → IsWhole s1.driver.desk (map place_of cs) → AreSubscribed s1.driver.desk (map subscription_of ls) → IsOver look s1 cs ls settled
-      → RanFor look see all fresh s0 m (map vec_items vs)
+      → RanFor look all fresh s0 m (map vec_items vs)
   unfolding IsHeadline
-  ran_for see all fresh cs ws vs s0 s1 m ls settled h callers e begun on simulated whole subscribed over =
+  ran_for all fresh cs ws vs s0 s1 m ls settled h callers e begun on simulated whole subscribed over =
       let done = settles s0 s1 cs ls settled begun on whole subscribed over in
       record {
         worked = ws;

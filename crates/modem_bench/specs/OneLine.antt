@@ -1,7 +1,7 @@
 -- A session and a simulated modem that began at two new lines in memory: the octets that each received are those that the other
 -- sent, and so their joint list is one line's.
 use Rattle.std.specs.Prelude.{◌≡◌, ℕ, ◌<◌, ◌≤◌, List, [], ◌∷◌, ◌++◌, take}
-use Rattle.serial_line.specs.CutLine.{CutState, after_carry, carried, new_line, unmoved}
+use Rattle.serial_line.specs.CutLine.{CutState, after_carry, carried, cut_view, new_line, unmoved}
 use Rattle.serial_line.specs.declared.cuts.Cut.{Cut}
 use Rattle.at_text.specs.declared.answer.AnswerLine.{AnswerLine}
 use Rattle.at_text.specs.Dialects.{standard}
@@ -11,19 +11,19 @@ use Rattle.modem_desk.specs.declared.request.Outcome.{Outcome}
 use Rattle.modem_desk.specs.declared.request.Request.{Request}
 use Rattle.modem_history.specs.Acts as driver
 use Rattle.modem_history.specs.Acts.{Told}
-use Rattle.modem_history.specs.Sessions.{Beginning, driving}
+use Rattle.modem_history.specs.Sessions.{Beginning, LineView, driving}
 use Rattle.modem_history.specs.TwoEnds.{AsksOnce}
 use Rattle.modem_driver.specs.SessionStates.{AreFormed, FitsAll, SessionState, beginning_of}
 use Rattle.modem_sim.specs.Acts.{End, end_of}
 use Rattle.modem_sim.specs.Heard.{heard}
 use Rattle.modem_sim.specs.Laws.{IsStart}
 use Rattle.modem_sim.specs.Replied.{AnnouncesUnsolicited, IsModem}
-use Rattle.modem_sim.specs.Sims.{FitsSim, LineAt, SimState}
+use Rattle.modem_sim.specs.Sims.{FitsSim, SimState}
 use Rattle.modem_sim.specs.Steps.{started}
 use Rattle.modem_sim.specs.declared.modem.ModemStart.{ModemStart}
 use Rattle.modem_sim.specs.declared.script.Script.{Script}
 use Rattle.one_modem.specs.OneModem.{EndAct, IsModemAnswer, IsOneLine, driver_past, driver_wire, modem_past}
-use Rattle.modem_bench.specs.Rounds.{AreJoined, Pair, look_in, pair, sight_in}
+use Rattle.modem_bench.specs.Rounds.{AreJoined, Pair, pair}
 
 -- ## One line
 
@@ -33,7 +33,7 @@ pub record AreCrossed (near far : CutState) : Type 0 where
   pub to_near : near.received ++ near.waiting ≡ take far.moved far.sent
 
 -- both began where nothing had been received or sent, with one N1 and the standard codes, and the modem had a start
-pub record BeganFresh (b : Beginning) (at : LineAt) (e : End) : Type 0 where
+pub record BeganFresh (b : Beginning) (at : LineView) (e : End) : Type 0 where
   pub near_received : b.line.received ≡ []
   pub near_sent : b.line.sent ≡ []
   pub far_received : at.received ≡ []
@@ -52,7 +52,7 @@ pub record TookFormed (b : Beginning) (s : SessionState CutState) : Type 0 where
 
 -- They have this joint list, which is one line's: at every point of it the frames that came at each end are the first that the
 -- other sent.
-pub record AreOnOneLine (b : Beginning) (at : LineAt) (e : End) (line : List EndAct) (p : Pair) : Type 0 where
+pub record AreOnOneLine (b : Beginning) (at : LineView) (e : End) (line : List EndAct) (p : Pair) : Type 0 where
   pub began : BeganFresh b at e
   pub joined : AreJoined b at e line p
   pub one_line : IsOneLine line
@@ -60,21 +60,21 @@ pub record AreOnOneLine (b : Beginning) (at : LineAt) (e : End) (line : List End
   pub taken : TookFormed b p.near
 
 -- the two have a joint list, one line's, that goes on from this one
-pub record OnOneLineFrom (b : Beginning) (at : LineAt) (e : End) (line : List EndAct) (p : Pair) : Type 0 where
+pub record OnOneLineFrom (b : Beginning) (at : LineView) (e : End) (line : List EndAct) (p : Pair) : Type 0 where
   pub newer : List EndAct
   pub on : AreOnOneLine b at e (newer ++ line) p
 
 -- whatever joint list that is one line's the two had, it goes on to one that they have
 unfoldable pub StaysOneLine : (old new : Pair) → Type 0
 StaysOneLine old new =
-    (b : Beginning) (at : LineAt) (e : End) (line : List EndAct) → AreOnOneLine b at e line old
+    (b : Beginning) (at : LineView) (e : End) (line : List EndAct) → AreOnOneLine b at e line old
     → OnOneLineFrom b at e line new
 
 -- ## The beginning
 
 -- how a line stands on which nothing has happened
-abbrev pub at_nothing : LineAt
-at_nothing = record { received = []; sent = [] }
+abbrev pub at_nothing : LineView
+at_nothing = cut_view (new_line [] [] [] 0)
 
 -- a session and a simulated modem, just made with one N1, each at a new line without input, have the empty list
 unfoldable pub BeginsOnOneLine : Type 0
@@ -83,10 +83,10 @@ BeginsOnOneLine =
     (start : ModemStart) (script : Script) (s : SessionState CutState) (m : SimState CutState)
     → 31 ≤ n1 → n1 ≤ 32767 → IsStart start
     → s.line ≡ new_line [] near_reads near_writes near_room → s.driver ≡ d
-    → FitsAll (beginning_of n1 (look_in (new_line [] near_reads near_writes near_room)) d) look_in s []
+    → FitsAll (beginning_of n1 (cut_view (new_line [] near_reads near_writes near_room)) d) cut_view s []
     → m.line ≡ new_line [] far_reads far_writes far_room
-    → FitsSim sight_in.received sight_in.sent at_nothing (end_of n1 (started start) script) m []
-    → AreOnOneLine (beginning_of n1 (look_in (new_line [] near_reads near_writes near_room)) d) at_nothing
+    → FitsSim cut_view at_nothing (end_of n1 (started start) script) m []
+    → AreOnOneLine (beginning_of n1 (cut_view (new_line [] near_reads near_writes near_room)) d) at_nothing
     (end_of n1 (started start) script) [] (pair s m)
 
 -- ## One modem
@@ -95,7 +95,7 @@ BeginsOnOneLine =
 -- lines are announced, each command told Done was read, and is told what the modem's step gives at its place.
 unfoldable pub TellsModemTo : Pair → Type 0
 TellsModemTo p =
-    (b : Beginning) (at : LineAt) (e : End) (line : List EndAct) → AreOnOneLine b at e line p
+    (b : Beginning) (at : LineView) (e : End) (line : List EndAct) → AreOnOneLine b at e line p
     → AsksOnce (driver_wire line) → AnnouncesUnsolicited (modem_past line)
     → (newer older : List driver.Act) (o : Outcome) (answer : List AnswerLine)
     → driver_past line ≡ newer ++ Told o ∷ older → o.answer ≡ Done answer

@@ -1,35 +1,23 @@
 -- A session and a simulated modem, each at one of two lines in memory, in one thread and in rounds.
 use Rattle.std.specs.Prelude.{◌≡◌, ◌⊎◌, ℕ, ◌+◌, ◌<◌, ◌≤◌, ◌&&◌, ◌||◌, not, nat_lt, Bool, true, false, List, ◌++◌, length, Option, None, Some, Result, Ok, Err, if◌then◌else◌}
-use Rattle.serial_line.specs.CutLine.{CutState, after_carry, carried}
+use Rattle.serial_line.specs.CutLine.{CutState, after_carry, carried, cut_view}
 use Rattle.modem_history.specs.Sessions.{Beginning, LineView}
 use Rattle.modem_driver.specs.declared.session.ending.Ended.TheVariants.{Stopped}
 use Rattle.modem_driver.specs.declared.session.polling.Progress.{Progress}
 use Rattle.modem_driver.specs.declared.session.polling.Progress.TheVariants as progress
 use Rattle.modem_driver.specs.Polls.{Polls}
-use Rattle.modem_driver.specs.SessionStates.{FitsAll, SessionState, line_by}
+use Rattle.modem_driver.specs.SessionStates.{FitsAll, SessionState}
 use Rattle.modem_sim.specs.declared.error.SimError.{SimError}
 use Rattle.modem_sim.specs.declared.sim.SimTurn.{SimTurn}
 use Rattle.modem_sim.specs.declared.sim.SimTurn.TheVariants as turn
 use Rattle.modem_sim.specs.Acts.{End}
 use Rattle.modem_sim.specs.Polls.{MovesOn, Turned}
-use Rattle.modem_sim.specs.Sims.{FitsSim, LineAt, Sight, SimState, sight}
+use Rattle.modem_sim.specs.Sims.{FitsSim, SimState}
 use Rattle.one_modem.specs.OneModem.{EndAct, driver_past, modem_past}
 use Rattle.modem_bench.specs.Faults.{session_fault, sim_fault}
 use Rattle.modem_bench.specs.declared.rounds.Rest.{Rest}
 use Rattle.modem_bench.specs.declared.rounds.Rest.TheVariants.{Still, Full, UsedUp}
 use Rattle.modem_bench.specs.declared.signals.Fault.{Fault}
-
--- how a line in memory is seen
-abbrev pub look_in : CutState → LineView
-look_in =
-    line_by (λ l. l.received) (λ l. l.sent) (λ l. l.calls) (λ l. l.failures) (λ l. l.empty_reads)
-    (λ l. l.stalled_writes)
-
--- what a simulated modem's turn sees of a line in memory
-abbrev pub sight_in : Sight CutState
-sight_in =
-    sight (λ l. l.received) (λ l. l.sent) (λ l. l.calls) (λ l. l.failures) (λ l. l.empty_reads)
-    (λ l. l.stalled_writes)
 
 -- a session at its line, and a simulated modem at its
 pub record Pair : Type 0 where
@@ -51,16 +39,16 @@ carried_between cut p =
 -- The turns of a simulated modem in a round are those of a poll: 64 that answer Moved, or fewer and one that
 -- answers otherwise.
 pub data RunsFar (old new : SimState CutState) : Result SimTurn SimError → Type 0 where
-  moves : MovesOn sight_in old 64 new → RunsFar old new (Ok turn.Moved)
+  moves : MovesOn cut_view old 64 new → RunsFar old new (Ok turn.Moved)
   rests :
-      (n : ℕ) (mid : SimState CutState) → n < 64 → MovesOn sight_in old n mid
-      → Turned sight_in mid new (Ok turn.Idle) → RunsFar old new (Ok turn.Idle)
+      (n : ℕ) (mid : SimState CutState) → n < 64 → MovesOn cut_view old n mid
+      → Turned cut_view mid new (Ok turn.Idle) → RunsFar old new (Ok turn.Idle)
   ends :
-      (n : ℕ) (mid : SimState CutState) → n < 64 → MovesOn sight_in old n mid
-      → Turned sight_in mid new (Ok turn.Ended) → RunsFar old new (Ok turn.Ended)
+      (n : ℕ) (mid : SimState CutState) → n < 64 → MovesOn cut_view old n mid
+      → Turned cut_view mid new (Ok turn.Ended) → RunsFar old new (Ok turn.Ended)
   fails :
-      (n : ℕ) (mid : SimState CutState) (why : SimError) → n < 64 → MovesOn sight_in old n mid
-      → Turned sight_in mid new (Err why) → RunsFar old new (Err why)
+      (n : ℕ) (mid : SimState CutState) (why : SimError) → n < 64 → MovesOn cut_view old n mid
+      → Turned cut_view mid new (Err why) → RunsFar old new (Err why)
 
 -- what the two came to in a round, and whether octets were carried in it, or the modem sent some behind that
 pub record Says : Type 0 where
@@ -76,7 +64,7 @@ moved_in cut near far later =
 -- poll
 pub record IsRound (cut : ℕ) (old new : Pair) (says : Says) : Type 0 where
   pub polled : SessionState CutState
-  pub polls : Polls look_in old.near polled says.near
+  pub polls : Polls cut_view old.near polled says.near
   pub mid : Pair
   pub carries : mid ≡ carried_between cut (pair polled old.far)
   pub stays : new.near ≡ mid.near
@@ -144,17 +132,17 @@ pub data EndsInRounds (cut room rounds : ℕ) (old new : Pair) : Result Rest Fau
 -- ## Their joint list
 
 -- each of the two fits its part of the list
-pub record AreJoined (b : Beginning) (at : LineAt) (e : End) (line : List EndAct) (p : Pair) : Type 0 where
-  pub near : FitsAll b look_in p.near (driver_past line)
-  pub far : FitsSim sight_in.received sight_in.sent at e p.far (modem_past line)
+pub record AreJoined (b : Beginning) (at : LineView) (e : End) (line : List EndAct) (p : Pair) : Type 0 where
+  pub near : FitsAll b cut_view p.near (driver_past line)
+  pub far : FitsSim cut_view at e p.far (modem_past line)
 
 -- the two fit a joint list that goes on from this one
-pub record JoinedFrom (b : Beginning) (at : LineAt) (e : End) (line : List EndAct) (p : Pair) : Type 0 where
+pub record JoinedFrom (b : Beginning) (at : LineView) (e : End) (line : List EndAct) (p : Pair) : Type 0 where
   pub newer : List EndAct
   pub joined : AreJoined b at e (newer ++ line) p
 
 -- whatever joint list of acts the two had, it goes on to one that they have
 unfoldable pub JoinsOn : (old new : Pair) → Type 0
 JoinsOn old new =
-    (b : Beginning) (at : LineAt) (e : End) (line : List EndAct) → AreJoined b at e line old
+    (b : Beginning) (at : LineView) (e : End) (line : List EndAct) → AreJoined b at e line old
     → JoinedFrom b at e line new

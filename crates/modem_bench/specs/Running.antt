@@ -1,15 +1,15 @@
 -- Callers that are out in threads, and a bench as a whole.
 use Rattle.std.specs.Prelude.{◌≡◌, ℕ, ◌+◌, List, [], ◌∷◌, ◌++◌, length, map, Result}
 use Rattle.std.specs.declared.thread.PromisedHandle.{PromisedHandle}
-use Rattle.serial_line.specs.ThreadLine.{AreEnds, EndState, IsNew}
+use Rattle.serial_line.specs.ThreadLine.{AreEnds, EndState, IsNew, thread_view}
 use Rattle.modem_desk.specs.declared.request.Ask.{Ask}
 use Rattle.modem_desk.specs.declared.request.Outcome.{Outcome}
 use Rattle.modem_desk.specs.Ends.{CallerView, Each, IsFresh}
 use Rattle.modem_driver.specs.Headline.{Headline, IsSettled, Run}
 use Rattle.modem_driver.specs.OneSession.{HasCalls, seen_by_calls}
-use Rattle.modem_driver.specs.SessionStates.{SessionState, line_by, session_view}
+use Rattle.modem_driver.specs.SessionStates.{SessionState, session_view}
 use Rattle.modem_history.specs.Sessions.{LineView}
-use Rattle.modem_sim.specs.Sims.{Sight, SimState, sight}
+use Rattle.modem_sim.specs.Sims.{SimState}
 use Rattle.modem_sim.specs.declared.script.Script.{Script}
 use Rattle.modem_bench.specs.Asks.{asks_for}
 use Rattle.modem_bench.specs.Calling.{OpensAll, Stops, Works}
@@ -99,7 +99,7 @@ AreCalled all (c ∷ cs) (w ∷ ws) = Leads all c w.caller w.outcomes.items × A
 -- until it had ended. The session had done nothing before, and neither had its desk, of which these are all
 -- the callers; it was finished, and then its desk was settled with the driver's end and with them: so the
 -- headline holds of that run.
-pub record RanFor {X : Type 0} (look : X → LineView) (see : Sight X) (all : List Submission)
+pub record RanFor {X : Type 0} (look : X → LineView) (all : List Submission)
     (fresh : List CallerView) (session : SessionState X) (sim : SimState X)
     (outcomes : List (List Outcome)) : Type 0 where
   pub worked : List Worked
@@ -110,7 +110,7 @@ pub record RanFor {X : Type 0} (look : X → LineView) (see : Sight X) (all : Li
   pub stopped : SessionState X
   pub driven : Continues look session stopped
   pub calls : HasCalls look session stopped
-  pub simulated : IsSimulated see sim
+  pub simulated : IsSimulated look sim
   pub run : Run
   pub start_is : run.start ≡ begun.start
   pub session_is : run.session ≡ session_view look stopped
@@ -131,13 +131,6 @@ pub record IsLine (cut : ℕ) (near far : EndState) : Type 0 where
   pub near_is_new : IsNew cut near
   pub far_is_new : IsNew cut far
 
--- how an end of such a line is seen
-abbrev pub look_at : EndState → LineView
-look_at = line_by (λ l. l.received) (λ l. l.sent) (λ l. l.calls) (λ _. 0) (λ l. l.empty_reads) (λ l. l.stalled_writes)
-
-abbrev pub sight_of : Sight EndState
-sight_of = sight (λ l. l.received) (λ l. l.sent) (λ l. l.calls) (λ _. 0) (λ l. l.empty_reads) (λ l. l.stalled_writes)
-
 -- So many callers, which had done nothing before, did what the submissions ask of them, by a session at one end
 -- of a new line with this room, to its end. A simulated modem that had just started, with this script, began at the
 -- line's other end, and came to its end too. That what each end received is what the other sent isn't said.
@@ -149,7 +142,7 @@ pub record Ran (all : List Submission) (count cut : ℕ) (script : Script) (outc
   pub session : SessionState EndState
   pub at_line : session.line ≡ near
   pub sim : SimState EndState
-  pub started : IsStarted sight_of far script sim
+  pub started : IsStarted thread_view far script sim
   pub callers : List CallerView
   pub fresh : AreFresh count callers
-  pub ran : RanFor look_at sight_of all callers session sim outcomes
+  pub ran : RanFor thread_view all callers session sim outcomes

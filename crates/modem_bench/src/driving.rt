@@ -1,7 +1,6 @@
 //! The driver's thread of a bench.
 ghost use Rattle.std.specs.Prelude.{◌≡◌, IfErr, IfOk, OnOk};
 ghost use Rattle.modem_history.specs.Turns.{says_moved};
-ghost use Rattle.modem_driver.specs.SessionStates.{line_by};
 ghost use Rattle.modem_driver.specs.SessionTurns.{turn_answer};
 ghost use Rattle.modem_bench.specs.Driving.{Advances, Continues, Halts, IsCounted, IsRefused, Steps, led_to};
 ghost use Rattle.modem_bench.specs.Faults.{halt_fault, session_fault};
@@ -30,7 +29,7 @@ pub fn fault_of(fault: SessionFault) -> Fault
 pub struct Later<L: SerialLine + Drop, R: Wait + Drop>(pub Snapshot<Session<L, R>>);
 
 impl<L: SerialLine + Drop, R: Wait + Drop> Promise<Result<Session<L, R>, Fault>> for Later<L, R> {
-    ghost kept_by = { λ p r. IfOk r (Continues (line_by L.received L.sent L.calls L.failures L.empty_reads L.stalled_writes) p.0.value) };
+    ghost kept_by = { λ p r. IfOk r (Continues L.seen p.0.value) };
 }
 
 /// Why a session's thread ends its bench.
@@ -69,7 +68,7 @@ fn is_moved(turn: Turn) -> bool
 fn poll<L: SerialLine, R: Wait + Drop>(
     session: &mut Session<L, R>,
 ) -> Result<Option<Progress>, SessionFault>
-    ensures { Advances (line_by L.received L.sent L.calls L.failures L.empty_reads L.stalled_writes) session.old session.new result }
+    ensures { Advances L.seen session.old session.new result }
 {
     let said = session.turn()?;
     if is_moved(said) {
@@ -116,7 +115,7 @@ fn step<'a, L: SerialLine, R: Wait + Drop>(
     signals: &'a Signals,
     limit: &mut Limit,
 ) -> Result<bool, Halt<'a>>
-    ensures { Steps (line_by L.received L.sent L.calls L.failures L.empty_reads L.stalled_writes) session.old session.new limit.old limit.new result }
+    ensures { Steps L.seen session.old session.new limit.old limit.new result }
 {
     may_poll(signals, limit)?;
     match poll(session) {
@@ -141,8 +140,8 @@ fn drive_on<'a, L: SerialLine, R: Wait + Drop>(
     signals: &'a Signals,
     limits: Limits,
 ) -> Result<(), Halt<'a>>
-    ensures stops { OnOk result (Continues (line_by L.received L.sent L.calls L.failures L.empty_reads L.stalled_writes) session.old session.new) }
-    ensures halts { IfErr result (Halts (line_by L.received L.sent L.calls L.failures L.empty_reads L.stalled_writes) limits session.old session.new) }
+    ensures stops { OnOk result (Continues L.seen session.old session.new) }
+    ensures halts { IfErr result (Halts L.seen limits session.old session.new) }
 {
     let mut limit = Limit::new(limits);
     for _ in rt.forever() {
@@ -165,7 +164,7 @@ fn drive_or_give_up<L: SerialLine, R: Wait + Drop>(
     signals: &Signals,
     limits: Limits,
 ) -> Result<(), Fault>
-    ensures { OnOk result (Continues (line_by L.received L.sent L.calls L.failures L.empty_reads L.stalled_writes) session.old session.new) }
+    ensures { OnOk result (Continues L.seen session.old session.new) }
 {
     match drive_on(rt, session, signals, limits) {
         Ok(()) => Ok(()),
@@ -181,7 +180,7 @@ pub fn drive<L: SerialLine + Drop, R: Wait + Drop>(
     signals: Signals,
     limits: Limits,
 ) -> Result<Session<L, R>, Fault>
-    ensures { IfOk result (Continues (line_by L.received L.sent L.calls L.failures L.empty_reads L.stalled_writes) session) }
+    ensures { IfOk result (Continues L.seen session) }
 {
     let mut session = session;
     let ended = drive_or_give_up(rt, &mut session, &signals, limits);

@@ -1,8 +1,7 @@
 //! What a bench begins with: a desk, a line, a session and a simulated modem.
 ghost use Rattle.std.specs.Prelude.{◌≡◌, [], false, None, IfOk, map};
 ghost use Rattle.modem_desk.specs.Ends.{AreSubscribed, IsWhole, Opened, subscription_of, place_of};
-ghost use Rattle.modem_driver.specs.SessionStates.{FitsAll, beginning_of, line_by};
-ghost use Rattle.modem_sim.specs.Sims.{sight};
+ghost use Rattle.modem_driver.specs.SessionStates.{FitsAll, beginning_of};
 ghost use Rattle.modem_bench.specs.Driving.{IsBegun};
 ghost use Rattle.modem_bench.specs.Running.{AreFresh, IsLine};
 ghost use Rattle.modem_bench.specs.Simulating.{IsStarted};
@@ -67,9 +66,7 @@ fn make_session<L: SerialLine + Drop, R: Wait + Drop>(
     line: L,
     driver: DriverEnd,
 ) -> Result<Session<L, R>, Fault>
-    ensures begins { IfOk result (λ s.
-        FitsAll (beginning_of 31 (line_by L.received L.sent L.calls L.failures L.empty_reads L.stalled_writes line) driver)
-        (line_by L.received L.sent L.calls L.failures L.empty_reads L.stalled_writes) s []) }
+    ensures begins { IfOk result (λ s. FitsAll (beginning_of 31 (L.seen line) driver) L.seen s []) }
     ensures same { IfOk result (λ s. (s.line ≡ line) × (s.driver ≡ driver)) }
 {
     match Session::new(rt, alloc, line, driver, N1) {
@@ -80,8 +77,7 @@ fn make_session<L: SerialLine + Drop, R: Wait + Drop>(
 
 /// A simulated modem with its default start.
 fn make_sim<L: SerialLine + Drop>(alloc: Global, line: L, script: Script) -> Result<Sim<L>, Fault>
-    ensures { IfOk result
-        (IsStarted (sight L.received L.sent L.calls L.failures L.empty_reads L.stalled_writes) line script) }
+    ensures { IfOk result (IsStarted L.seen line script) }
 {
     let modem = Modem::new(alloc, ModemStart::default());
     match Sim::new(alloc, line, modem, script, N1) {
@@ -100,10 +96,9 @@ pub fn begin<L: SerialLine + Drop, R: Wait + Drop + Copy>(
     signals: &Signals,
 ) -> Result<Ends<L, R>, Fault>
     ensures many { IfOk result (λ e. AreFresh callers e.callers.items) }
-    ensures begun { IfOk result (λ e. IsBegun (line_by L.received L.sent L.calls L.failures L.empty_reads L.stalled_writes) e.session) }
+    ensures begun { IfOk result (λ e. IsBegun L.seen e.session) }
     ensures at_line { IfOk result (λ e. e.session.line ≡ line.0) }
-    ensures started { IfOk result
-        (λ e. IsStarted (sight L.received L.sent L.calls L.failures L.empty_reads L.stalled_writes) line.1 script e.sim) }
+    ensures started { IfOk result (λ e. IsStarted L.seen line.1 script e.sim) }
     ensures callers { IfOk result (λ e. IsWhole e.session.driver.desk (map place_of e.callers.items)) }
     ensures listeners { IfOk result
         (λ e. AreSubscribed e.session.driver.desk (map subscription_of e.listeners.items)) }

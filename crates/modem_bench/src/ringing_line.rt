@@ -59,18 +59,9 @@ impl CountedLine for RingingLine {
 
 impl SerialLine for RingingLine {
     ghost use Rattle.serial_line.specs.OtherSide.{unknown_side};
+    ghost use Rattle.serial_line.specs.ThreadLine.{thread_view};
 
-    ghost received = { λ l. l.received };
-
-    ghost sent = { λ l. l.sent };
-
-    ghost calls = { λ l. l.calls };
-
-    ghost failures = { λ _. 0 };
-
-    ghost empty_reads = { λ l. l.empty_reads };
-
-    ghost stalled_writes = { λ l. l.stalled_writes };
+    ghost seen = { thread_view };
 
     ghost other_side = { λ _. unknown_side };
 

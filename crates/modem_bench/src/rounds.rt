@@ -2,9 +2,9 @@
 ghost use Rattle.std.specs.Prelude.{◌≡◌, true, IfNone, IfSome, Ok, length};
 ghost use Rattle.modem_sim.specs.Sims.{SimGoes};
 ghost use Rattle.mux_frame.specs.Laws.{AreOctets};
-ghost use Rattle.serial_line.specs.CutLine.{other_side_of};
+ghost use Rattle.serial_line.specs.CutLine.{cut_view, other_side_of};
 ghost use Rattle.modem_bench.specs.OneLine.{StaysOneLine, TellsModemTo};
-ghost use Rattle.modem_bench.specs.Rounds.{EndsInRounds, GoesOnRound, IsFull, IsLastRound, IsRound, JoinsOn, RunsFar, judged_by, pair, sight_in};
+ghost use Rattle.modem_bench.specs.Rounds.{EndsInRounds, GoesOnRound, IsFull, IsLastRound, IsRound, JoinsOn, RunsFar, judged_by, pair};
 
 use crate::signals::Fault;
 use crate::{driving, simulating};
@@ -39,7 +39,7 @@ pub struct Said {
 /// idle and after 64.
 fn turns(sim: &mut Sim<CutLine>) -> Result<SimTurn, SimError>
     ensures runs { RunsFar sim.old sim.new result }
-    ensures goes { SimGoes sight_in.received sight_in.sent sim.old sim.new }
+    ensures goes { SimGoes cut_view sim.old sim.new }
     ensures beyond { other_side_of sim.new.line ≡ other_side_of sim.old.line }
 {
     for _ in 0..TURNS {

@@ -1,8 +1,6 @@
 //! A bench: callers, the driver and a simulated modem in threads of their own.
 ghost use Rattle.std.specs.Prelude.{◌≡◌, ◌≤◌, ◌<◌, IfOk, length, map, vec_items};
 ghost use Rattle.modem_desk.specs.Ends.{AreSubscribed, IsWhole, subscription_of, place_of};
-ghost use Rattle.modem_driver.specs.SessionStates.{line_by};
-ghost use Rattle.modem_sim.specs.Sims.{sight};
 ghost use Rattle.modem_bench.specs.Driving.{IsBegun};
 ghost use Rattle.modem_bench.specs.Running.{Ran, RanFor};
 
@@ -37,13 +35,10 @@ where
     L: SerialLine + CountedLine + Drop + Send + 'static,
     R: Threads + Wait + Copy + Send + Drop + 'static,
     requires few { (0 < length ends.callers.items) × (length ends.callers.items ≤ 8) }
-    requires begun { IsBegun (line_by L.received L.sent L.calls L.failures L.empty_reads L.stalled_writes) ends.session }
+    requires begun { IsBegun L.seen ends.session }
     requires callers { IsWhole ends.session.driver.desk (map place_of ends.callers.items) }
     requires listeners { AreSubscribed ends.session.driver.desk (map subscription_of ends.listeners.items) }
-    ensures { IfOk result (λ outcomes. RanFor
-        (line_by L.received L.sent L.calls L.failures L.empty_reads L.stalled_writes)
-        (sight L.received L.sent L.calls L.failures L.empty_reads L.stalled_writes)
-        submissions.now ends.callers.items ends.session ends.sim (map vec_items outcomes.items)) }
+    ensures { IfOk result (λ outcomes. RanFor L.seen submissions.now ends.callers.items ends.session ends.sim (map vec_items outcomes.items)) }
 {
     let Ends {
         session,

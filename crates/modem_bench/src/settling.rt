@@ -1,7 +1,6 @@
 //! How a bench is settled.
 ghost use Rattle.std.specs.Prelude.{◌≡◌, IfOk, map};
 ghost use Rattle.modem_desk.specs.Ends.{AreSubscribed, IsWhole, subscription_of, place_of};
-ghost use Rattle.modem_driver.specs.SessionStates.{line_by};
 ghost use Rattle.modem_bench.specs.Driving.{IsOver, WasSettled};
 
 use crate::calling::Worked;
@@ -40,8 +39,7 @@ where
     R: Wait + Drop,
     requires callers { IsWhole session.driver.desk (map place_of callers.items) }
     requires listeners { AreSubscribed session.driver.desk (map subscription_of listeners.items) }
-    ensures { IfOk result
-        (IsOver (line_by L.received L.sent L.calls L.failures L.empty_reads L.stalled_writes) session callers.items listeners.items) }
+    ensures { IfOk result (IsOver L.seen session callers.items listeners.items) }
 {
     let finished = session.finish();
     match settle(rt, alloc, finished.driver, callers, listeners) {
@@ -65,8 +63,7 @@ where
     requires callers { IsWhole session.driver.desk (map place_of (map (λ w. w.caller) back.items)) }
     requires listeners { AreSubscribed session.driver.desk (map subscription_of listeners.items) }
     ensures outcomes { IfOk result (λ outcomes. outcomes.items ≡ map (λ w. w.outcomes) back.items) }
-    ensures over { IfOk result
-        (λ _. WasSettled (line_by L.received L.sent L.calls L.failures L.empty_reads L.stalled_writes) session
+    ensures over { IfOk result (λ _. WasSettled L.seen session
         (map (λ w. w.caller) back.items) listeners.items) }
 {
     let ((callers, outcomes), session) = beside(parted(alloc, back), session)?;

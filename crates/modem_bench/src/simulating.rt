@@ -1,6 +1,5 @@
 //! The simulated modem's thread of a bench.
 ghost use Rattle.std.specs.Prelude.{◌≡◌, OnOk, Ok};
-ghost use Rattle.modem_sim.specs.Sims.{sight};
 ghost use Rattle.modem_sim.specs.declared.sim.SimTurn.TheVariants.{Ended};
 ghost use Rattle.modem_bench.specs.Faults.{sim_end, sim_fault};
 ghost use Rattle.modem_bench.specs.Simulating.{IsSimulated};
@@ -50,8 +49,7 @@ fn simulate_on<L: SerialLine + CountedLine, R: Wait>(
     sim: &mut Sim<L>,
     signals: &Signals,
 ) -> Result<(), Fault>
-    ensures { OnOk result
-        (IsSimulated (sight L.received L.sent L.calls L.failures L.empty_reads L.stalled_writes) sim.old) }
+    ensures { OnOk result (IsSimulated L.seen sim.old) }
 {
     for _ in rt.forever() {
         signals.check()?;
@@ -70,8 +68,7 @@ pub fn simulate<L: SerialLine + CountedLine + Drop, R: Wait>(
     sim: Sim<L>,
     signals: Signals,
 ) -> Result<(), Fault>
-    ensures { OnOk result
-        (IsSimulated (sight L.received L.sent L.calls L.failures L.empty_reads L.stalled_writes) sim) }
+    ensures { OnOk result (IsSimulated L.seen sim) }
 {
     let mut sim = sim;
     let ended = simulate_on(rt, &mut sim, &signals);
@@ -83,6 +80,5 @@ pub fn simulate<L: SerialLine + CountedLine + Drop, R: Wait>(
 pub struct Ending<L: SerialLine + Drop>(pub Snapshot<Sim<L>>);
 
 impl<L: SerialLine + Drop> Promise<Result<(), Fault>> for Ending<L> {
-    ghost kept_by = { λ p r. OnOk r
-        (IsSimulated (sight L.received L.sent L.calls L.failures L.empty_reads L.stalled_writes) p.0.value) };
+    ghost kept_by = { λ p r. OnOk r (IsSimulated L.seen p.0.value) };
 }

@@ -1,7 +1,5 @@
 //! The threads of a bench: the driver's, the simulated modem's, and the callers' in between.
 ghost use Rattle.std.specs.Prelude.{◌≡◌, ◌≤◌, ◌<◌, IfOk, Ok, OnOk, length};
-ghost use Rattle.modem_driver.specs.SessionStates.{line_by};
-ghost use Rattle.modem_sim.specs.Sims.{sight};
 ghost use Rattle.modem_bench.specs.Driving.{Continues};
 ghost use Rattle.modem_bench.specs.Running.{AreCalled};
 ghost use Rattle.modem_bench.specs.Simulating.{IsSimulated};
@@ -63,8 +61,7 @@ where
     R: Threads + Wait + Copy + Send + Drop + 'static,
     requires { (0 < length callers.items) × (length callers.items ≤ 8) }
     ensures called { IfOk result (λ back. AreCalled submissions.now callers.items back.items) }
-    ensures simulated { OnOk result
-        (IsSimulated (sight L.received L.sent L.calls L.failures L.empty_reads L.stalled_writes) sim) }
+    ensures simulated { OnOk result (IsSimulated L.seen sim) }
 {
     let simulating = send_modem(rt, sim, signals)?;
     let called = call(rt, alloc, callers, submissions, signals);
@@ -108,11 +105,9 @@ where
     L: SerialLine + CountedLine + Drop + Send + 'static,
     R: Threads + Wait + Copy + Send + Drop + 'static,
     requires { (0 < length callers.items) × (length callers.items ≤ 8) }
-    ensures continues { IfOk result
-        (λ r. Continues (line_by L.received L.sent L.calls L.failures L.empty_reads L.stalled_writes) session r.0) }
+    ensures continues { IfOk result (λ r. Continues L.seen session r.0) }
     ensures called { IfOk result (λ r. AreCalled submissions.now callers.items r.1.items) }
-    ensures simulated { OnOk result
-        (IsSimulated (sight L.received L.sent L.calls L.failures L.empty_reads L.stalled_writes) sim) }
+    ensures simulated { OnOk result (IsSimulated L.seen sim) }
 {
     let (driving, sim) = beside(send_driver(rt, session, signals, limits), sim)?;
     let called = call_modem(rt, alloc, sim, callers, submissions, signals);

@@ -1,9 +1,11 @@
 -- A read that counted gave octets, or none.
 use Rattle.std.specs.Prelude.{◌≡◌, ◌≢◌, ◌==◌, ◌<◌, ◌≤◌, true, false, nat_lt, ◌⊎◌, ℕ, List, [], ◌∷◌, ◌++◌, length, take, drop, min, None, refl}
 use Rattle.std.proofs.Common.{ap, sym, ◌∙◌, inl, inr, arith, zero, suc, true≢false}
+use Rattle.std.proofs.Math.Seq.{take-length}
 use Rattle.std.proofs.lemmas.List.{nil_from_length}
 use Rattle.std.proofs.lemmas.Bool.{eqb-true, lt-ltb}
 use Rattle.serial_line.specs.Counts.{one_more, counted_if_none}
+use Rattle.serial_line.specs.LineViews.{LineView, after_read}
 use Rattle.modem_data_line.specs.DataLines.{DataLineState}
 use Rattle.modem_data_line.specs.Moving.{IsAsked}
 
@@ -21,20 +23,28 @@ asked : (r0 r1 unfed : List ℕ) (n e0 e1 : ℕ) → r1 ≡ r0 ++ unfed → n �
 asked r0 r1 [] n e0 e1 cm c e = inr (e ∙ ap (λ (k : ℕ). counted_if_none 512 k e0) c)
 asked r0 r1 (y ∷ ys) n e0 e1 cm c e = inl (λ q. grown_differs r0 y ys (sym cm ∙ q))
 
+-- all octets that a read gave came
+pub all_came : {X : Type 0} (look : X → LineView) (old new : X) (unfed : List ℕ) (n : ℕ) → look new ≡ after_read 512 n unfed (look old) → n ≡ length unfed
+    → (look new).received ≡ (look old).received ++ unfed
+all_came look old new unfed n gave c =
+    ap (λ (l : LineView). l.received) gave
+    ∙ (ap (λ (k : ℕ). (look old).received ++ take k unfed) c ∙ ap (λ (xs : List ℕ). (look old).received ++ xs) (take-length unfed))
+
 -- a read of the line, into a room of 512 octets, gave some, or had none and was counted
-pub is_asked : {X : Type 0} (r : X → List ℕ) (e : X → ℕ) (old new : X) (unfed : List ℕ) (n : ℕ) → r new ≡ r old ++ unfed → n ≡ length unfed
-    → e new ≡ counted_if_none 512 n (e old) → IsAsked r e old new
-is_asked r e old new unfed n cm c em = asked (r old) (r new) unfed n (e old) (e new) cm c em
+pub is_asked : {X : Type 0} (look : X → LineView) (old new : X) (unfed : List ℕ) (n : ℕ) → look new ≡ after_read 512 n unfed (look old) → n ≡ length unfed → IsAsked look old new
+is_asked look old new unfed n gave c =
+    asked (look old).received (look new).received unfed n (look old).empty_reads (look new).empty_reads (all_came look old new unfed n gave c) c
+    (ap (λ (l : LineView). l.empty_reads) gave)
 
 -- octets that came are some
-pub some_came : {X : Type 0} (r : X → List ℕ) (old new : X) (unfed : List ℕ) (n : ℕ) → r new ≡ r old ++ unfed → n ≡ length unfed → 0 < n → r new ≢ r old
-some_came r old new [] n cm c some = let no : ⊥ = omega (arith, c, some) in absurd no
-some_came r old new (y ∷ ys) n cm c some = λ q. grown_differs (r old) y ys (sym cm ∙ q)
+pub some_came : {X : Type 0} (look : X → LineView) (old new : X) (unfed : List ℕ) (n : ℕ) → look new ≡ after_read 512 n unfed (look old) → n ≡ length unfed → 0 < n → (look new).received ≢ (look old).received
+some_came look old new [] n gave c some = let no : ⊥ = omega (arith, c, some) in absurd no
+some_came look old new (y ∷ ys) n gave c some = λ q. grown_differs (look old).received y ys (sym (all_came look old new (y ∷ ys) n gave c) ∙ q)
 
 -- a read that gave none was counted
-pub none_came : {X : Type 0} (e : X → ℕ) (old new : X) (n : ℕ) → e new ≡ counted_if_none 512 n (e old) → nat_lt 0 n ≡ false → e new ≡ one_more (e old)
-none_came e old new zero c none = c
-none_came e old new (suc n) c none = absurd (true≢false (sym (lt-ltb 0 (suc n) (omega (arith))) ∙ none))
+pub none_came : {X : Type 0} (look : X → LineView) (old new : X) (unfed : List ℕ) (n : ℕ) → look new ≡ after_read 512 n unfed (look old) → nat_lt 0 n ≡ false → (look new).empty_reads ≡ one_more (look old).empty_reads
+none_came look old new unfed zero gave none = ap (λ (l : LineView). l.empty_reads) gave
+none_came look old new unfed (suc n) gave none = absurd (true≢false (sym (lt-ltb 0 (suc n) (omega (arith))) ∙ none))
 
 -- octets whose count is 0 are none
 pub none_left : (xs : List ℕ) → (length xs == 0) ≡ true → xs ≡ []
@@ -48,25 +58,25 @@ none_by_count : (xs : List ℕ) (n k : ℕ) → n ≡ min (length xs) k → n �
 none_by_count [] n k e z some = refl
 none_by_count (x ∷ xs) n k e z some = let no : ⊥ = omega (arith, e, z, some) in absurd no
 
-asked_from : {X : Type 0} (r : X → List ℕ) (e : X → ℕ) (l m n k : X) → r m ≡ r l → e m ≡ e l → k ≡ n → IsAsked r e m n → IsAsked r e l k
-asked_from r e l m n k a b q (inl differs) = inl (λ z. differs (sym (ap r q) ∙ (z ∙ sym a)))
-asked_from r e l m n k a b q (inr one) = inr (ap e q ∙ (one ∙ ap one_more b))
+asked_from : {X : Type 0} (look : X → LineView) (l m n k : X) → (look m).received ≡ (look l).received → (look m).empty_reads ≡ (look l).empty_reads → k ≡ n → IsAsked look m n → IsAsked look l k
+asked_from look l m n k a b q (inl differs) = inl (λ z. differs (sym (ap (λ x. (look x).received) q) ∙ (z ∙ sym a)))
+asked_from look l m n k a b q (inr one) = inr (ap (λ x. (look x).empty_reads) q ∙ (one ∙ ap one_more b))
 
 -- what was asked between two states was asked between two whose lines had given, and counted, as much
-pub asked_or : {X : Type 0} (r : X → List ℕ) (e : X → ℕ) (u v w x : DataLineState X) → r v.line ≡ r u.line → e v.line ≡ e u.line → x.line ≡ w.line → x.is_lost ≡ w.is_lost
-    → (w.is_lost ≡ true) ⊎ IsAsked r e v.line w.line → (x.is_lost ≡ true) ⊎ IsAsked r e u.line x.line
-asked_or r e u v w x a b l lost (inl q) = inl (lost ∙ q)
-asked_or r e u v w x a b l lost (inr q) = inr (asked_from r e u.line v.line w.line x.line a b l q)
+pub asked_or : {X : Type 0} (look : X → LineView) (u v w x : DataLineState X) → (look v.line).received ≡ (look u.line).received → (look v.line).empty_reads ≡ (look u.line).empty_reads → x.line ≡ w.line → x.is_lost ≡ w.is_lost
+    → (w.is_lost ≡ true) ⊎ IsAsked look v.line w.line → (x.is_lost ≡ true) ⊎ IsAsked look u.line x.line
+asked_or look u v w x a b l lost (inl q) = inl (lost ∙ q)
+asked_or look u v w x a b l lost (inr q) = inr (asked_from look u.line v.line w.line x.line a b l q)
 
 -- v, behind a write; w, behind a read; x, behind handing on
-pub asked_by_count : {X : Type 0} (r : X → List ℕ) (e : X → ℕ) (u v w x : DataLineState X) (n k : ℕ) → n ≡ min (length w.relay.to_driver) k → n ≡ 0 → 0 < k
-    → r v.line ≡ r u.line → e v.line ≡ e u.line → v.unfed ≡ u.unfed → x.line ≡ w.line → x.is_lost ≡ w.is_lost → (v.relay.to_driver ≢ [] → w ≡ v)
-    → (v.relay.to_driver ≡ [] → v.unfed ≡ [] → (w.is_lost ≡ true) ⊎ IsAsked r e v.line w.line) → u.unfed ≡ []
-    → (x.is_lost ≡ true) ⊎ IsAsked r e u.line x.line
-asked_by_count r e u v w x n k c z some a b un l lost still asks none =
+pub asked_by_count : {X : Type 0} (look : X → LineView) (u v w x : DataLineState X) (n k : ℕ) → n ≡ min (length w.relay.to_driver) k → n ≡ 0 → 0 < k
+    → (look v.line).received ≡ (look u.line).received → (look v.line).empty_reads ≡ (look u.line).empty_reads → v.unfed ≡ u.unfed → x.line ≡ w.line → x.is_lost ≡ w.is_lost → (v.relay.to_driver ≢ [] → w ≡ v)
+    → (v.relay.to_driver ≡ [] → v.unfed ≡ [] → (w.is_lost ≡ true) ⊎ IsAsked look v.line w.line) → u.unfed ≡ []
+    → (x.is_lost ≡ true) ⊎ IsAsked look u.line x.line
+asked_by_count look u v w x n k c z some a b un l lost still asks none =
     let empty = none_by_count w.relay.to_driver n k c z some in
     let first = none_first v.relay.to_driver w.relay.to_driver (λ q. ap (λ (y : DataLineState _). y.relay.to_driver) (still q)) empty in
-    asked_or r e u v w x a b l lost (asks first (un ∙ none))
+    asked_or look u v w x a b l lost (asks first (un ∙ none))
 
 -- where none went on to the driver, and octets still wait for the relay, a frame is at hand there
 pub blocked_by_count : {X : Type 0} (v w x : DataLineState X) (n k : ℕ) → n ≡ min (length w.relay.to_driver) k → n ≡ 0 → 0 < k

@@ -2,6 +2,7 @@
 use Rattle.std.specs.Prelude.{◌≡◌, ℕ, Bool, true, false, List, [], ◌∷◌, ◌++◌}
 use Rattle.std.specs.List.{list_all}
 use Rattle.mux_station.specs.declared.role.Role.{Role}
+use Rattle.serial_line.specs.LineViews.{LineView}
 use Rattle.modem_data.specs.Passing.{Came, Went, Flowed, Left, Lost}
 use Rattle.modem_data.specs.Hops.{Relay, RelayFits, Hop, Fed, Handed, Took, Wrote, Passed, fed, handed_over, taken, wrote}
 
@@ -18,6 +19,17 @@ pub record DataLineState (X : Type 0) : Type 0 where
   pub failures : ℕ
   pub empty_reads : ℕ
   pub stalled_writes : ℕ
+
+-- what the driver sees of it as of any line
+abbrev pub data_view : {X : Type 0} → DataLineState X → LineView
+data_view v = record {
+  received = v.received;
+  sent = v.sent;
+  calls = v.calls;
+  failures = v.failures;
+  empty_reads = v.empty_reads;
+  stalled_writes = v.stalled_writes;
+}
 
 -- nothing has passed on it
 abbrev pub new_data_line : {X : Type 0} → X → Relay → DataLineState X
@@ -42,19 +54,19 @@ pub record Before : Type 0 where
 
 -- It fits a past of its relay: the relay took the first of the octets that the line gave since then, and the others wait for it; the
 -- line took what the relay wrote; the driver read what the relay handed over, and sent what it took.
-pub record LineFits {X : Type 0} (received sent : X → List ℕ) (role : Role) (n1 : ℕ) (ds : List ℕ) (b : Before) (v : DataLineState X) (past : List Hop) : Type 0 where
+pub record LineFits {X : Type 0} (look : X → LineView) (role : Role) (n1 : ℕ) (ds : List ℕ) (b : Before) (v : DataLineState X) (past : List Hop) : Type 0 where
   pub relay_fits : RelayFits role n1 ds v.relay past
-  pub came : received v.line ≡ b.received ++ (fed past ++ v.unfed)
-  pub went : sent v.line ≡ b.sent ++ wrote past
+  pub came : (look v.line).received ≡ b.received ++ (fed past ++ v.unfed)
+  pub went : (look v.line).sent ≡ b.sent ++ wrote past
   pub read_are : v.received ≡ handed_over past
   pub sent_are : v.sent ≡ taken past
 
 -- by some hops, all of this kind, the one leads to the other, whatever passed before
-pub record LeadsBy {X : Type 0} (received sent : X → List ℕ) (kind : Hop → Bool) (old new : DataLineState X) : Type 0 where
+pub record LeadsBy {X : Type 0} (look : X → LineView) (kind : Hop → Bool) (old new : DataLineState X) : Type 0 where
   pub hops : List Hop
   pub only : list_all kind hops ≡ true
-  pub leads : (role : Role) (n1 : ℕ) (ds : List ℕ) (b : Before) (past : List Hop) → LineFits received sent role n1 ds b old past
-      → LineFits received sent role n1 ds b new (hops ++ past)
+  pub leads : (role : Role) (n1 : ℕ) (ds : List ℕ) (b : Before) (past : List Hop) → LineFits look role n1 ds b old past
+      → LineFits look role n1 ds b new (hops ++ past)
 
 -- octets go to the line, and a frame of the driver's to there
 abbrev pub is_of_driver : Hop → Bool
@@ -87,10 +99,10 @@ with_taken [] past = past
 with_taken (o ∷ octets) past = Took (o ∷ octets) ∷ past
 
 -- Octets of the driver's were taken: before it only the driver's frames went out; behind it data too, where all was taken.
-pub record TakesBy {X : Type 0} (received sent : X → List ℕ) (octets : List ℕ) (old new : DataLineState X) : Type 0 where
+pub record TakesBy {X : Type 0} (look : X → LineView) (octets : List ℕ) (old new : DataLineState X) : Type 0 where
   pub before : List Hop
   pub after : List Hop
   pub only_before : list_all is_of_driver before ≡ true
   pub only_after : list_all (may_go new.is_behind) after ≡ true
-  pub leads : (role : Role) (n1 : ℕ) (ds : List ℕ) (b : Before) (past : List Hop) → LineFits received sent role n1 ds b old past
-      → LineFits received sent role n1 ds b new (after ++ with_taken octets (before ++ past))
+  pub leads : (role : Role) (n1 : ℕ) (ds : List ℕ) (b : Before) (past : List Hop) → LineFits look role n1 ds b old past
+      → LineFits look role n1 ds b new (after ++ with_taken octets (before ++ past))

@@ -2,6 +2,7 @@
 use Rattle.std.specs.Prelude.{◌≡◌, ◌≢◌, ◌⊎◌, ℕ, ◌≤◌, ◌<◌, Bool, true, false, List, ◌++◌, length, None}
 use Rattle.mux_station.specs.declared.role.Role.{Role}
 use Rattle.serial_line.specs.Counts.{one_more}
+use Rattle.serial_line.specs.LineViews.{LineView}
 use Rattle.modem_data.specs.Hops.{Relay, Hop, Hops, HoldsNothing, LineIn, Handed, Wrote}
 use Rattle.modem_data_line.specs.DataLines.{DataLineState, Before, LineFits, with_taken}
 
@@ -28,19 +29,19 @@ NothingGoes true r = (length r.to_line ≡ 0) × (r.inner.next ≡ None)
 NothingGoes false r = HoldsNothing r
 
 -- the line was asked for octets: it gave some, or had none
-abbrev pub IsAsked : {X : Type 0} (received : X → List ℕ) (empty_reads : X → ℕ) → (old new : X) → Type 0
-IsAsked received empty_reads old new = (received new ≢ received old) ⊎ (empty_reads new ≡ one_more (empty_reads old))
+abbrev pub IsAsked : {X : Type 0} (look : X → LineView) → (old new : X) → Type 0
+IsAsked look old new = ((look new).received ≢ (look old).received) ⊎ ((look new).empty_reads ≡ one_more ((look old).empty_reads))
 
 -- these octets of the driver's were taken, if there are any, whatever passed before
-unfoldable pub TakesOn : {X : Type 0} (received sent : X → List ℕ) (octets : List ℕ) (old new : DataLineState X) → Type 0
-TakesOn received sent octets old new = (role : Role) (n1 : ℕ) (ds : List ℕ) (b : Before) (past : List Hop) → LineFits received sent role n1 ds b old past
-    → LineFits received sent role n1 ds b new (with_taken octets past)
+unfoldable pub TakesOn : {X : Type 0} (look : X → LineView) (octets : List ℕ) (old new : DataLineState X) → Type 0
+TakesOn look octets old new = (role : Role) (n1 : ℕ) (ds : List ℕ) (b : Before) (past : List Hop) → LineFits look role n1 ds b old past
+    → LineFits look role n1 ds b new (with_taken octets past)
 
 -- a line is lost only by a call of the line itself that failed
-pub record IsLostBy {X : Type 0} (failures : X → ℕ) (old new : DataLineState X) : Type 0 where
-  pub more : failures old.line ≤ failures new.line
-  pub by_fault : new.is_lost ≡ true → (old.is_lost ≡ true) ⊎ (failures old.line < failures new.line)
+pub record IsLostBy {X : Type 0} (look : X → LineView) (old new : DataLineState X) : Type 0 where
+  pub more : (look old.line).failures ≤ (look new.line).failures
+  pub by_fault : new.is_lost ≡ true → (old.is_lost ≡ true) ⊎ ((look old.line).failures < (look new.line).failures)
 
 -- the line was offered octets: it took some, or took none and that was counted
-abbrev pub IsOffered : {X : Type 0} (sent : X → List ℕ) (stalled_writes : X → ℕ) → (old new : X) → Type 0
-IsOffered sent stalled_writes old new = (sent new ≢ sent old) ⊎ (stalled_writes new ≡ one_more (stalled_writes old))
+abbrev pub IsOffered : {X : Type 0} (look : X → LineView) → (old new : X) → Type 0
+IsOffered look old new = ((look new).sent ≢ (look old).sent) ⊎ ((look new).stalled_writes ≡ one_more ((look old).stalled_writes))

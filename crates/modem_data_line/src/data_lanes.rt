@@ -88,13 +88,13 @@ impl<L: SerialLine> DataLine<L> {
     /// Makes one write of what may go to the line, and says whether the line took octets. Where data was given while the
     /// driver rests, call it until it says no. The driver sees nothing of this write.
     pub fn flush(&mut self) -> bool
-        ensures goes { LeadsBy L.received L.sent (may_go self.old.is_behind) self.old self.new }
+        ensures goes { LeadsBy L.seen (may_go self.old.is_behind) self.old self.new }
         ensures beside { self.new ≡ record self.old { line = self.new.line; relay = self.new.relay; is_lost = self.new.is_lost } }
-        ensures some { result ≡ true → L.sent self.new.line ≢ L.sent self.old.line }
+        ensures some { result ≡ true → (L.seen self.new.line).sent ≢ (L.seen self.old.line).sent }
         ensures tried { result ≡ false → self.new.is_lost ≡ false
-            → (L.stalled_writes self.new.line ≡ one_more (L.stalled_writes self.old.line))
+            → ((L.seen self.new.line).stalled_writes ≡ one_more (L.seen self.old.line).stalled_writes)
             ⊎ NothingGoes self.old.is_behind self.new.relay }
-        ensures lost { IsLostBy L.failures self.old self.new }
+        ensures lost { IsLostBy L.seen self.old self.new }
     {
         self.write_one()
     }
@@ -103,19 +103,19 @@ impl<L: SerialLine> DataLine<L> {
     /// some. It does nothing while octets wait for the driver. While the driver rests, call it until it says no: so data comes
     /// on even where no frame is the driver's.
     pub fn fill(&mut self) -> bool
-        ensures goes { LeadsBy L.received L.sent (may_pass self.old.is_behind) self.old self.new }
+        ensures goes { LeadsBy L.seen (may_pass self.old.is_behind) self.old self.new }
         ensures beside { self.new ≡ record self.old {
           line = self.new.line;
           relay = self.new.relay;
           unfed = self.new.unfed;
           is_lost = self.new.is_lost;
         } }
-        ensures some { result ≡ true → L.received self.new.line ≢ L.received self.old.line }
+        ensures some { result ≡ true → (L.seen self.new.line).received ≢ (L.seen self.old.line).received }
         ensures none { result ≡ false → self.old.relay.to_driver ≡ [] → self.old.unfed ≡ []
-            → (self.new.is_lost ≡ true) ⊎ (L.empty_reads self.new.line ≡ one_more (L.empty_reads self.old.line)) }
+            → (self.new.is_lost ≡ true) ⊎ ((L.seen self.new.line).empty_reads ≡ one_more (L.seen self.old.line).empty_reads) }
         ensures blocks { self.old.relay.to_driver ≡ [] → self.new.unfed ≢ [] → self.new.relay.outer.next ≢ None }
         ensures still { self.old.relay.to_driver ≢ [] → self.new ≡ self.old }
-        ensures lost { IsLostBy L.failures self.old self.new }
+        ensures lost { IsLostBy L.seen self.old self.new }
     {
         self.take_in()
     }

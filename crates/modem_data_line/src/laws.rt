@@ -8,14 +8,14 @@ use serial_line::SerialLine;
 /// what the relay wrote, and the driver read and sent here what the relay handed over and took.
 #[tactic(auto, using(crate::proofs::LineLaws::have_one_past))]
 pub fn pasts<L: SerialLine>()
-    ensures { HaveOnePast L.received L.sent }
+    ensures { HaveOnePast L.seen }
 {}
 
 /// A session over such a line has the line's own frames, but for data. The frames that it got are the first of those that
 /// came. The frames that it sent leave whole and in order.
 #[tactic(auto, using(crate::proofs::LineLaws::tells_session))]
 pub fn sessions<L: SerialLine>()
-    ensures { TellsSession L.received L.sent }
+    ensures { TellsSession L.seen }
 {
     deframed();
 }

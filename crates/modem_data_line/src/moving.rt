@@ -1,6 +1,7 @@
 //! Octets between a line and its relay.
 ghost use Rattle.std.specs.Prelude.{◌≡◌, ◌≢◌, ◌⊎◌, ◌≤◌, ◌<◌, ◌+◌, ◌++◌, [], length, take, drop, min, true, false, None, IfOk, OnOk, OnErr, nat_lt};
 ghost use Rattle.serial_line.specs.Counts.{one_more};
+ghost use Rattle.serial_line.specs.LineViews.{after_fault, after_write};
 ghost use Rattle.modem_data.specs.Hops.{HoldsNothing, Hops, Took};
 ghost use Rattle.modem_data_line.specs.DataLines.{LeadsBy, TakesBy, is_of_driver, may_go, may_pass};
 ghost use Rattle.modem_data_line.specs.Moving.{WritesOn, Feeds, Hands, IsAsked, IsLostBy, IsOffered, NothingGoes, TakesOn};
@@ -12,17 +13,13 @@ use serial_line::{LineFault, ReadBuffer, SerialLine};
 /// Writes the octets that wait at the relay, once, and says how many the line took.
 #[tactic(auto, using(crate::proofs::Asked::sent_more))]
 fn write<L: SerialLine>(line: &mut L, relay: &mut Relay) -> Result<usize, LineFault>
-    ensures wrote { OnOk result (WritesOn (L.sent line.old) (L.sent line.new) relay.old relay.new) }
-    ensures none_went { OnErr result (L.sent line.new ≡ L.sent line.old) }
+    ensures wrote { OnOk result (WritesOn (L.seen line.old).sent (L.seen line.new).sent relay.old relay.new) }
     ensures err { OnErr result (relay.new ≡ relay.old) }
-    ensures sound { OnOk result (L.failures line.new ≡ L.failures line.old) }
-    ensures failed { OnErr result (L.failures line.new ≡ L.failures line.old + 1) }
-    ensures none_came { L.received line.new ≡ L.received line.old }
-    ensures called { L.calls line.new ≡ one_more (L.calls line.old) }
-    ensures no_read { L.empty_reads line.new ≡ L.empty_reads line.old }
-    ensures grew { IfOk result (λ n. 0 < n → L.sent line.new ≢ L.sent line.old) }
+    ensures went { IfOk result (λ n. L.seen line.new ≡ after_write n relay.old.to_line (L.seen line.old)) }
+    ensures fault { OnErr result (L.seen line.new ≡ after_fault (L.seen line.old)) }
+    ensures grew { IfOk result (λ n. 0 < n → (L.seen line.new).sent ≢ (L.seen line.old).sent) }
     ensures stalled { IfOk result (λ n. n ≡ 0 → 0 < length relay.old.to_line
-        → L.stalled_writes line.new ≡ one_more (L.stalled_writes line.old)) }
+        → (L.seen line.new).stalled_writes ≡ one_more (L.seen line.old).stalled_writes) }
 {
     let count = line.try_write(relay.for_line())?;
     relay.wrote(count);
@@ -71,7 +68,7 @@ impl<L: SerialLine> DataLine<L> {
     /// Makes the next octets for the line wait, if none wait and some may go. Says whether octets wait.
     #[tactic(auto, using(crate::proofs::Leads::readies_driver, crate::proofs::Leads::readies_any))]
     fn make_ready(&mut self) -> bool
-        ensures goes { LeadsBy L.received L.sent (may_go self.old.is_behind) self.old self.new }
+        ensures goes { LeadsBy L.seen (may_go self.old.is_behind) self.old self.new }
         ensures same { self.new ≡ record self.old { relay = self.new.relay } }
         ensures some { result ≡ true → 0 < length self.new.relay.to_line }
         ensures none { result ≡ false → NothingGoes self.old.is_behind self.new.relay }
@@ -84,17 +81,17 @@ impl<L: SerialLine> DataLine<L> {
     }
 
     /// Writes the octets that wait, once, and says whether the line took some. Where the line fails, it is lost.
-    #[tactic(auto, using(crate::proofs::Leads::writes_once, crate::proofs::Leads::loses_at, crate::proofs::Lost::lost_sound, crate::proofs::Lost::lost_fault))]
+    #[tactic(auto, using(crate::proofs::Leads::writes_once, crate::proofs::Leads::loses_at, crate::proofs::Lost::lost_wrote, crate::proofs::Lost::lost_fault))]
     fn write_waiting(&mut self) -> bool
-        ensures goes { LeadsBy L.received L.sent is_of_driver self.old self.new }
+        ensures goes { LeadsBy L.seen is_of_driver self.old self.new }
         ensures same { self.new ≡ record self.old { line = self.new.line; relay = self.new.relay; is_lost = self.new.is_lost } }
-        ensures lost { IsLostBy L.failures self.old self.new }
-        ensures called { L.calls self.new.line ≡ one_more (L.calls self.old.line) }
-        ensures none_came { L.received self.new.line ≡ L.received self.old.line }
-        ensures no_read { L.empty_reads self.new.line ≡ L.empty_reads self.old.line }
-        ensures some { result ≡ true → L.sent self.new.line ≢ L.sent self.old.line }
+        ensures lost { IsLostBy L.seen self.old self.new }
+        ensures called { (L.seen self.new.line).calls ≡ one_more (L.seen self.old.line).calls }
+        ensures none_came { (L.seen self.new.line).received ≡ (L.seen self.old.line).received }
+        ensures no_read { (L.seen self.new.line).empty_reads ≡ (L.seen self.old.line).empty_reads }
+        ensures some { result ≡ true → (L.seen self.new.line).sent ≢ (L.seen self.old.line).sent }
         ensures stalled { result ≡ false → 0 < length self.old.relay.to_line → self.new.is_lost ≡ false
-            → L.stalled_writes self.new.line ≡ one_more (L.stalled_writes self.old.line) }
+            → (L.seen self.new.line).stalled_writes ≡ one_more (L.seen self.old.line).stalled_writes }
     {
         match write(&mut self.line, &mut self.relay) {
             Ok(count) => count > 0,
@@ -109,14 +106,14 @@ impl<L: SerialLine> DataLine<L> {
     /// Writes once what may go to the line, and says whether the line took some.
     #[tactic(auto, using(crate::proofs::Leads::leads_none, crate::proofs::Leads::then_driver, crate::proofs::Lost::lost_none, crate::proofs::Lost::lost_sound, crate::proofs::Lost::lost_then))]
     pub(crate) fn write_one(&mut self) -> bool
-        ensures goes { LeadsBy L.received L.sent (may_go self.old.is_behind) self.old self.new }
+        ensures goes { LeadsBy L.seen (may_go self.old.is_behind) self.old self.new }
         ensures same { self.new ≡ record self.old { line = self.new.line; relay = self.new.relay; is_lost = self.new.is_lost } }
-        ensures lost { IsLostBy L.failures self.old self.new }
-        ensures none_came { L.received self.new.line ≡ L.received self.old.line }
-        ensures no_read { L.empty_reads self.new.line ≡ L.empty_reads self.old.line }
-        ensures some { result ≡ true → L.sent self.new.line ≢ L.sent self.old.line }
+        ensures lost { IsLostBy L.seen self.old self.new }
+        ensures none_came { (L.seen self.new.line).received ≡ (L.seen self.old.line).received }
+        ensures no_read { (L.seen self.new.line).empty_reads ≡ (L.seen self.old.line).empty_reads }
+        ensures some { result ≡ true → (L.seen self.new.line).sent ≢ (L.seen self.old.line).sent }
         ensures tried { result ≡ false → self.new.is_lost ≡ false
-            → (L.stalled_writes self.new.line ≡ one_more (L.stalled_writes self.old.line))
+            → ((L.seen self.new.line).stalled_writes ≡ one_more (L.seen self.old.line).stalled_writes)
             ⊎ NothingGoes self.old.is_behind self.new.relay }
     {
         if self.is_lost {
@@ -129,20 +126,20 @@ impl<L: SerialLine> DataLine<L> {
     }
 
     /// Reads the line once, where no octets wait for the relay, and says whether some came. Where it fails, it is lost.
-    #[tactic(auto, using(crate::proofs::Leads::leads_none, crate::proofs::Asked::is_asked, crate::proofs::Asked::some_came, crate::proofs::Asked::none_came, crate::proofs::Lost::lost_none, crate::proofs::Lost::lost_sound, crate::proofs::Lost::lost_fault))]
+    #[tactic(auto, using(crate::proofs::Leads::leads_none, crate::proofs::Asked::is_asked, crate::proofs::Asked::some_came, crate::proofs::Asked::none_came, crate::proofs::Lost::lost_none, crate::proofs::Lost::lost_read, crate::proofs::Lost::lost_fault))]
     fn read_line(&mut self) -> bool
-        ensures goes { LeadsBy L.received L.sent (may_pass self.old.is_behind) self.old self.new }
+        ensures goes { LeadsBy L.seen (may_pass self.old.is_behind) self.old self.new }
         ensures same { self.new ≡ record self.old {
           line = self.new.line;
           relay = self.new.relay;
           unfed = self.new.unfed;
           is_lost = self.new.is_lost;
         } }
-        ensures asked { self.old.unfed ≡ [] → (self.new.is_lost ≡ true) ⊎ IsAsked L.received L.empty_reads self.old.line self.new.line }
-        ensures some { result ≡ true → L.received self.new.line ≢ L.received self.old.line }
+        ensures asked { self.old.unfed ≡ [] → (self.new.is_lost ≡ true) ⊎ IsAsked L.seen self.old.line self.new.line }
+        ensures some { result ≡ true → (L.seen self.new.line).received ≢ (L.seen self.old.line).received }
         ensures none { result ≡ false → self.old.unfed ≡ []
-            → (self.new.is_lost ≡ true) ⊎ (L.empty_reads self.new.line ≡ one_more (L.empty_reads self.old.line)) }
-        ensures lost { IsLostBy L.failures self.old self.new }
+            → (self.new.is_lost ≡ true) ⊎ ((L.seen self.new.line).empty_reads ≡ one_more (L.seen self.old.line).empty_reads) }
+        ensures lost { IsLostBy L.seen self.old self.new }
     {
         if self.is_lost || !self.unfed.is_empty() {
             return false;
@@ -160,7 +157,7 @@ impl<L: SerialLine> DataLine<L> {
     /// Gives the relay the octets that wait for it.
     #[tactic(auto, using(crate::proofs::Leads::takes_waiting))]
     fn feed_relay(&mut self)
-        ensures goes { LeadsBy L.received L.sent (may_pass self.old.is_behind) self.old self.new }
+        ensures goes { LeadsBy L.seen (may_pass self.old.is_behind) self.old self.new }
         ensures same { self.new ≡ record self.old { relay = self.new.relay; unfed = self.new.unfed } }
         ensures blocks { self.new.unfed ≢ [] → self.new.relay.outer.next ≢ None }
     {
@@ -170,7 +167,7 @@ impl<L: SerialLine> DataLine<L> {
     /// Hands octets that wait to the driver.
     #[tactic(auto, using(crate::proofs::Leads::hands_driver))]
     pub(crate) fn hand_on(&mut self, room: &mut [u8]) -> usize
-        ensures goes { LeadsBy L.received L.sent (may_pass self.old.is_behind) self.old self.new }
+        ensures goes { LeadsBy L.seen (may_pass self.old.is_behind) self.old self.new }
         ensures same { self.new ≡ record self.old { relay = self.new.relay; received = self.new.received } }
         ensures came { self.new.received ≡ self.old.received ++ take result room.new }
         ensures count { result ≡ min (length self.old.relay.to_driver) (length room.old) }
@@ -187,7 +184,7 @@ impl<L: SerialLine> DataLine<L> {
     /// says whether some came from the line.
     #[tactic(auto, using(crate::proofs::Leads::leads_none, crate::proofs::Leads::leads_then, crate::proofs::Lost::lost_none, crate::proofs::Lost::lost_sound, crate::proofs::Lost::lost_then))]
     pub(crate) fn take_in(&mut self) -> bool
-        ensures goes { LeadsBy L.received L.sent (may_pass self.old.is_behind) self.old self.new }
+        ensures goes { LeadsBy L.seen (may_pass self.old.is_behind) self.old self.new }
         ensures same { self.new ≡ record self.old {
           line = self.new.line;
           relay = self.new.relay;
@@ -195,13 +192,13 @@ impl<L: SerialLine> DataLine<L> {
           is_lost = self.new.is_lost;
         } }
         ensures asked { self.old.relay.to_driver ≡ [] → self.old.unfed ≡ []
-            → (self.new.is_lost ≡ true) ⊎ IsAsked L.received L.empty_reads self.old.line self.new.line }
+            → (self.new.is_lost ≡ true) ⊎ IsAsked L.seen self.old.line self.new.line }
         ensures blocks { self.old.relay.to_driver ≡ [] → self.new.unfed ≢ [] → self.new.relay.outer.next ≢ None }
         ensures still { self.old.relay.to_driver ≢ [] → self.new ≡ self.old }
-        ensures some { result ≡ true → L.received self.new.line ≢ L.received self.old.line }
+        ensures some { result ≡ true → (L.seen self.new.line).received ≢ (L.seen self.old.line).received }
         ensures none { result ≡ false → self.old.relay.to_driver ≡ [] → self.old.unfed ≡ []
-            → (self.new.is_lost ≡ true) ⊎ (L.empty_reads self.new.line ≡ one_more (L.empty_reads self.old.line)) }
-        ensures lost { IsLostBy L.failures self.old self.new }
+            → (self.new.is_lost ≡ true) ⊎ ((L.seen self.new.line).empty_reads ≡ one_more (L.seen self.old.line).empty_reads) }
+        ensures lost { IsLostBy L.seen self.old self.new }
     {
         if !self.relay.for_driver().is_empty() {
             return false;
@@ -215,7 +212,7 @@ impl<L: SerialLine> DataLine<L> {
     /// that wait to the driver.
     #[tactic(auto, using(crate::proofs::Leads::passes_in, crate::proofs::Lost::lost_sound, crate::proofs::Lost::lost_then))]
     pub(crate) fn pass_in(&mut self, room: &mut [u8]) -> usize
-        ensures goes { LeadsBy L.received L.sent (may_pass self.old.is_behind) self.old self.new }
+        ensures goes { LeadsBy L.seen (may_pass self.old.is_behind) self.old self.new }
         ensures same { self.new ≡ record self.old {
           line = self.new.line;
           relay = self.new.relay;
@@ -227,9 +224,9 @@ impl<L: SerialLine> DataLine<L> {
         ensures few { result ≤ length room.old }
         ensures all { result < length room.old → self.new.relay.to_driver ≡ [] }
         ensures asked { result ≡ 0 → 0 < length room.old → self.old.unfed ≡ []
-            → (self.new.is_lost ≡ true) ⊎ IsAsked L.received L.empty_reads self.old.line self.new.line }
+            → (self.new.is_lost ≡ true) ⊎ IsAsked L.seen self.old.line self.new.line }
         ensures blocks { result ≡ 0 → 0 < length room.old → self.new.unfed ≢ [] → self.new.relay.outer.next ≢ None }
-        ensures lost { IsLostBy L.failures self.old self.new }
+        ensures lost { IsLostBy L.seen self.old self.new }
     {
         self.write_one();
         self.take_in();
@@ -239,16 +236,16 @@ impl<L: SerialLine> DataLine<L> {
     /// Writes once what may go to the line of what the driver gave before, and nothing of data.
     #[tactic(auto, using(crate::proofs::Leads::writes_first, crate::proofs::Lost::offered_first, crate::proofs::Lost::lost_sound, crate::proofs::Lost::lost_then))]
     fn write_first(&mut self)
-        ensures goes { LeadsBy L.received L.sent is_of_driver self.old self.new }
+        ensures goes { LeadsBy L.seen is_of_driver self.old self.new }
         ensures same { self.new ≡ record self.old {
           line = self.new.line;
           relay = self.new.relay;
           is_lost = self.new.is_lost;
           is_behind = true;
         } }
-        ensures lost { IsLostBy L.failures self.old self.new }
+        ensures lost { IsLostBy L.seen self.old self.new }
         ensures offered { (self.new.is_lost ≡ true)
-            ⊎ (IsOffered L.sent L.stalled_writes self.old.line self.new.line ⊎ NothingGoes true self.new.relay) }
+            ⊎ (IsOffered L.seen self.old.line self.new.line ⊎ NothingGoes true self.new.relay) }
     {
         self.is_behind = true;
         self.write_one();
@@ -257,7 +254,7 @@ impl<L: SerialLine> DataLine<L> {
     /// Takes octets of the driver's, where the relay wants some.
     #[tactic(auto, using(crate::proofs::Leads::takes_octets))]
     fn take_octets(&mut self, octets: &[u8]) -> usize
-        ensures takes { TakesOn L.received L.sent (take result octets.now) self.old self.new }
+        ensures takes { TakesOn L.seen (take result octets.now) self.old self.new }
         ensures same { self.new ≡ record self.old { relay = self.new.relay; sent = self.new.sent; is_behind = self.new.is_behind } }
         ensures went { self.new.sent ≡ self.old.sent ++ take result octets.now }
         ensures few { result ≤ length octets.now }
@@ -274,9 +271,9 @@ impl<L: SerialLine> DataLine<L> {
     /// Writes once what may go to the line, where all that the driver offered was taken.
     #[tactic(auto, using(crate::proofs::Leads::leads_none, crate::proofs::Lost::lost_none))]
     fn write_behind(&mut self)
-        ensures goes { LeadsBy L.received L.sent (may_go self.old.is_behind) self.old self.new }
+        ensures goes { LeadsBy L.seen (may_go self.old.is_behind) self.old self.new }
         ensures same { self.new ≡ record self.old { line = self.new.line; relay = self.new.relay; is_lost = self.new.is_lost } }
-        ensures lost { IsLostBy L.failures self.old self.new }
+        ensures lost { IsLostBy L.seen self.old self.new }
         ensures still { self.old.is_behind ≡ true → self.new ≡ self.old }
     {
         if !self.is_behind {
@@ -287,7 +284,7 @@ impl<L: SerialLine> DataLine<L> {
     /// Writes once what the driver gave before, takes its next octets, and says how many. Where it took all, it writes once more.
     #[tactic(auto, using(crate::proofs::Leads::takes_by, crate::proofs::Lost::lost_sound, crate::proofs::Lost::lost_then))]
     pub(crate) fn pass_out(&mut self, octets: &[u8]) -> usize
-        ensures takes { TakesBy L.received L.sent (take result octets.now) self.old self.new }
+        ensures takes { TakesBy L.seen (take result octets.now) self.old self.new }
         ensures same { self.new ≡ record self.old {
           line = self.new.line;
           relay = self.new.relay;
@@ -298,8 +295,8 @@ impl<L: SerialLine> DataLine<L> {
         ensures went { self.new.sent ≡ self.old.sent ++ take result octets.now }
         ensures few { result ≤ length octets.now }
         ensures behind { self.new.is_behind ≡ nat_lt result (length octets.now) }
-        ensures stuck { result ≡ 0 → 0 < length octets.now → (self.new.is_lost ≡ true) ⊎ IsOffered L.sent L.stalled_writes self.old.line self.new.line }
-        ensures lost { IsLostBy L.failures self.old self.new }
+        ensures stuck { result ≡ 0 → 0 < length octets.now → (self.new.is_lost ≡ true) ⊎ IsOffered L.seen self.old.line self.new.line }
+        ensures lost { IsLostBy L.seen self.old self.new }
     {
         self.write_first();
         let taken = self.take_octets(octets);

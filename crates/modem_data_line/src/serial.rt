@@ -2,7 +2,7 @@
 ghost use Rattle.std.specs.Prelude.{◌≡◌, ◌≢◌, ◌⊎◌, ◌≤◌, ◌<◌, ◌+◌, ◌++◌, [], length, take, true, false, None, IfOk, OnErr, MatchResult, nat_lt};
 ghost use Rattle.serial_line.specs.Counts.{one_more, counted_if_none};
 ghost use Rattle.serial_line.specs.OtherSide.{unknown_side};
-ghost use Rattle.modem_data_line.specs.DataLines.{LeadsBy, TakesBy, may_pass};
+ghost use Rattle.modem_data_line.specs.DataLines.{LeadsBy, TakesBy, data_view, may_pass};
 ghost use Rattle.modem_data_line.specs.Moving.{IsAsked, IsLostBy, IsOffered};
 
 use crate::data_line::DataLine;
@@ -28,17 +28,7 @@ impl<L: SerialLine> DataLine<L> {
 }
 
 impl<L: SerialLine> SerialLine for DataLine<L> {
-    ghost received = { λ l. l.received };
-
-    ghost sent = { λ l. l.sent };
-
-    ghost calls = { λ l. l.calls };
-
-    ghost failures = { λ l. l.failures };
-
-    ghost empty_reads = { λ l. l.empty_reads };
-
-    ghost stalled_writes = { λ l. l.stalled_writes };
+    ghost seen = { data_view };
 
     ghost other_side = { λ _. unknown_side };
 
@@ -47,7 +37,7 @@ impl<L: SerialLine> SerialLine for DataLine<L> {
     #[tactic(auto, using(crate::proofs::Leads::counted_leads, crate::proofs::Lost::lost_sound, crate::proofs::Lost::lost_then))]
     fn try_read(&mut self, buffer: &mut [u8]) -> Result<usize, LineFault>
         ensures bound { IfOk result (λ n. n ≤ length buffer.old) }
-        ensures goes { LeadsBy L.received L.sent (may_pass self.old.is_behind) self.old self.new }
+        ensures goes { LeadsBy L.seen (may_pass self.old.is_behind) self.old self.new }
         ensures call { MatchResult result
             (λ n. self.new ≡ record self.old {
               line = self.new.line;
@@ -63,9 +53,9 @@ impl<L: SerialLine> SerialLine for DataLine<L> {
         ensures fails { OnErr result ((self.old.is_lost ≡ true) × (self.old.relay.to_driver ≡ [])) }
         ensures all { IfOk result (λ n. n < length buffer.old → self.new.relay.to_driver ≡ []) }
         ensures asked { IfOk result (λ n. n ≡ 0 → 0 < length buffer.old → self.old.unfed ≡ []
-            → (self.new.is_lost ≡ true) ⊎ IsAsked L.received L.empty_reads self.old.line self.new.line) }
+            → (self.new.is_lost ≡ true) ⊎ IsAsked L.seen self.old.line self.new.line) }
         ensures blocks { IfOk result (λ n. n ≡ 0 → 0 < length buffer.old → self.new.unfed ≢ [] → self.new.relay.outer.next ≢ None) }
-        ensures lost { IsLostBy L.failures self.old self.new }
+        ensures lost { IsLostBy L.seen self.old self.new }
     {
         let has_some = !self.relay.for_driver().is_empty();
         self.begin_call(has_some)?;
@@ -79,7 +69,7 @@ impl<L: SerialLine> SerialLine for DataLine<L> {
     #[tactic(auto, using(crate::proofs::Leads::counted_takes, crate::proofs::Lost::lost_sound, crate::proofs::Lost::lost_then))]
     fn try_write(&mut self, octets: &[u8]) -> Result<usize, LineFault>
         ensures bound { IfOk result (λ n. n ≤ length octets.now) }
-        ensures takes { IfOk result (λ n. TakesBy L.received L.sent (take n octets.now) self.old self.new) }
+        ensures takes { IfOk result (λ n. TakesBy L.seen (take n octets.now) self.old self.new) }
         ensures call { MatchResult result
             (λ n. self.new ≡ record self.old {
               line = self.new.line;
@@ -94,8 +84,8 @@ impl<L: SerialLine> SerialLine for DataLine<L> {
         ensures last { OnErr result (self.old.failures < u64.MAX) }
         ensures fails { OnErr result (self.old.is_lost ≡ true) }
         ensures stuck { IfOk result (λ n. n ≡ 0 → 0 < length octets.now
-            → (self.new.is_lost ≡ true) ⊎ IsOffered L.sent L.stalled_writes self.old.line self.new.line) }
-        ensures lost { IsLostBy L.failures self.old self.new }
+            → (self.new.is_lost ≡ true) ⊎ IsOffered L.seen self.old.line self.new.line) }
+        ensures lost { IsLostBy L.seen self.old self.new }
     {
         self.begin_call(false)?;
         let count = self.pass_out(octets);

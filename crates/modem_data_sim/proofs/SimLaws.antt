@@ -4,15 +4,16 @@ use Rattle.std.proofs.Common.{sym, ◌∙◌, subst}
 use Rattle.mux_frame.specs.Frames.{Frame}
 use Rattle.mux_frame.specs.Deframing.{Deframes, IsDeframed}
 use Rattle.mux_station.specs.declared.role.Role.TheVariants.{Responder}
+use Rattle.serial_line.specs.LineViews.{LineView}
 use Rattle.modem_sim.specs.Histories.{got}
 use Rattle.modem_sim.proofs.modem_steps.StandardModems.{repeats_no_connect}
 use Rattle.modem_data_endpoint.proofs.Besides.{behind_told}
 use Rattle.modem_data_sim.specs.SimLaws.{RepeatsNone, TellsSim}
 
 -- a simulated modem behind a relay got the frames of the line but data, and its own went to the line
-pub tells_sim : {X : Type 0} (r s : X → List ℕ) → IsDeframed → TellsSim r s
+pub tells_sim : {X : Type 0} (look : X → LineView) → IsDeframed → TellsSim look
 unfolding TellsSim
-tells_sim r t law n1 ds before e s past hops high same fits line =
+tells_sim look law n1 ds before e s past hops high same fits line =
     let m = fits.machine_fits in
     record {
       given = m.wired.gone;

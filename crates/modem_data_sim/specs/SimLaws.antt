@@ -7,10 +7,11 @@ use Rattle.modem_sim.specs.Histories.{got, sent}
 use Rattle.modem_sim.specs.Sims.{FitsSim, SimMachine, SimState}
 use Rattle.modem_sim.specs.LineSteps.{repeats}
 use Rattle.modem_sim.specs.declared.state.ModemState.{ModemState}
+use Rattle.serial_line.specs.LineViews.{LineView}
 use Rattle.modem_data.specs.Switching.{is_connect}
 use Rattle.modem_data.specs.Hops.{Relay, Hop}
 use Rattle.modem_data_endpoint.specs.Beside.{TellsBehind}
-use Rattle.modem_data_line.specs.DataLines.{Before, DataLineState, LineFits}
+use Rattle.modem_data_line.specs.DataLines.{Before, DataLineState, LineFits, data_view}
 
 -- A simulated modem with this history stands behind a relay. Of the frames that it sent it gave on the first; the others wait in its
 -- station. `TellsBehind` says of these, and of those that it got, what they are of the line's frames.
@@ -21,11 +22,11 @@ pub record StandsBehind (n1 : ℕ) (k : SimMachine) (r : Relay) (hops : List Hop
 
 -- A simulated modem that began with this line has one history (`Sim::turn`), of what it read and wrote here. The frames of this history
 -- are those of the line itself but data.
-unfoldable pub TellsSim : {X : Type 0} (received sent : X → List ℕ) → Type 0
-TellsSim {X} received sent =
+unfoldable pub TellsSim : {X : Type 0} (look : X → LineView) → Type 0
+TellsSim {X} look =
     (n1 : ℕ) (ds : List ℕ) (before : Before) (e : End) (s : SimState (DataLineState X)) (past : List Act) (hops : List Hop) → n1 ≤ 32767 → e.n1 ≡ n1
-    → FitsSim (λ (v : DataLineState X). v.received) (λ (v : DataLineState X). v.sent) (record { received = []; sent = [] }) e s past
-    → LineFits received sent Responder n1 ds before s.line hops → StandsBehind n1 s.machine s.line.relay hops past
+    → FitsSim data_view (record { received = []; sent = []; calls = 0; failures = 0; empty_reads = 0; stalled_writes = 0 }) e s past
+    → LineFits look Responder n1 ds before s.line hops → StandsBehind n1 s.machine s.line.relay hops past
 
 -- No line is a CONNECT that a modem with words repeats, where it isn't to repeat all.
 abbrev pub RepeatsNone : Type 0

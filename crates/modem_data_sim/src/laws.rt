@@ -9,7 +9,7 @@ use serial_line::SerialLine;
 /// others that it sent wait in its control queue.
 #[tactic(auto, using(crate::proofs::SimLaws::tells_sim))]
 pub fn modems<L: SerialLine>()
-    ensures { TellsSim L.received L.sent }
+    ensures { TellsSim L.seen }
 {
     deframed();
 }

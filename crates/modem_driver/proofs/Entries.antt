@@ -16,6 +16,7 @@ use Rattle.at_text.specs.declared.finals.Final.{Final}
 use Rattle.at_text.specs.declared.finals.Final.TheVariants.{Good, Error, Cme, Named}
 use Rattle.at_text.proofs.lines.KeptOctets.{has_read-push}
 use Rattle.serial_line.specs.Counts.{one_more, counted_if_none}
+use Rattle.serial_line.specs.LineViews.{after_fault, after_read, after_write}
 use Rattle.modem_history.specs.Sessions.{LineView}
 use Rattle.modem_history.specs.Entering.{EntryAnswer, Entered, Refused, NoAnswer, LineFailed, IsEntry, EndsWithFinal, EntryMeans, FailsBy, entry_text}
 use Rattle.modem_driver.specs.Entries.{Entry, IsUnderWay, EntryEnds, Comes, EntryGoesOn, Fails, SeesCode, answer_by, code_in, octet_in, entry_begun, entry_answer}
@@ -85,13 +86,14 @@ wrote_more first old new text written n was is =
 
 -- a write takes some of the text, or none, and the entry is still under way
 pub wrote : (old new : LineView) (was now : Entry) (n : ℕ) → was.written < 10 → n ≤ length (take (10 - was.written) (drop was.written entry_text))
-    → new.sent ≡ old.sent ++ take n (take (10 - was.written) (drop was.written entry_text)) → new.received ≡ old.received
-    → new.calls ≡ one_more old.calls → new.failures ≡ old.failures
-    → new.stalled_writes ≡ counted_if_none (length (take (10 - was.written) (drop was.written entry_text))) n old.stalled_writes → new.empty_reads ≡ old.empty_reads
+    → new ≡ after_write n (take (10 - was.written) (drop was.written entry_text)) old
     → now ≡ record { written = was.written + n; kept = was.kept } → EntryGoesOn old new was now None
 unfolding EntryGoesOn
-wrote old new was now n few short sent received calls failures stalled empty is made first h =
+wrote old new was now n few short went is made first h =
     let rest = length (take (10 - was.written) (drop was.written entry_text)) in
+    let stalled : new.stalled_writes ≡ counted_if_none rest n old.stalled_writes = ap (λ (l : LineView). l.stalled_writes) went in
+    let empty : new.empty_reads ≡ old.empty_reads = ap (λ (l : LineView). l.empty_reads) went in
+    let calls : new.calls ≡ one_more old.calls = ap (λ (l : LineView). l.calls) went in
     let behind : length (drop was.written entry_text) ≡ 10 - was.written = length-drop was.written entry_text in
     let whole : rest ≡ 10 - was.written = length-take-le (10 - was.written) (drop was.written entry_text) (omega (arith, behind)) in
     let some : 1 ≤ rest = omega (arith, whole, few) in
@@ -102,28 +104,26 @@ wrote old new was now n few short sent received calls failures stalled empty is 
       read = h.read;
       sent_are =
           wrote_more first.sent old.sent new.sent entry_text was.written n h.sent_are
-          (sent ∙ ap (λ (x : List ℕ). old.sent ++ x) (take-take n (10 - was.written) (drop was.written entry_text) fits));
+          (ap (λ (l : LineView). l.sent) went ∙ ap (λ (x : List ℕ). old.sent ++ x) (take-take n (10 - was.written) (drop was.written entry_text) fits));
       few = omega (arith, few, fits);
-      read_are = received ∙ h.read_are;
+      read_are = ap (λ (l : LineView). l.received) went ∙ h.read_are;
       kept = h.kept;
       none = h.none;
       in_turn = ⊎_elim (λ (q : h.read ≡ []). inl q) (λ (q : was.written ≡ 10). inl (absurd (omega (arith, few, q)))) h.in_turn;
       counted = counted made first.calls old.calls new.calls h.counted calls;
       with_room = rw (all_sent, empty, stalled) room;
       bounded = no_more made first.calls old.calls new.calls h.bounded calls;
-      sound = failures ∙ h.sound;
+      sound = ap (λ (l : LineView). l.failures) went ∙ h.sound;
     }
 
 -- the same of the entry as the code sees it
 pub wrote_as : (old new : LineView) (seen was now : Entry) (n : ℕ) → seen ≡ was → was.written < 10
     → n ≤ length (take (10 - seen.written) (drop seen.written entry_text))
-    → new.sent ≡ old.sent ++ take n (take (10 - seen.written) (drop seen.written entry_text)) → new.received ≡ old.received
-    → new.calls ≡ one_more old.calls → new.failures ≡ old.failures
-    → new.stalled_writes ≡ counted_if_none (length (take (10 - seen.written) (drop seen.written entry_text))) n old.stalled_writes → new.empty_reads ≡ old.empty_reads
+    → new ≡ after_write n (take (10 - seen.written) (drop seen.written entry_text)) old
     → now ≡ record { written = seen.written + n; kept = seen.kept } → EntryGoesOn old new was now None
-wrote_as old new seen was now n same few short sent received calls failures stalled empty is =
+wrote_as old new seen was now n same few short went is =
     subst (λ (e : Entry). EntryGoesOn old new e now None) same
-    (wrote old new seen now n (subst (λ (e : Entry). e.written < 10) (sym same) few) short sent received calls failures stalled empty is)
+    (wrote old new seen now n (subst (λ (e : Entry). e.written < 10) (sym same) few) short went is)
 
 -- ## The line fails
 
@@ -132,18 +132,17 @@ said_whole written read (inl none) = inl none
 said_whole written read (inr all) = inr (subst (λ (n : ℕ). take n entry_text ≡ entry_text) (sym all) refl)
 
 -- a call that fails ends the entry in LineFailed
-pub failed : (old new : LineView) (was : Entry) → new.sent ≡ old.sent → new.received ≡ old.received
-    → new.calls ≡ one_more old.calls → new.failures ≡ old.failures + 1 → Fails old new was
+pub failed : (old new : LineView) (was : Entry) → new ≡ after_fault old → Fails old new was
 unfolding Fails
-failed old new was sent received calls failures made first h turns few = record {
+failed old new was fault made first h turns few = record {
   sent = take was.written entry_text;
-  sent_are = sent ∙ h.sent_are;
+  sent_are = ap (λ (l : LineView). l.sent) fault ∙ h.sent_are;
   beginning = record { rest = drop was.written entry_text; joins = take-append-drop was.written entry_text };
   read = h.read;
-  read_are = received ∙ h.read_are;
+  read_are = ap (λ (l : LineView). l.received) fault ∙ h.read_are;
   in_turn = said_whole was.written h.read h.in_turn;
-  bounded = bounded made turns first.calls old.calls new.calls h.bounded calls few;
-  failed = failures ∙ ap (λ (n : ℕ). n + 1) h.sound;
+  bounded = bounded made turns first.calls old.calls new.calls h.bounded (ap (λ (l : LineView). l.calls) fault) few;
+  failed = ap (λ (l : LineView). l.failures) fault ∙ ap (λ (n : ℕ). n + 1) h.sound;
   means = h.none;
 }
 
@@ -160,25 +159,28 @@ pub sees_line : (kept : List ℕ) (octet : ℕ) (line : List ℕ) (code : Option
 sees_line kept octet line code past is = record { given = line ∷ []; one = inr (line, refl); past = past; code_is = is }
 
 -- a read that gives nothing leaves the entry under way
-pub none_came : (old new : LineView) (was : Entry) (o : Option ℕ) → o ≡ None → new.sent ≡ old.sent → new.received ≡ old.received ++ octet_in o
-    → new.calls ≡ one_more old.calls → new.failures ≡ old.failures → new.empty_reads ≡ counted_if_none 1 (length (octet_in o)) old.empty_reads → new.stalled_writes ≡ old.stalled_writes → EntryGoesOn old new was was None
+gave_none : (old new : LineView) (was : Entry) → new ≡ after_read 1 0 [] old → EntryGoesOn old new was was None
 unfolding EntryGoesOn
-none_came old new was o is sent received calls failures empty stalled made first h = record {
+gave_none old new was came made first h = record {
   read = h.read;
-  sent_are = sent ∙ h.sent_are;
+  sent_are = ap (λ (l : LineView). l.sent) came ∙ h.sent_are;
   few = h.few;
-  read_are = received ∙ ap (λ (x : Option ℕ). old.received ++ octet_in x) is ∙ append-nil old.received ∙ h.read_are;
+  read_are = ap (λ (l : LineView). l.received) came ∙ append-nil old.received ∙ h.read_are;
   kept = h.kept;
   none = h.none;
   in_turn = h.in_turn;
-  counted = counted made first.calls old.calls new.calls h.counted calls;
+  counted = counted made first.calls old.calls new.calls h.counted (ap (λ (l : LineView). l.calls) came);
   with_room =
-      let none : new.empty_reads ≡ counted_if_none 1 0 old.empty_reads = empty ∙ ap (λ (x : Option ℕ). counted_if_none 1 (length (octet_in x)) old.empty_reads) is in
+      let none : new.empty_reads ≡ counted_if_none 1 0 old.empty_reads = ap (λ (l : LineView). l.empty_reads) came in
+      let stalled : new.stalled_writes ≡ old.stalled_writes = ap (λ (l : LineView). l.stalled_writes) came in
       let same : length h.read + 0 ≡ length h.read = omega arith in
       rw (none, stalled, ← same) (read_with_room made first.empty_reads first.stalled_writes old.empty_reads old.stalled_writes (counted_if_none 1 0 old.empty_reads) (length (take was.written entry_text)) 0 (length h.read) h.with_room (moved_or_none 1 0 old.empty_reads (lit≤ tt)) (stays_at_end 1 0 old.empty_reads));
-  bounded = no_more made first.calls old.calls new.calls h.bounded calls;
-  sound = failures ∙ h.sound;
+  bounded = no_more made first.calls old.calls new.calls h.bounded (ap (λ (l : LineView). l.calls) came);
+  sound = ap (λ (l : LineView). l.failures) came ∙ h.sound;
 }
+
+pub none_came : (old new : LineView) (was : Entry) (o : Option ℕ) → o ≡ None → new ≡ after_read 1 (length (octet_in o)) (octet_in o) old → EntryGoesOn old new was was None
+none_came old new was o is came = gave_none old new was (came ∙ ap (λ (x : Option ℕ). after_read 1 (length (octet_in x)) (octet_in x) old) is)
 
 -- an octet came on a line that took the whole text
 pub record OneCame (old new : LineView) (was now : Entry) (octet : ℕ) (given : List (List ℕ)) : Type 0 where
@@ -302,20 +304,20 @@ comes_from old new was now octet given (inr one) k =
 
 -- any octet that comes ends the entry where a final code ends with it, and else leaves it under way
 pub one_came : (old new : LineView) (seen was now : Entry) (o : Option ℕ) (octet : ℕ) (code : Option Final) → seen ≡ was → o ≡ Some octet → was.written ≡ 10
-    → now.written ≡ seen.written → new.sent ≡ old.sent → new.received ≡ old.received ++ octet_in o → new.calls ≡ one_more old.calls → new.failures ≡ old.failures
-    → new.empty_reads ≡ counted_if_none 1 (length (octet_in o)) old.empty_reads → new.stalled_writes ≡ old.stalled_writes
+    → now.written ≡ seen.written → new ≡ after_read 1 (length (octet_in o)) (octet_in o) old
     → HasRead now.kept (seen.kept ++ octet ∷ []) → SeesCode seen.kept octet code → EntryGoesOn old new was now code
-one_came old new seen was now o octet code same is whole written sent came calls failures empty stalled keeps sees =
+one_came old new seen was now o octet code same is whole written came keeps sees =
+    let one : new ≡ after_read 1 1 (octet ∷ []) old = came ∙ ap (λ (x : Option ℕ). after_read 1 (length (octet_in x)) (octet_in x) old) is in
     subst (λ (e : Entry). EntryGoesOn old new e now code) same
     (subst (EntryGoesOn old new seen now) (sym sees.code_is) (comes_from old new seen now octet sees.given sees.one record {
       whole = ap (λ (e : Entry). e.written) same ∙ whole;
       written = written;
-      sent = sent;
-      came = came ∙ ap (λ (x : Option ℕ). old.received ++ octet_in x) is;
-      calls = calls;
-      failures = failures;
-      empty = empty ∙ ap (λ (x : Option ℕ). counted_if_none 1 (length (octet_in x)) old.empty_reads) is;
-      stalled = stalled;
+      sent = ap (λ (l : LineView). l.sent) one;
+      came = ap (λ (l : LineView). l.received) one;
+      calls = ap (λ (l : LineView). l.calls) one;
+      failures = ap (λ (l : LineView). l.failures) one;
+      empty = ap (λ (l : LineView). l.empty_reads) one;
+      stalled = ap (λ (l : LineView). l.stalled_writes) one;
       keeps = keeps;
       past = sees.past;
     }))

@@ -10,6 +10,7 @@ use Rattle.at_text.specs.Lines.{lines}
 use Rattle.at_text.specs.Reading.{HasRead}
 use Rattle.at_text.specs.declared.finals.Final.{Final}
 use Rattle.at_text.proofs.lines.KeptOctets.{has_read-push}
+use Rattle.serial_line.specs.LineViews.{after_read, after_write}
 use Rattle.modem_history.specs.Sessions.{LineView}
 use Rattle.modem_driver.specs.Entries.{SeesCode, code_in, octet_in}
 use Rattle.mux_frame.specs.CheckOctet.{check_octet_of}
@@ -43,27 +44,27 @@ offered text written n short =
 
 wrote_as : (first old new : LineView) (seen was : EntryView) (n : ℕ) → seen ≡ was → was.written < length was.text
     → n ≤ length (take (length seen.text - seen.written) (drop seen.written seen.text))
-    → new.sent ≡ old.sent ++ take n (take (length seen.text - seen.written) (drop seen.written seen.text)) → new.received ≡ old.received
+    → new ≡ after_write n (take (length seen.text - seen.written) (drop seen.written seen.text)) old
     → IsAsked first old was → IsAsked first new (record { text = seen.text; written = seen.written + n; kept = seen.kept })
-wrote_as first old new seen was n same more short sent received h =
+wrote_as first old new seen was n same more short went h =
     wrote first old new seen n (subst (λ (e : EntryView). e.written < length e.text) (sym same) more) (offered seen.text seen.written n short)
-    (sent ∙ ap (λ (l : List ℕ). old.sent ++ take n l) (take_rest seen.text seen.written)) received (subst (IsAsked first old) (sym same) h)
+    (ap (λ (l : LineView). l.sent) went ∙ ap (λ (l : List ℕ). old.sent ++ take n l) (take_rest seen.text seen.written)) (ap (λ (l : LineView). l.received) went) (subst (IsAsked first old) (sym same) h)
 
 -- a step that says Moved leads to an entry that sent what the line took more
 pub wrote_some : (old new : LineView) (seen was : EntryView) (n : ℕ) → seen ≡ was → was.written < length was.text
     → n ≤ length (take (length seen.text - seen.written) (drop seen.written seen.text))
-    → new.sent ≡ old.sent ++ take n (take (length seen.text - seen.written) (drop seen.written seen.text)) → new.received ≡ old.received
+    → new ≡ after_write n (take (length seen.text - seen.written) (drop seen.written seen.text)) old
     → EntryStepsOn old new was (record { text = seen.text; written = seen.written + n; kept = seen.kept }) Moved
 unfolding EntryStepsOn
-wrote_some old new seen was n same more short sent received first h = wrote_as first old new seen was n same more short sent received h
+wrote_some old new seen was n same more short went first h = wrote_as first old new seen was n same more short went h
 
 -- and so does one that says Idle
 pub wrote_none : (old new : LineView) (seen was : EntryView) (n : ℕ) → seen ≡ was → was.written < length was.text
     → n ≤ length (take (length seen.text - seen.written) (drop seen.written seen.text))
-    → new.sent ≡ old.sent ++ take n (take (length seen.text - seen.written) (drop seen.written seen.text)) → new.received ≡ old.received
+    → new ≡ after_write n (take (length seen.text - seen.written) (drop seen.written seen.text)) old
     → EntryStepsOn old new was (record { text = seen.text; written = seen.written + n; kept = seen.kept }) Idle
 unfolding EntryStepsOn
-wrote_none old new seen was n same more short sent received first h = wrote_as first old new seen was n same more short sent received h
+wrote_none old new seen was n same more short went first h = wrote_as first old new seen was n same more short went h
 
 -- ## Octets come
 
@@ -127,18 +128,19 @@ given_by first old new was now octet given (inr one) k h =
 
 -- an octet came, and ended a code, or none
 pub came_as : (old new : LineView) (seen was : EntryView) (kept : List ℕ) (o : Option ℕ) (octet : ℕ) (code : Option Final) (said : EntryStep) → said ≡ step_by code → seen ≡ was → o ≡ Some octet
-    → was.written ≡ length was.text → new.sent ≡ old.sent → new.received ≡ old.received ++ octet_in o
+    → was.written ≡ length was.text → new ≡ after_read 1 (length (octet_in o)) (octet_in o) old
     → HasRead kept (seen.kept ++ octet ∷ []) → SeesCode seen.kept octet code
     → EntryStepsOn old new was (record { text = seen.text; written = seen.written; kept = kept }) said
 unfolding EntryStepsOn
-came_as old new seen was kept o octet code said says same is whole sent more keeps sees first h =
+came_as old new seen was kept o octet code said says same is whole gave keeps sees first h =
+    let one : new ≡ after_read 1 1 (octet ∷ []) old = gave ∙ ap (λ (x : Option ℕ). after_read 1 (length (octet_in x)) (octet_in x) old) is in
     let now : EntryView = record { text = seen.text; written = seen.written; kept = kept } in
     let comes : Comes old new seen now octet sees.given = record {
       whole = subst (λ (e : EntryView). e.written ≡ length e.text) (sym same) whole;
       text = refl;
       written = refl;
-      sent = sent;
-      came = more ∙ ap (λ (x : Option ℕ). old.received ++ octet_in x) is;
+      sent = ap (λ (l : LineView). l.sent) one;
+      came = ap (λ (l : LineView). l.received) one;
       keeps = keeps;
       past = sees.past;
     } in
@@ -146,14 +148,16 @@ came_as old new seen was kept o octet code said says same is whole sent more kee
     (given_by first old new seen now octet sees.given sees.one comes (subst (IsAsked first old) (sym same) h))
 
 -- none came
-pub none_came : (old new : LineView) (was : EntryView) (o : Option ℕ) → o ≡ None → new.sent ≡ old.sent → new.received ≡ old.received ++ octet_in o
+pub none_came : (old new : LineView) (was : EntryView) (o : Option ℕ) → o ≡ None → new ≡ after_read 1 (length (octet_in o)) (octet_in o) old
     → EntryStepsOn old new was was Idle
 unfolding EntryStepsOn
-none_came old new was o is sent more first h = record {
+none_came old new was o is gave first h = record {
   few = h.few;
-  sent_are = sent ∙ h.sent_are;
+  sent_are = ap (λ (l : LineView). l.sent) gave ∙ h.sent_are;
   read = h.read;
-  read_are = more ∙ ap (λ (x : Option ℕ). old.received ++ octet_in x) is ∙ append-nil old.received ∙ h.read_are;
+  read_are =
+      ap (λ (l : LineView). l.received) gave ∙ ap (λ (x : Option ℕ). old.received ++ take (length (octet_in x)) (octet_in x)) is
+      ∙ append-nil old.received ∙ h.read_are;
   in_turn = h.in_turn;
   kept = h.kept;
   none = h.none;

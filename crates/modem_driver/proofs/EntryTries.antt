@@ -8,7 +8,8 @@ use Rattle.modem_history.specs.Acts.{Act, in_hand}
 use Rattle.modem_history.specs.Sessions.{Beginning, LineView}
 use Rattle.modem_driver.specs.Endpoints.{wants_time}
 use Rattle.modem_driver.specs.SessionStates.{FitsAll, SessionState}
-use Rattle.serial_line.specs.Counts.{one_more, counted_if_none}
+use Rattle.serial_line.specs.Counts.{one_more}
+use Rattle.serial_line.specs.LineViews.{after_read}
 use Rattle.modem_driver.specs.Entries.{octet_in}
 use Rattle.mux_frame.specs.Spelling.{spelled}
 use Rattle.at_text.specs.declared.finals.Final.{Final}
@@ -160,10 +161,11 @@ asks_on_idle but first old new a b c i j k said m is so moves calls asked idle h
     asks_idle but first old new a b c i j k (subst (λ (s : EntryStep). MovesBy s old new) is moves).2 calls asked (idle ∙ ap (λ (x : Bool). if x then j else one_more j) so) h
 
 -- an octet was asked for, and came or didn't
-pub asks_read : (but : ℕ) (first old new : LineView) (a b c i j k : ℕ) (o : Option ℕ) → new.empty_reads ≡ counted_if_none 1 (length (octet_in o)) old.empty_reads
-    → new.stalled_writes ≡ old.stalled_writes → new.calls ≡ one_more old.calls → c ≡ one_more b → k ≡ (if is_some o then j else one_more j) → AsksEach but first old a b i j → AsksEach but first new a c i k
-asks_read but first old new a b c i j k None reads writes calls asked idle h = asks_idle but first old new a b c i j k (inr (reads, writes)) calls asked idle h
-asks_read but first old new a b c i j k (Some octet) reads writes calls asked idle h = asks_moved but first old new a b c i j k reads writes calls asked idle h
+pub asks_read : (but : ℕ) (first old new : LineView) (a b c i j k : ℕ) (o : Option ℕ) → new ≡ after_read 1 (length (octet_in o)) (octet_in o) old → c ≡ one_more b → k ≡ (if is_some o then j else one_more j) → AsksEach but first old a b i j → AsksEach but first new a c i k
+asks_read but first old new a b c i j k None came asked idle h =
+    asks_idle but first old new a b c i j k (inr (ap (λ (l : LineView). l.empty_reads) came, ap (λ (l : LineView). l.stalled_writes) came)) (ap (λ (l : LineView). l.calls) came) asked idle h
+asks_read but first old new a b c i j k (Some octet) came asked idle h =
+    asks_moved but first old new a b c i j k (ap (λ (l : LineView). l.empty_reads) came) (ap (λ (l : LineView). l.stalled_writes) came) (ap (λ (l : LineView). l.calls) came) asked idle h
 
 -- one behind the other
 pub asks_both : (m n more : ℕ) (first mid now : LineView) (a b c i j k : ℕ) → m + n ≤ more → AsksEach m first mid a b i j → AsksEach n mid now b c j k → AsksEach more first now a c i k
@@ -260,11 +262,14 @@ pub sent_none : (line : LineView) → IsSent line line []
 sent_none line = record { sent_are = sym (append-nil line.sent); read = []; read_are = sym (append-nil line.received) }
 
 -- a read sends none
-pub sent_none_more : (first old new : LineView) (o : Option ℕ) → new.sent ≡ old.sent → new.received ≡ old.received ++ octet_in o → IsSent first old [] → IsSent first new []
-sent_none_more first old new o sent came h = record {
-  sent_are = sent ∙ h.sent_are;
+pub sent_none_more : (first old new : LineView) (o : Option ℕ) → new ≡ after_read 1 (length (octet_in o)) (octet_in o) old → IsSent first old [] → IsSent first new []
+sent_none_more first old new o came h = record {
+  sent_are = ap (λ (l : LineView). l.sent) came ∙ h.sent_are;
   read = h.read ++ octet_in o;
-  read_are = came ∙ (ap (λ (s : List ℕ). s ++ octet_in o) h.read_are ∙ append_assoc first.received h.read (octet_in o));
+  read_are =
+      ap (λ (l : LineView). l.received) came
+      ∙ (ap (λ (s : List ℕ). old.received ++ s) (take-length (octet_in o))
+      ∙ (ap (λ (s : List ℕ). s ++ octet_in o) h.read_are ∙ append_assoc first.received h.read (octet_in o)));
 }
 
 -- octets that are sent behind others

@@ -74,18 +74,6 @@ KeepsItsEnd old new = KeepsEnd old.machine.course new.machine.course
 
 -- ## What a history speaks of
 
--- what a history sees of a line of any type
-abbrev pub line_by : {X : Type 0} → (received sent : X → List ℕ) → (calls failures empty_reads stalled_writes : X → ℕ)
-    → X → LineView
-line_by received sent calls failures empty_reads stalled_writes x = record {
-  received = received x;
-  sent = sent x;
-  calls = calls x;
-  failures = failures x;
-  empty_reads = empty_reads x;
-  stalled_writes = stalled_writes x;
-}
-
 -- what a history sees of the desk's end
 abbrev pub end_of : DriverView → EndView
 end_of d = record {

@@ -1,9 +1,8 @@
 //! Entering the multiplexer (27.007, 5.7).
 ghost use Rattle.std.specs.Prelude.{◌≡◌, ◌<◌, ◌≤◌, ◌+◌, ◌++◌, ◌∷◌, [], length, None, IfOk, IfErr, OnOk, OnErr};
 ghost use Rattle.at_text.specs.Reading.{HasRead};
-ghost use Rattle.serial_line.specs.Counts.{one_more, counted_if_none};
+ghost use Rattle.serial_line.specs.LineViews.{after_fault, after_read};
 ghost use Rattle.modem_history.specs.Entering.{IsEntry, Entered};
-ghost use Rattle.modem_driver.specs.SessionStates.{line_by};
 ghost use Rattle.modem_driver.specs.Entries.{
   entry_answer,
   answer_by,
@@ -81,11 +80,8 @@ impl Entry {
     /// One call on the line: the final code, if it came.
     fn go_on<L: SerialLine>(&mut self, line: &mut L) -> Result<Option<Final>, LineFault>
         requires { self.old.written ≤ 10 }
-        ensures goes { IfOk result (λ code.
-            EntryGoesOn (line_by L.received L.sent L.calls L.failures L.empty_reads L.stalled_writes line.old)
-            (line_by L.received L.sent L.calls L.failures L.empty_reads L.stalled_writes line.new) self.old self.new code) }
-        ensures fails { OnErr result (Fails (line_by L.received L.sent L.calls L.failures L.empty_reads L.stalled_writes line.old)
-            (line_by L.received L.sent L.calls L.failures L.empty_reads L.stalled_writes line.new) self.old) }
+        ensures goes { IfOk result (λ code. EntryGoesOn (L.seen line.old) (L.seen line.new) self.old self.new code) }
+        ensures fails { OnErr result (Fails (L.seen line.old) (L.seen line.new) self.old) }
     {
         if self.written < TEXT.len() {
             self.write(line)?;
@@ -97,10 +93,8 @@ impl Entry {
     /// Offers the line the rest of the text.
     fn write<L: SerialLine>(&mut self, line: &mut L) -> Result<(), LineFault>
         requires { self.old.written < 10 }
-        ensures goes { OnOk result (EntryGoesOn (line_by L.received L.sent L.calls L.failures L.empty_reads L.stalled_writes line.old)
-            (line_by L.received L.sent L.calls L.failures L.empty_reads L.stalled_writes line.new) self.old self.new None) }
-        ensures fails { OnErr result (Fails (line_by L.received L.sent L.calls L.failures L.empty_reads L.stalled_writes line.old)
-            (line_by L.received L.sent L.calls L.failures L.empty_reads L.stalled_writes line.new) self.old) }
+        ensures goes { OnOk result (EntryGoesOn (L.seen line.old) (L.seen line.new) self.old self.new None) }
+        ensures fails { OnErr result (Fails (L.seen line.old) (L.seen line.new) self.old) }
     {
         self.written += line.try_write(&TEXT[self.written..])?;
         Ok(())
@@ -109,11 +103,8 @@ impl Entry {
     /// Reads an octet, if there is one, and says the final code that it ends.
     fn read<L: SerialLine>(&mut self, line: &mut L) -> Result<Option<Final>, LineFault>
         requires { self.old.written ≡ 10 }
-        ensures goes { IfOk result (λ code.
-            EntryGoesOn (line_by L.received L.sent L.calls L.failures L.empty_reads L.stalled_writes line.old)
-            (line_by L.received L.sent L.calls L.failures L.empty_reads L.stalled_writes line.new) self.old self.new code) }
-        ensures fails { OnErr result (Fails (line_by L.received L.sent L.calls L.failures L.empty_reads L.stalled_writes line.old)
-            (line_by L.received L.sent L.calls L.failures L.empty_reads L.stalled_writes line.new) self.old) }
+        ensures goes { IfOk result (λ code. EntryGoesOn (L.seen line.old) (L.seen line.new) self.old self.new code) }
+        ensures fails { OnErr result (Fails (L.seen line.old) (L.seen line.new) self.old) }
     {
         match next_octet(line)? {
             Some(octet) => Ok(see(&mut self.reader, octet)),
@@ -124,15 +115,8 @@ impl Entry {
 
 /// The next octet of the line, if there is one.
 pub(crate) fn next_octet<L: SerialLine>(line: &mut L) -> Result<Option<u8>, LineFault>
-    ensures came { IfOk result (λ octet. L.received line.new ≡ L.received line.old ++ octet_in octet) }
-    ensures none_came { OnErr result (L.received line.new ≡ L.received line.old) }
-    ensures none_went { L.sent line.new ≡ L.sent line.old }
-    ensures counted { L.calls line.new ≡ one_more (L.calls line.old) }
-    ensures sound { OnOk result (L.failures line.new ≡ L.failures line.old) }
-    ensures failure { OnErr result (L.failures line.new ≡ L.failures line.old + 1) }
-    ensures empty { IfOk result (λ octet. L.empty_reads line.new
-        ≡ counted_if_none 1 (length (octet_in octet)) (L.empty_reads line.old)) }
-    ensures no_write { L.stalled_writes line.new ≡ L.stalled_writes line.old }
+    ensures came { IfOk result (λ octet. L.seen line.new ≡ after_read 1 (length (octet_in octet)) (octet_in octet) (L.seen line.old)) }
+    ensures fault { OnErr result (L.seen line.new ≡ after_fault (L.seen line.old)) }
 {
     let mut octet = [0];
     if line.try_read(&mut octet)? == 0 {
@@ -157,11 +141,8 @@ pub(crate) fn see(reader: &mut LineReader, octet: u8) -> Option<Final>
 /// final code. It makes at most `turns` calls on the line. Refusals: 1 Refused, where the code isn't `OK`; 2 NoAnswer,
 /// where none came in `turns` calls; 3 Line, where the line failed.
 pub fn enter<L: SerialLine>(line: &mut L, turns: u32) -> Result<(), EntryError>
-    ensures entered { OnOk result (IsEntry turns (line_by L.received L.sent L.calls L.failures L.empty_reads L.stalled_writes line.old)
-        (line_by L.received L.sent L.calls L.failures L.empty_reads L.stalled_writes line.new) Entered) }
-    ensures not_entered { IfErr result (λ why.
-        IsEntry turns (line_by L.received L.sent L.calls L.failures L.empty_reads L.stalled_writes line.old)
-        (line_by L.received L.sent L.calls L.failures L.empty_reads L.stalled_writes line.new) (entry_answer why)) }
+    ensures entered { OnOk result (IsEntry turns (L.seen line.old) (L.seen line.new) Entered) }
+    ensures not_entered { IfErr result (λ why. IsEntry turns (L.seen line.old) (L.seen line.new) (entry_answer why)) }
 {
     let mut entry = Entry::new();
     for _ in 0..turns {

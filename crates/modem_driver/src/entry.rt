@@ -1,7 +1,7 @@
 //! Entering the multiplexer step by step, with the caller's text (27.007, 5.7).
 ghost use Rattle.std.specs.Prelude.{◌≡◌, ◌+◌, ◌<◌, ◌≤◌, ◌==◌, ◌++◌, [], length, IfOk, OnOk, OnErr};
 ghost use Rattle.serial_line.specs.Counts.{one_more};
-ghost use Rattle.modem_driver.specs.SessionStates.{line_by};
+ghost use Rattle.serial_line.specs.LineViews.{after_fault};
 ghost use Rattle.modem_driver.specs.EntrySteps.{EntryStepsOn, IsAsked, IsUnanswering, MovesBy, step_by, close_down_frame};
 ghost use Rattle.modem_history.specs.Sessions.{LineView};
 ghost use Rattle.mux_frame.specs.Spelling.{spelled};
@@ -76,17 +76,11 @@ impl<'a> Entry<'a> {
     /// entry. Fails where the line fails, and may then be called again.
     pub fn step<L: SerialLine>(&mut self, line: &mut L) -> Result<EntryStep, LineFault>
         ensures text { self.new.text ≡ self.old.text }
-        ensures goes { IfOk result (λ said.
-            EntryStepsOn (line_by L.received L.sent L.calls L.failures L.empty_reads L.stalled_writes line.old)
-            (line_by L.received L.sent L.calls L.failures L.empty_reads L.stalled_writes line.new) self.old self.new said) }
-        ensures moves { IfOk result (λ said.
-            MovesBy said (line_by L.received L.sent L.calls L.failures L.empty_reads L.stalled_writes line.old)
-            (line_by L.received L.sent L.calls L.failures L.empty_reads L.stalled_writes line.new)) }
-        ensures counted { L.calls line.new ≡ one_more (L.calls line.old) }
-        ensures sound { OnOk result (L.failures line.new ≡ L.failures line.old) }
-        ensures failure { OnErr result (L.failures line.new ≡ L.failures line.old + 1) }
-        ensures stays { OnErr result ((self.new ≡ self.old) × (L.sent line.new ≡ L.sent line.old)
-            × (L.received line.new ≡ L.received line.old)) }
+        ensures goes { IfOk result (λ said. EntryStepsOn (L.seen line.old) (L.seen line.new) self.old self.new said) }
+        ensures moves { IfOk result (λ said. MovesBy said (L.seen line.old) (L.seen line.new)) }
+        ensures counted { (L.seen line.new).calls ≡ one_more (L.seen line.old).calls }
+        ensures sound { OnOk result ((L.seen line.new).failures ≡ (L.seen line.old).failures) }
+        ensures stays { OnErr result ((self.new ≡ self.old) × (L.seen line.new ≡ after_fault (L.seen line.old))) }
         ensures unsent { IfOk result (λ said. self.old.written < length self.old.text → IsUnanswering said) }
     {
         if self.written < self.text.len() {
@@ -99,17 +93,11 @@ impl<'a> Entry<'a> {
     fn write<L: SerialLine>(&mut self, line: &mut L) -> Result<EntryStep, LineFault>
         requires { self.old.written < length self.old.text }
         ensures text { self.new.text ≡ self.old.text }
-        ensures goes { IfOk result (λ said.
-            EntryStepsOn (line_by L.received L.sent L.calls L.failures L.empty_reads L.stalled_writes line.old)
-            (line_by L.received L.sent L.calls L.failures L.empty_reads L.stalled_writes line.new) self.old self.new said) }
-        ensures moves { IfOk result (λ said.
-            MovesBy said (line_by L.received L.sent L.calls L.failures L.empty_reads L.stalled_writes line.old)
-            (line_by L.received L.sent L.calls L.failures L.empty_reads L.stalled_writes line.new)) }
-        ensures counted { L.calls line.new ≡ one_more (L.calls line.old) }
-        ensures sound { OnOk result (L.failures line.new ≡ L.failures line.old) }
-        ensures failure { OnErr result (L.failures line.new ≡ L.failures line.old + 1) }
-        ensures stays { OnErr result ((self.new ≡ self.old) × (L.sent line.new ≡ L.sent line.old)
-            × (L.received line.new ≡ L.received line.old)) }
+        ensures goes { IfOk result (λ said. EntryStepsOn (L.seen line.old) (L.seen line.new) self.old self.new said) }
+        ensures moves { IfOk result (λ said. MovesBy said (L.seen line.old) (L.seen line.new)) }
+        ensures counted { (L.seen line.new).calls ≡ one_more (L.seen line.old).calls }
+        ensures sound { OnOk result ((L.seen line.new).failures ≡ (L.seen line.old).failures) }
+        ensures stays { OnErr result ((self.new ≡ self.old) × (L.seen line.new ≡ after_fault (L.seen line.old))) }
         ensures unsent { IfOk result IsUnanswering }
     {
         let count = line.try_write(&self.text[self.written..])?;
@@ -124,17 +112,11 @@ impl<'a> Entry<'a> {
     fn read<L: SerialLine>(&mut self, line: &mut L) -> Result<EntryStep, LineFault>
         requires { self.old.written ≡ length self.old.text }
         ensures text { self.new.text ≡ self.old.text }
-        ensures goes { IfOk result (λ said.
-            EntryStepsOn (line_by L.received L.sent L.calls L.failures L.empty_reads L.stalled_writes line.old)
-            (line_by L.received L.sent L.calls L.failures L.empty_reads L.stalled_writes line.new) self.old self.new said) }
-        ensures moves { IfOk result (λ said.
-            MovesBy said (line_by L.received L.sent L.calls L.failures L.empty_reads L.stalled_writes line.old)
-            (line_by L.received L.sent L.calls L.failures L.empty_reads L.stalled_writes line.new)) }
-        ensures counted { L.calls line.new ≡ one_more (L.calls line.old) }
-        ensures sound { OnOk result (L.failures line.new ≡ L.failures line.old) }
-        ensures failure { OnErr result (L.failures line.new ≡ L.failures line.old + 1) }
-        ensures stays { OnErr result ((self.new ≡ self.old) × (L.sent line.new ≡ L.sent line.old)
-            × (L.received line.new ≡ L.received line.old)) }
+        ensures goes { IfOk result (λ said. EntryStepsOn (L.seen line.old) (L.seen line.new) self.old self.new said) }
+        ensures moves { IfOk result (λ said. MovesBy said (L.seen line.old) (L.seen line.new)) }
+        ensures counted { (L.seen line.new).calls ≡ one_more (L.seen line.old).calls }
+        ensures sound { OnOk result ((L.seen line.new).failures ≡ (L.seen line.old).failures) }
+        ensures stays { OnErr result ((self.new ≡ self.old) × (L.seen line.new ≡ after_fault (L.seen line.old))) }
     {
         match next_octet(line)? {
             Some(octet) => Ok(step_by(see(&mut self.reader, octet))),

@@ -2,7 +2,6 @@
 ghost use Rattle.std.specs.Prelude.{◌≡◌, ◌≢◌, ◌+◌, ◌-◌, ◌^◌, ◌≤◌, ◌⊎◌, [], true, false, IfOk, IfErr, OnOk, Bool, ℕ, Err, if◌then◌else◌};
 ghost use Rattle.serial_line.specs.Counts.{one_more};
 ghost use Rattle.at_text.specs.declared.finals.Final.TheVariants.{Good};
-ghost use Rattle.modem_driver.specs.SessionStates.{line_by};
 ghost use Rattle.modem_driver.specs.EntrySteps.{IsAnswered};
 ghost use Rattle.modem_driver.specs.EntryTries.{AsksEach, HasNoReply, IsNeverRepliedTo, IsPartlySent, IsRepliedTo, IsSent, IsTried, IsUnanswered, KeepsUp, SaysWhy, closing, fill, ranges_text};
 ghost use Rattle.modem_driver.specs.declared.entering.EntryError.TheVariants as error;
@@ -69,21 +68,14 @@ fn ask<L: SerialLine, P: Patience>(
     patience: &mut P,
 ) -> Result<Final, EntryError>
     requires { P.is_over patience.old ≡ false }
-    ensures answered { IfOk result (λ code.
-        IsAnswered (line_by L.received L.sent L.calls L.failures L.empty_reads L.stalled_writes line.old)
-        (line_by L.received L.sent L.calls L.failures L.empty_reads L.stalled_writes line.new) text.now code) }
-    ensures unanswered { result ≡ Err error.NoAnswer →
-        IsUnanswered (line_by L.received L.sent L.calls L.failures L.empty_reads L.stalled_writes line.old)
-        (line_by L.received L.sent L.calls L.failures L.empty_reads L.stalled_writes line.new) text.now }
+    ensures answered { IfOk result (λ code. IsAnswered (L.seen line.old) (L.seen line.new) text.now code) }
+    ensures unanswered { result ≡ Err error.NoAnswer → IsUnanswered (L.seen line.old) (L.seen line.new) text.now }
     ensures ready { OnOk result (P.is_over patience.new ≡ false) }
-    ensures waited { result ≡ Err error.NoAnswer
-        → (P.is_over patience.new ≡ true) ⊎ (2 ^ 64 - 1 ≤ L.calls line.new) }
-    ensures failed { result ≡ Err error.Line → L.failures line.new ≡ L.failures line.old + 1 }
-    ensures sound { result ≢ Err error.Line → L.failures line.new ≡ L.failures line.old }
-    ensures keeps_up { KeepsUp (P.asked patience.old) (P.asked patience.new) (L.calls line.old) (L.calls line.new) }
-    ensures asks { result ≢ Err error.Line → AsksEach 1
-        (line_by L.received L.sent L.calls L.failures L.empty_reads L.stalled_writes line.old)
-        (line_by L.received L.sent L.calls L.failures L.empty_reads L.stalled_writes line.new)
+    ensures waited { result ≡ Err error.NoAnswer → (P.is_over patience.new ≡ true) ⊎ (2 ^ 64 - 1 ≤ (L.seen line.new).calls) }
+    ensures failed { result ≡ Err error.Line → (L.seen line.new).failures ≡ (L.seen line.old).failures + 1 }
+    ensures sound { result ≢ Err error.Line → (L.seen line.new).failures ≡ (L.seen line.old).failures }
+    ensures keeps_up { KeepsUp (P.asked patience.old) (P.asked patience.new) (L.seen line.old).calls (L.seen line.new).calls }
+    ensures asks { result ≢ Err error.Line → AsksEach 1 (L.seen line.old) (L.seen line.new)
         (P.asked patience.old) (P.asked patience.new) (P.idle patience.old) (P.idle patience.new) }
     ensures waits { P.waits patience.new ≡ P.waits patience.old }
     ensures no_refusal { result ≢ Err error.Refused }
@@ -113,20 +105,14 @@ fn send<L: SerialLine, P: Patience>(
     patience: &mut P,
 ) -> Result<(), EntryError>
     requires { P.is_over patience.old ≡ false }
-    ensures sent { OnOk result (IsSent (line_by L.received L.sent L.calls L.failures L.empty_reads L.stalled_writes line.old)
-        (line_by L.received L.sent L.calls L.failures L.empty_reads L.stalled_writes line.new) octets.now) }
-    ensures begun { result ≡ Err error.NoAnswer →
-        IsPartlySent (line_by L.received L.sent L.calls L.failures L.empty_reads L.stalled_writes line.old)
-        (line_by L.received L.sent L.calls L.failures L.empty_reads L.stalled_writes line.new) octets.now }
+    ensures sent { OnOk result (IsSent (L.seen line.old) (L.seen line.new) octets.now) }
+    ensures begun { result ≡ Err error.NoAnswer → IsPartlySent (L.seen line.old) (L.seen line.new) octets.now }
     ensures ready { OnOk result (P.is_over patience.new ≡ false) }
-    ensures waited { result ≡ Err error.NoAnswer
-        → (P.is_over patience.new ≡ true) ⊎ (2 ^ 64 - 1 ≤ L.calls line.new) }
-    ensures failed { result ≡ Err error.Line → L.failures line.new ≡ L.failures line.old + 1 }
-    ensures sound { result ≢ Err error.Line → L.failures line.new ≡ L.failures line.old }
-    ensures keeps_up { KeepsUp (P.asked patience.old) (P.asked patience.new) (L.calls line.old) (L.calls line.new) }
-    ensures asks { result ≢ Err error.Line → AsksEach 0
-        (line_by L.received L.sent L.calls L.failures L.empty_reads L.stalled_writes line.old)
-        (line_by L.received L.sent L.calls L.failures L.empty_reads L.stalled_writes line.new)
+    ensures waited { result ≡ Err error.NoAnswer → (P.is_over patience.new ≡ true) ⊎ (2 ^ 64 - 1 ≤ (L.seen line.new).calls) }
+    ensures failed { result ≡ Err error.Line → (L.seen line.new).failures ≡ (L.seen line.old).failures + 1 }
+    ensures sound { result ≢ Err error.Line → (L.seen line.new).failures ≡ (L.seen line.old).failures }
+    ensures keeps_up { KeepsUp (P.asked patience.old) (P.asked patience.new) (L.seen line.old).calls (L.seen line.new).calls }
+    ensures asks { result ≢ Err error.Line → AsksEach 0 (L.seen line.old) (L.seen line.new)
         (P.asked patience.old) (P.asked patience.new) (P.idle patience.old) (P.idle patience.new) }
     ensures waits { P.waits patience.new ≡ P.waits patience.old }
     ensures no_refusal { result ≢ Err error.Refused }
@@ -158,20 +144,14 @@ fn send_fill<L: SerialLine, P: Patience>(
     patience: &mut P,
 ) -> Result<(), EntryError>
     requires { P.is_over patience.old ≡ false }
-    ensures sent { OnOk result (IsSent (line_by L.received L.sent L.calls L.failures L.empty_reads L.stalled_writes line.old)
-        (line_by L.received L.sent L.calls L.failures L.empty_reads L.stalled_writes line.new) (fill n1)) }
-    ensures begun { result ≡ Err error.NoAnswer →
-        IsPartlySent (line_by L.received L.sent L.calls L.failures L.empty_reads L.stalled_writes line.old)
-        (line_by L.received L.sent L.calls L.failures L.empty_reads L.stalled_writes line.new) (fill n1) }
+    ensures sent { OnOk result (IsSent (L.seen line.old) (L.seen line.new) (fill n1)) }
+    ensures begun { result ≡ Err error.NoAnswer → IsPartlySent (L.seen line.old) (L.seen line.new) (fill n1) }
     ensures ready { OnOk result (P.is_over patience.new ≡ false) }
-    ensures waited { result ≡ Err error.NoAnswer
-        → (P.is_over patience.new ≡ true) ⊎ (2 ^ 64 - 1 ≤ L.calls line.new) }
-    ensures failed { result ≡ Err error.Line → L.failures line.new ≡ L.failures line.old + 1 }
-    ensures sound { result ≢ Err error.Line → L.failures line.new ≡ L.failures line.old }
-    ensures keeps_up { KeepsUp (P.asked patience.old) (P.asked patience.new) (L.calls line.old) (L.calls line.new) }
-    ensures asks { result ≢ Err error.Line → AsksEach 0
-        (line_by L.received L.sent L.calls L.failures L.empty_reads L.stalled_writes line.old)
-        (line_by L.received L.sent L.calls L.failures L.empty_reads L.stalled_writes line.new)
+    ensures waited { result ≡ Err error.NoAnswer → (P.is_over patience.new ≡ true) ⊎ (2 ^ 64 - 1 ≤ (L.seen line.new).calls) }
+    ensures failed { result ≡ Err error.Line → (L.seen line.new).failures ≡ (L.seen line.old).failures + 1 }
+    ensures sound { result ≢ Err error.Line → (L.seen line.new).failures ≡ (L.seen line.old).failures }
+    ensures keeps_up { KeepsUp (P.asked patience.old) (P.asked patience.new) (L.seen line.old).calls (L.seen line.new).calls }
+    ensures asks { result ≢ Err error.Line → AsksEach 0 (L.seen line.old) (L.seen line.new)
         (P.asked patience.old) (P.asked patience.new) (P.idle patience.old) (P.idle patience.new) }
     ensures waits { P.waits patience.new ≡ P.waits patience.old }
     ensures no_refusal { result ≢ Err error.Refused }
@@ -188,16 +168,13 @@ fn send_fill<L: SerialLine, P: Patience>(
 /// Reads on until patience is used up, whatever comes. Refusal: Line, where the line failed.
 fn read_away<L: SerialLine, P: Patience>(line: &mut L, patience: &mut P) -> Result<(), EntryError>
     requires { P.is_over patience.old ≡ false }
-    ensures sent { OnOk result (IsSent (line_by L.received L.sent L.calls L.failures L.empty_reads L.stalled_writes line.old)
-        (line_by L.received L.sent L.calls L.failures L.empty_reads L.stalled_writes line.new) []) }
-    ensures waited { OnOk result ((P.is_over patience.new ≡ true) ⊎ (2 ^ 64 - 1 ≤ L.calls line.new)) }
+    ensures sent { OnOk result (IsSent (L.seen line.old) (L.seen line.new) []) }
+    ensures waited { OnOk result ((P.is_over patience.new ≡ true) ⊎ (2 ^ 64 - 1 ≤ (L.seen line.new).calls)) }
     ensures no_answer { result ≢ Err error.NoAnswer }
-    ensures failed { result ≡ Err error.Line → L.failures line.new ≡ L.failures line.old + 1 }
-    ensures sound { result ≢ Err error.Line → L.failures line.new ≡ L.failures line.old }
-    ensures keeps_up { KeepsUp (P.asked patience.old) (P.asked patience.new) (L.calls line.old) (L.calls line.new) }
-    ensures asks { result ≢ Err error.Line → AsksEach 0
-        (line_by L.received L.sent L.calls L.failures L.empty_reads L.stalled_writes line.old)
-        (line_by L.received L.sent L.calls L.failures L.empty_reads L.stalled_writes line.new)
+    ensures failed { result ≡ Err error.Line → (L.seen line.new).failures ≡ (L.seen line.old).failures + 1 }
+    ensures sound { result ≢ Err error.Line → (L.seen line.new).failures ≡ (L.seen line.old).failures }
+    ensures keeps_up { KeepsUp (P.asked patience.old) (P.asked patience.new) (L.seen line.old).calls (L.seen line.new).calls }
+    ensures asks { result ≢ Err error.Line → AsksEach 0 (L.seen line.old) (L.seen line.new)
         (P.asked patience.old) (P.asked patience.new) (P.idle patience.old) (P.idle patience.new) }
     ensures waits { P.waits patience.new ≡ P.waits patience.old }
     ensures no_refusal { result ≢ Err error.Refused }
@@ -221,19 +198,13 @@ fn shut_down<L: SerialLine, P: Patience>(
     patience: &mut P,
 ) -> Result<(), EntryError>
     requires { P.is_over patience.old ≡ false }
-    ensures closed { OnOk result (IsSent (line_by L.received L.sent L.calls L.failures L.empty_reads L.stalled_writes line.old)
-        (line_by L.received L.sent L.calls L.failures L.empty_reads L.stalled_writes line.new) (closing n1)) }
-    ensures begun { result ≡ Err error.NoAnswer →
-        IsPartlySent (line_by L.received L.sent L.calls L.failures L.empty_reads L.stalled_writes line.old)
-        (line_by L.received L.sent L.calls L.failures L.empty_reads L.stalled_writes line.new) (closing n1) }
-    ensures waited { result ≢ Err error.Line
-        → (P.is_over patience.new ≡ true) ⊎ (2 ^ 64 - 1 ≤ L.calls line.new) }
-    ensures failed { result ≡ Err error.Line → L.failures line.new ≡ L.failures line.old + 1 }
-    ensures sound { result ≢ Err error.Line → L.failures line.new ≡ L.failures line.old }
-    ensures keeps_up { KeepsUp (P.asked patience.old) (P.asked patience.new) (L.calls line.old) (L.calls line.new) }
-    ensures asks { result ≢ Err error.Line → AsksEach 0
-        (line_by L.received L.sent L.calls L.failures L.empty_reads L.stalled_writes line.old)
-        (line_by L.received L.sent L.calls L.failures L.empty_reads L.stalled_writes line.new)
+    ensures closed { OnOk result (IsSent (L.seen line.old) (L.seen line.new) (closing n1)) }
+    ensures begun { result ≡ Err error.NoAnswer → IsPartlySent (L.seen line.old) (L.seen line.new) (closing n1) }
+    ensures waited { result ≢ Err error.Line → (P.is_over patience.new ≡ true) ⊎ (2 ^ 64 - 1 ≤ (L.seen line.new).calls) }
+    ensures failed { result ≡ Err error.Line → (L.seen line.new).failures ≡ (L.seen line.old).failures + 1 }
+    ensures sound { result ≢ Err error.Line → (L.seen line.new).failures ≡ (L.seen line.old).failures }
+    ensures keeps_up { KeepsUp (P.asked patience.old) (P.asked patience.new) (L.seen line.old).calls (L.seen line.new).calls }
+    ensures asks { result ≢ Err error.Line → AsksEach 0 (L.seen line.old) (L.seen line.new)
         (P.asked patience.old) (P.asked patience.new) (P.idle patience.old) (P.idle patience.new) }
     ensures waits { P.waits patience.new ≤ P.waits patience.old + 1 }
     ensures no_refusal { result ≢ Err error.Refused }
@@ -259,20 +230,13 @@ fn try_once<L: SerialLine, P: Patience>(
     patience: &mut P,
 ) -> Result<Final, EntryError>
     requires { P.is_over patience.old ≡ false }
-    ensures tried { IfOk result (λ code.
-        IsTried (line_by L.received L.sent L.calls L.failures L.empty_reads L.stalled_writes line.old)
-        (line_by L.received L.sent L.calls L.failures L.empty_reads L.stalled_writes line.new) ranges text.now code) }
-    ensures unanswered { result ≡ Err error.NoAnswer →
-        HasNoReply (line_by L.received L.sent L.calls L.failures L.empty_reads L.stalled_writes line.old)
-        (line_by L.received L.sent L.calls L.failures L.empty_reads L.stalled_writes line.new) ranges text.now }
-    ensures waited { result ≡ Err error.NoAnswer
-        → (P.is_over patience.new ≡ true) ⊎ (2 ^ 64 - 1 ≤ L.calls line.new) }
-    ensures failed { result ≡ Err error.Line → L.failures line.new ≡ L.failures line.old + 1 }
-    ensures sound { result ≢ Err error.Line → L.failures line.new ≡ L.failures line.old }
-    ensures keeps_up { KeepsUp (P.asked patience.old) (P.asked patience.new) (L.calls line.old) (L.calls line.new) }
-    ensures asks { result ≢ Err error.Line → AsksEach 2
-        (line_by L.received L.sent L.calls L.failures L.empty_reads L.stalled_writes line.old)
-        (line_by L.received L.sent L.calls L.failures L.empty_reads L.stalled_writes line.new)
+    ensures tried { IfOk result (λ code. IsTried (L.seen line.old) (L.seen line.new) ranges text.now code) }
+    ensures unanswered { result ≡ Err error.NoAnswer → HasNoReply (L.seen line.old) (L.seen line.new) ranges text.now }
+    ensures waited { result ≡ Err error.NoAnswer → (P.is_over patience.new ≡ true) ⊎ (2 ^ 64 - 1 ≤ (L.seen line.new).calls) }
+    ensures failed { result ≡ Err error.Line → (L.seen line.new).failures ≡ (L.seen line.old).failures + 1 }
+    ensures sound { result ≢ Err error.Line → (L.seen line.new).failures ≡ (L.seen line.old).failures }
+    ensures keeps_up { KeepsUp (P.asked patience.old) (P.asked patience.new) (L.seen line.old).calls (L.seen line.new).calls }
+    ensures asks { result ≢ Err error.Line → AsksEach 2 (L.seen line.old) (L.seen line.new)
         (P.asked patience.old) (P.asked patience.new) (P.idle patience.old) (P.idle patience.new) }
     ensures waits { P.waits patience.new ≡ P.waits patience.old }
     ensures no_refusal { result ≢ Err error.Refused }
@@ -306,20 +270,13 @@ fn try_thrice<L: SerialLine, P: Patience>(
     text: &[u8],
     patience: &mut P,
 ) -> Result<Final, EntryError>
-    ensures replied { IfOk result (λ code.
-        IsRepliedTo (line_by L.received L.sent L.calls L.failures L.empty_reads L.stalled_writes line.old)
-        (line_by L.received L.sent L.calls L.failures L.empty_reads L.stalled_writes line.new) n1 ranges text.now code) }
-    ensures never { result ≡ Err error.NoAnswer →
-        IsNeverRepliedTo (line_by L.received L.sent L.calls L.failures L.empty_reads L.stalled_writes line.old)
-        (line_by L.received L.sent L.calls L.failures L.empty_reads L.stalled_writes line.new) n1 ranges text.now }
-    ensures waited { result ≡ Err error.NoAnswer
-        → (P.is_over patience.new ≡ true) ⊎ (2 ^ 64 - 1 ≤ L.calls line.new) }
-    ensures failed { result ≡ Err error.Line → L.failures line.new ≡ L.failures line.old + 1 }
-    ensures sound { result ≢ Err error.Line → L.failures line.new ≡ L.failures line.old }
-    ensures keeps_up { KeepsUp (P.asked patience.old) (P.asked patience.new) (L.calls line.old) (L.calls line.new) }
-    ensures asks { result ≢ Err error.Line → AsksEach 6
-        (line_by L.received L.sent L.calls L.failures L.empty_reads L.stalled_writes line.old)
-        (line_by L.received L.sent L.calls L.failures L.empty_reads L.stalled_writes line.new)
+    ensures replied { IfOk result (λ code. IsRepliedTo (L.seen line.old) (L.seen line.new) n1 ranges text.now code) }
+    ensures never { result ≡ Err error.NoAnswer → IsNeverRepliedTo (L.seen line.old) (L.seen line.new) n1 ranges text.now }
+    ensures waited { result ≡ Err error.NoAnswer → (P.is_over patience.new ≡ true) ⊎ (2 ^ 64 - 1 ≤ (L.seen line.new).calls) }
+    ensures failed { result ≡ Err error.Line → (L.seen line.new).failures ≡ (L.seen line.old).failures + 1 }
+    ensures sound { result ≢ Err error.Line → (L.seen line.new).failures ≡ (L.seen line.old).failures }
+    ensures keeps_up { KeepsUp (P.asked patience.old) (P.asked patience.new) (L.seen line.old).calls (L.seen line.new).calls }
+    ensures asks { result ≢ Err error.Line → AsksEach 6 (L.seen line.old) (L.seen line.new)
         (P.asked patience.old) (P.asked patience.new) (P.idle patience.old) (P.idle patience.new) }
     ensures waits { P.waits patience.new ≤ P.waits patience.old + 7 }
     ensures no_refusal { result ≢ Err error.Refused }
@@ -359,18 +316,12 @@ pub fn enter_by<L: SerialLine, P: Patience>(
     text: &[u8],
     patience: &mut P,
 ) -> Result<(), EntryError>
-    ensures entered { OnOk result (IsRepliedTo (line_by L.received L.sent L.calls L.failures L.empty_reads L.stalled_writes line.old)
-        (line_by L.received L.sent L.calls L.failures L.empty_reads L.stalled_writes line.new) n1 ranges text.now Good) }
-    ensures not_entered { IfErr result (λ why.
-        SaysWhy why (line_by L.received L.sent L.calls L.failures L.empty_reads L.stalled_writes line.old)
-        (line_by L.received L.sent L.calls L.failures L.empty_reads L.stalled_writes line.new) n1 ranges text.now) }
-    ensures waited { result ≡ Err error.NoAnswer
-        → (P.is_over patience.new ≡ true) ⊎ (2 ^ 64 - 1 ≤ L.calls line.new) }
-    ensures sound { result ≢ Err error.Line → L.failures line.new ≡ L.failures line.old }
-    ensures keeps_up { KeepsUp (P.asked patience.old) (P.asked patience.new) (L.calls line.old) (L.calls line.new) }
-    ensures asks { result ≢ Err error.Line → AsksEach 6
-        (line_by L.received L.sent L.calls L.failures L.empty_reads L.stalled_writes line.old)
-        (line_by L.received L.sent L.calls L.failures L.empty_reads L.stalled_writes line.new)
+    ensures entered { OnOk result (IsRepliedTo (L.seen line.old) (L.seen line.new) n1 ranges text.now Good) }
+    ensures not_entered { IfErr result (λ why. SaysWhy why (L.seen line.old) (L.seen line.new) n1 ranges text.now) }
+    ensures waited { result ≡ Err error.NoAnswer → (P.is_over patience.new ≡ true) ⊎ (2 ^ 64 - 1 ≤ (L.seen line.new).calls) }
+    ensures sound { result ≢ Err error.Line → (L.seen line.new).failures ≡ (L.seen line.old).failures }
+    ensures keeps_up { KeepsUp (P.asked patience.old) (P.asked patience.new) (L.seen line.old).calls (L.seen line.new).calls }
+    ensures asks { result ≢ Err error.Line → AsksEach 6 (L.seen line.old) (L.seen line.new)
         (P.asked patience.old) (P.asked patience.new) (P.idle patience.old) (P.idle patience.new) }
     ensures waits { P.waits patience.new ≤ P.waits patience.old + 7 }
 {

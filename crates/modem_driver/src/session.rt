@@ -3,7 +3,7 @@ ghost use Rattle.std.specs.Prelude.{◌≡◌, ◌≢◌, ◌↔◌, ◌<◌, []
 ghost use Rattle.std.specs.Borrow.{Lends, sem};
 ghost use Rattle.mux_frame.specs.Spelling.{IsBadN1};
 ghost use Rattle.modem_history.specs.Sessions.{LineView};
-ghost use Rattle.modem_driver.specs.SessionStates.{beginning_by, beginning_of, has_lost_line, machine_by, line_by, end_of, FitsAll, MachineFits, SessionEnds, KeepsItsEnd, Ticks};
+ghost use Rattle.modem_driver.specs.SessionStates.{beginning_by, beginning_of, has_lost_line, machine_by, end_of, FitsAll, MachineFits, SessionEnds, KeepsItsEnd, Ticks};
 ghost use Rattle.at_text.specs.Rules.{dialect_of};
 ghost use Rattle.modem_driver.specs.declared.session.error.SessionError.TheVariants as why;
 ghost use Rattle.modem_driver.specs.declared.session.error.SessionFault.TheVariants as fault;
@@ -94,9 +94,7 @@ impl<L: SerialLine, R: Wait + Drop> Session<L, R> {
         driver: DriverEnd,
         n1: u16,
     ) -> Result<Session<L, R>, SessionRefused<L>>
-        ensures begins { IfOk result (λ s.
-            FitsAll (beginning_of n1 (line_by L.received L.sent L.calls L.failures L.empty_reads L.stalled_writes line) driver)
-            (line_by L.received L.sent L.calls L.failures L.empty_reads L.stalled_writes) s []) }
+        ensures begins { IfOk result (λ s. FitsAll (beginning_of n1 (L.seen line) driver) L.seen s []) }
         ensures same { IfOk result (λ s. (s.line ≡ line) × (s.driver ≡ driver)) }
         ensures bad_n1 { (IfErr result (λ e. e.why ≡ why.BadN1 → IsBadN1 n1))
             × (IsBadN1 n1 → IsErr result × IfErr result (λ e. e.why ≡ why.BadN1)) }
@@ -115,9 +113,7 @@ impl<L: SerialLine, R: Wait + Drop> Session<L, R> {
         n1: u16,
         dialect: &Dialect,
     ) -> Result<Session<L, R>, SessionRefused<L>>
-        ensures begins { IfOk result (λ s.
-            FitsAll (beginning_by (dialect_of dialect.now) n1 (line_by L.received L.sent L.calls L.failures L.empty_reads L.stalled_writes line) driver)
-            (line_by L.received L.sent L.calls L.failures L.empty_reads L.stalled_writes) s []) }
+        ensures begins { IfOk result (λ s. FitsAll (beginning_by (dialect_of dialect.now) n1 (L.seen line) driver) L.seen s []) }
         ensures same { IfOk result (λ s. (s.line ≡ line) × (s.driver ≡ driver)) }
         ensures bad_n1 { (IfErr result (λ e. e.why ≡ why.BadN1 → IsBadN1 n1))
             × (IsBadN1 n1 → IsErr result × IfErr result (λ e. e.why ≡ why.BadN1)) }
@@ -161,7 +157,7 @@ impl<L: SerialLine, R: Wait + Drop> Session<L, R> {
     /// A tick: SABM and DISC that weren't answered are sent again, and at the fourth tick what waits is given up. Line and desk's end stay
     /// as they are. Refusal, which changes nothing: 3 Failed where a turn has answered Line.
     pub fn tick(&mut self) -> Result<(), SessionFault>
-        ensures ticks { OnOk result (Ticks (line_by L.received L.sent L.calls L.failures L.empty_reads L.stalled_writes) self.old self.new) }
+        ensures ticks { OnOk result (Ticks L.seen self.old self.new) }
         ensures same { (self.new.line ≡ self.old.line) × (self.new.driver ≡ self.old.driver) }
         ensures ended { KeepsItsEnd self.old self.new }
         ensures err { OnErr result (self.new ≡ self.old) }
@@ -175,8 +171,8 @@ impl<L: SerialLine, R: Wait + Drop> Session<L, R> {
     /// The line, the desk's end and what is left, without taking memory: the requests that were taken
     /// and not told, in order, and all outcomes and lines that wait.
     pub fn finish(self) -> Finished<L>
-        ensures left { SessionEnds (line_by L.received L.sent L.calls L.failures L.empty_reads L.stalled_writes) self (record {
-          line = line_by L.received L.sent L.calls L.failures L.empty_reads L.stalled_writes result.line;
+        ensures left { SessionEnds L.seen self (record {
+          line = L.seen result.line;
           desk = end_of result.driver;
           in_hand = result.in_hand.items;
           unplaced = result.unplaced.items;

@@ -7,6 +7,7 @@ use lib.ListN.{get_elem?}
 use Rattle.mux_frame.specs.Frames.{Frame}
 use Rattle.mux_frame.specs.Spelling.{spelled}
 use Rattle.mux_frame.specs.Deframing.{Deframing, Deframes}
+pub use Rattle.serial_line.specs.LineViews.{LineView}
 use Rattle.mux_station.specs.declared.role.Role.TheVariants.{Initiator}
 use Rattle.mux_station.specs.Written.{is_data_frame}
 use Rattle.mux_station.specs.Sending.{queue}
@@ -24,16 +25,6 @@ use Rattle.modem_history.specs.Wholes.{taken_requests, outcomes}
 use Rattle.modem_history.specs.Rules.{Made}
 
 -- ## What is seen of a session
-
--- a line: the octets that it gave and took, its calls, those that failed, the reads that could give octets and
--- gave none, and the writes that could take octets and took none
-pub record LineView : Type 0 where
-  pub received : List ℕ
-  pub sent : List ℕ
-  pub calls : ℕ
-  pub failures : ℕ
-  pub empty_reads : ℕ
-  pub stalled_writes : ℕ
 
 -- the desk's end: the requests that it took, what it told each caller, and what it announced to each listener;
 -- and how often it found no request, and handed an outcome of each caller or a line of each listener back

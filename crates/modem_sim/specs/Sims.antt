@@ -3,6 +3,7 @@ use Rattle.std.specs.Prelude.{◌≡◌, ℕ, ◌==◌, ◌&&◌, Bool, true, Li
 use Rattle.std.specs.List.{flat_map, list_all}
 use Rattle.mux_frame.specs.Deframing.{Deframing, Deframes}
 use Rattle.mux_frame.specs.Spelling as spelling
+use Rattle.serial_line.specs.LineViews.{LineView}
 use Rattle.modem_sim.specs.declared.error.SimError.{SimError}
 use Rattle.modem_sim.specs.declared.error.SimError.TheVariants.{Line}
 use Rattle.modem_sim.specs.declared.sim.SimTurn.{SimTurn}
@@ -72,33 +73,6 @@ pub record BeginsAt (n1 : ℕ) (v : stations.Station) (boxes : List Box) (own_n1
   pub deframes : Deframes [] [] d
   pub out_is : out ≡ []
 
--- octets came from the line, and are kept behind those that wait for the deframer
-pub record Receives (before after : List ℕ) (old new : SimMachine) : Type 0 where
-  pub fresh : List ℕ
-  pub came : after ≡ before ++ fresh
-  pub kept : new ≡ record old { unfed = old.unfed ++ fresh }
-
--- how a line is seen: the octets that it gave and took, and its counts
-pub record Sight (X : Type 0) : Type 0 where
-  pub received : X → List ℕ
-  pub sent : X → List ℕ
-  pub calls : X → ℕ
-  pub failures : X → ℕ
-  pub empty_reads : X → ℕ
-  pub stalled_writes : X → ℕ
-
--- what is seen of a line, by its trait's words
-abbrev pub sight :
-    {X : Type 0} → (received sent : X → List ℕ) → (calls failures empty_reads stalled_writes : X → ℕ) → Sight X
-sight received sent calls failures empty_reads stalled_writes = record {
-  received = received;
-  sent = sent;
-  calls = calls;
-  failures = failures;
-  empty_reads = empty_reads;
-  stalled_writes = stalled_writes;
-}
-
 -- a line and the machine beside it
 pub record SimState (X : Type 0) : Type 0 where
   pub line : X
@@ -125,31 +99,26 @@ abbrev pub failed_by : {A : Type 0} → Bool → Result A SimError → Bool
 failed_by before (Err Line) = true
 failed_by before _ = before
 
--- what a line had received and sent
-pub record LineAt : Type 0 where
-  pub received : List ℕ
-  pub sent : List ℕ
-
--- A simulated modem fits a past that began when its line had received and sent so much.
-pub record FitsSim {X : Type 0} (received sent : X → List ℕ) (at : LineAt) (e : End) (s : SimState X)
+-- A simulated modem fits a past that began when its line was seen so.
+pub record FitsSim {X : Type 0} (look : X → LineView) (at : LineView) (e : End) (s : SimState X)
     (past : List Act) : Type 0 where
   pub came : List ℕ
   pub went : List ℕ
-  pub received_is : received s.line ≡ at.received ++ came
-  pub sent_is : sent s.line ≡ at.sent ++ went
+  pub received_is : (look s.line).received ≡ at.received ++ came
+  pub sent_is : (look s.line).sent ≡ at.sent ++ went
   pub machine_fits : SimMachineFits e came went s.machine past
 
-pub record SimFrom {X : Type 0} (received sent : X → List ℕ) (at : LineAt) (e : End) (past : List Act)
+pub record SimFrom {X : Type 0} (look : X → LineView) (at : LineView) (e : End) (past : List Act)
     (s : SimState X) : Type 0 where
   pub now : List Act
   pub later : IsLater past now
-  pub fits : FitsSim received sent at e s now
+  pub fits : FitsSim look at e s now
 
 -- whatever past it fits, a simulated modem goes on to one that it fits
-abbrev pub SimGoes : {X : Type 0} → (received sent : X → List ℕ) → SimState X → SimState X → Type 0
-SimGoes received sent old new =
-    (at : LineAt) (e : End) (past : List Act) → FitsSim received sent at e old past
-    → SimFrom received sent at e past new
+abbrev pub SimGoes : {X : Type 0} → (look : X → LineView) → SimState X → SimState X → Type 0
+SimGoes look old new =
+    (at : LineView) (e : End) (past : List Act) → FitsSim look at e old past
+    → SimFrom look at e past new
 
 -- ## What that comes to
 

@@ -7,9 +7,10 @@ use Rattle.mux_station.specs.Acts as station
 use Rattle.mux_station.specs.Giving.{next_given}
 use Rattle.mux_station.specs.Sending.{got_refused}
 use Rattle.mux_station.specs.Stations.{seen_in, setting_of}
+use Rattle.serial_line.specs.LineViews.{LineView}
 use Rattle.modem_sim.specs.Acts.{Act, Wire, End, is_handing}
 use Rattle.modem_sim.specs.Cores.{Core, Fits, GoesFrom, HasNoneToDo, HasReleased, IsGivenOn, IsHandedOn, IsLater, SaysNext, Wired, after_wire_act, box_at, holds_over}
-use Rattle.modem_sim.specs.Sims.{SimMachine, SimMachineFits, LineAt, Sight, SimState, FitsSim}
+use Rattle.modem_sim.specs.Sims.{SimMachine, SimMachineFits, SimState, FitsSim}
 use Rattle.modem_sim.specs.Turns.{DoesEach, Exchanges, Exchange, HandsOn, Leaves, NoneIsThere, ReadHasRoom, Offers, Read, Write, calls_made, count_after, empty_after, has_moved, left_of, octets_read, octets_written, stalled_after}
 
 -- a machine still fits whatever past it fitted
@@ -161,28 +162,30 @@ pub record FeedsNone (old new : SimMachine) : Type 0 where
   pub none : old.deframer.next ≡ None → old.unfed ≡ []
 
 -- octets were offered to the line where some waited, and it took so many
-pub record Writes (sent_before sent : List ℕ) (calls_before calls stalled_before stalled : ℕ) (old new : SimMachine)
-    (count : ℕ) : Type 0 where
+pub record Writes (before later : LineView) (old new : SimMachine) (count : ℕ) : Type 0 where
   pub write : Option Write
   pub offers : Offers write old.out
-  pub went : sent ≡ sent_before ++ octets_written write
-  pub calls_are : calls ≡ count_after (calls_made write) calls_before
-  pub stalled_are : stalled ≡ stalled_after write stalled_before
+  pub went : later.sent ≡ before.sent ++ octets_written write
+  pub none_came : later.received ≡ before.received
+  pub calls_are : later.calls ≡ count_after (calls_made write) before.calls
+  pub stalled_are : later.stalled_writes ≡ stalled_after write before.stalled_writes
+  pub empty_stay : later.empty_reads ≡ before.empty_reads
   pub parts : octets_written write ++ left_of write old.out ≡ old.out
   pub count_is : count ≡ length (octets_written write)
   pub kept : new ≡ record old { out = left_of write old.out }
   pub none : old.out ≢ [] → count ≡ 0 → write ≡ Some (record { offered = old.out; count = 0 })
 
 -- the line was read where nothing read waited, and these octets came
-pub record ReadsOnce (received_before received : List ℕ) (calls_before calls empty_before empty : ℕ)
-    (old new : SimMachine) (came : Bool) : Type 0 where
+pub record ReadsOnce (before later : LineView) (old new : SimMachine) (came : Bool) : Type 0 where
   pub read : Option Read
   pub room : ReadHasRoom read
   pub reads : old.unfed ≡ [] → read ≢ None
   pub reads_fed : read ≢ None → old.unfed ≡ []
-  pub came_are : received ≡ received_before ++ octets_read read
-  pub calls_are : calls ≡ count_after (calls_made read) calls_before
-  pub empty_are : empty ≡ empty_after read empty_before
+  pub came_are : later.received ≡ before.received ++ octets_read read
+  pub none_went : later.sent ≡ before.sent
+  pub calls_are : later.calls ≡ count_after (calls_made read) before.calls
+  pub empty_are : later.empty_reads ≡ empty_after read before.empty_reads
+  pub stalled_stay : later.stalled_writes ≡ before.stalled_writes
   pub says : came ≡ nat_lt 0 (length (octets_read read))
   pub kept : new ≡ record old { unfed = old.unfed ++ octets_read read }
   pub none : old.unfed ≡ [] → came ≡ false → read ≡ Some (record { room = 512; octets = [] })
@@ -200,11 +203,11 @@ abbrev pub at_line : {X : Type 0} → X → SimMachine → SimState X
 at_line line k = record { line = line; machine = k }
 
 -- by all that a turn does, the past goes on to one that the simulated modem fits
-pub record WentOn {X : Type 0} (see : Sight X) (at : LineAt) (e : End) (past : List Act) (old new : SimState X)
+pub record WentOn {X : Type 0} (see : X → LineView) (at : LineView) (e : End) (past : List Act) (old new : SimState X)
     (t : Exchange) (moved : Bool) : Type 0 where
   pub now : List Act
   pub later : IsLater past now
-  pub fits : FitsSim see.received see.sent at e new now
+  pub fits : FitsSim see at e new now
   pub does : DoesEach e old.machine new.machine t past now
   pub moves : has_moved see old new later.newer ≡ moved
 
@@ -218,11 +221,11 @@ pub record StoodStill (k : SimMachine) (t : Exchange) : Type 0 where
   pub waits : k.deframer.next ≡ None → k.unfed ≡ []
 
 -- each part of a turn was done once, and moved says whether anything came of it
-pub record GoesOnce {X : Type 0} (see : Sight X) (old new : SimState X) (moved : Bool) : Type 0 where
+pub record GoesOnce {X : Type 0} (see : X → LineView) (old new : SimState X) (moved : Bool) : Type 0 where
   pub exchange : Exchange
   pub exchanges : Exchanges see old new exchange
   pub leaves : Leaves old.machine new.machine exchange
   pub goes :
-      (at : LineAt) (e : End) (past : List Act) → FitsSim see.received see.sent at e old past
+      (at : LineView) (e : End) (past : List Act) → FitsSim see at e old past
       → WentOn see at e past old new exchange moved
   pub still : moved ≡ false → StoodStill new.machine exchange

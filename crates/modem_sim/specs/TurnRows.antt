@@ -5,6 +5,7 @@ use Rattle.mux_frame.specs.declared.frame.Kind.TheVariants.{Sabm, Ua}
 use Rattle.mux_station.specs.declared.role.Role.TheVariants.{Initiator}
 use Rattle.mux_station.specs.Acts as station
 use Rattle.mux_station.specs.Written.{written}
+use Rattle.serial_line.specs.LineViews.{LineView}
 use Rattle.modem_sim.specs.declared.error.SimError.{SimError}
 use Rattle.modem_sim.specs.declared.error.SimError.TheVariants as why
 use Rattle.modem_sim.specs.declared.sim.SimTurn.{SimTurn}
@@ -13,7 +14,7 @@ use Rattle.modem_sim.specs.Acts.{Act, Wire, after}
 use Rattle.modem_sim.specs.Polls.{Says, Turned, kept_end}
 use Rattle.modem_sim.specs.Boxes.{is_released}
 use Rattle.modem_sim.specs.Cores.{box_at}
-use Rattle.modem_sim.specs.Sims.{SimMachine, Sight, SimState, has_failed, is_ended, sight}
+use Rattle.modem_sim.specs.Sims.{SimMachine, SimState, has_failed, is_ended}
 use Rattle.modem_sim.specs.Turns.{DoesSteps, Exchange, GoesTurn, HandsOn, IsAtRest, IsHeldUp, IsIdle, IsIdleAtLine, IsLeft, Means, NoneIsThere, Offers, ReadHasRoom, TakesAtHand, has_moved}
 use Rattle.modem_sim.specs.HistoryRows.{announcing, comes, gives, offers, one, plain, ready_one, sends, silent}
 
@@ -58,12 +59,12 @@ WrongIdle =
     × ((came went : List ℕ) → ¬ IsAtRest (announcing 0 one) came went only_read (after [] ready_one))
 
 -- a line without octets, whose counts aren't looked at
-abbrev pub unseen : Sight ℕ
-unseen = sight (λ l. []) (λ l. []) (λ l. 0) (λ l. 0) (λ l. 0) (λ l. 0)
+abbrev pub unseen : ℕ → LineView
+unseen l = record { received = []; sent = []; calls = 0; failures = 0; empty_reads = 0; stalled_writes = 0 }
 
 -- a line that is seen to have given octets, and no more
-abbrev pub gave : Sight (List ℕ)
-gave = sight (λ l. l) (λ l. []) (λ l. 0) (λ l. 0) (λ l. 0) (λ l. 0)
+abbrev pub gave : List ℕ → LineView
+gave octets = record { received = octets; sent = []; calls = 0; failures = 0; empty_reads = 0; stalled_writes = 0 }
 
 -- A turn has moved in which octets came, a frame was got, or octets were handed to the station. One that leaves all as
 -- it was hasn't, even where a frame was given on.
@@ -108,11 +109,11 @@ WantRows =
 -- BadN1 at all.
 abbrev pub WrongGivings : Type 0
 WrongGivings =
-    ((s : SimState ℕ) → ¬ Says (λ l. l) s s (Err why.Line))
-    × ((old new : SimState ℕ) → has_failed old ≡ false → ¬ Says (λ l. l) old new (Err why.Failed))
-    × ((old new : SimState ℕ) → ¬ Says (λ l. l) old new (Ok Idle))
-    × ((old new : SimState ℕ) → ¬ Says (λ l. l) old new (Ok Moved))
-    × ((old new : SimState ℕ) → ¬ Says (λ l. l) old new (Err why.BadN1))
+    ((s : SimState LineView) → ¬ Says (λ l. l) s s (Err why.Line))
+    × ((old new : SimState LineView) → has_failed old ≡ false → ¬ Says (λ l. l) old new (Err why.Failed))
+    × ((old new : SimState LineView) → ¬ Says (λ l. l) old new (Ok Idle))
+    × ((old new : SimState LineView) → ¬ Says (λ l. l) old new (Ok Moved))
+    × ((old new : SimState LineView) → ¬ Says (λ l. l) old new (Err why.BadN1))
 
 -- a turn calls its line, whatever it answers: where it hasn't ended and nothing is to be fed, and where octets wait for
 -- the line

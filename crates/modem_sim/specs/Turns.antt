@@ -11,6 +11,7 @@ use Rattle.mux_station.specs.Offering.{offered, data_out}
 use Rattle.mux_station.specs.Acts as station
 use Rattle.mux_station.specs.Sending as sending
 use Rattle.modem_history.specs.Wholes.{IsPrefixOf}
+use Rattle.serial_line.specs.LineViews.{LineView}
 use Rattle.modem_sim.specs.declared.script.StepAct.{StepAct}
 use Rattle.modem_sim.specs.declared.sim.SimTurn.{SimTurn}
 use Rattle.modem_sim.specs.declared.sim.SimTurn.TheVariants.{Moved, Idle, Ended}
@@ -21,7 +22,7 @@ use Rattle.modem_sim.specs.Boxes.{is_released}
 use Rattle.modem_sim.specs.Doing.{IsDue, call_of}
 use Rattle.modem_sim.specs.Histories.{IsThrough, AllIsOut, DoesInOrder}
 use Rattle.modem_sim.specs.Cores.{HasPassed, IsLater, IsGivenOn, after_wire_act, box_at, holds_over}
-use Rattle.modem_sim.specs.Sims.{SimMachine, LineAt, Sight, SimState, FitsSim, is_ended}
+use Rattle.modem_sim.specs.Sims.{SimMachine, SimState, FitsSim, is_ended}
 
 -- ## A turn's calls on the line
 
@@ -86,15 +87,15 @@ empty_after None count = count
 empty_after (Some r) count = counted_if_none r.room (length r.octets) count
 
 -- what a turn exchanged with its line
-pub record Exchanges {X : Type 0} (see : Sight X) (old new : SimState X) (t : Exchange) : Type 0 where
-  pub came : see.received new.line ≡ see.received old.line ++ octets_read t.read
+pub record Exchanges {X : Type 0} (see : X → LineView) (old new : SimState X) (t : Exchange) : Type 0 where
+  pub came : (see new.line).received ≡ (see old.line).received ++ octets_read t.read
   pub room : ReadHasRoom t.read
-  pub went : see.sent new.line ≡ see.sent old.line ++ octets_written t.write
+  pub went : (see new.line).sent ≡ (see old.line).sent ++ octets_written t.write
   pub offers : Offers t.write old.machine.out
   pub calls_are :
-      see.calls new.line ≡ count_after (calls_made t.write + calls_made t.read) (see.calls old.line)
-  pub stalled_are : see.stalled_writes new.line ≡ stalled_after t.write (see.stalled_writes old.line)
-  pub empty_are : see.empty_reads new.line ≡ empty_after t.read (see.empty_reads old.line)
+      (see new.line).calls ≡ count_after (calls_made t.write + calls_made t.read) (see old.line).calls
+  pub stalled_are : (see new.line).stalled_writes ≡ stalled_after t.write (see old.line).stalled_writes
+  pub empty_are : (see new.line).empty_reads ≡ empty_after t.read (see old.line).empty_reads
 
 -- the octets that the line didn't take
 abbrev pub left_of : Option Write → List ℕ → List ℕ
@@ -188,10 +189,10 @@ is_fewer xs ys = nat_lt (length xs) (length ys)
 
 -- Octets came, or went; of those that came fewer wait for the deframer; steps were done or passed over; more
 -- octets stand ready to be written; or a hold that was over was let go.
-abbrev pub has_changed : {X : Type 0} → Sight X → (old new : SimState X) → Bool
+abbrev pub has_changed : {X : Type 0} → (X → LineView) → (old new : SimState X) → Bool
 has_changed see old new =
-    is_fewer (see.received old.line) (see.received new.line)
-    || (is_fewer (see.sent old.line) (see.sent new.line)
+    is_fewer (see old.line).received (see new.line).received
+    || (is_fewer (see old.line).sent (see new.line).sent
     || (is_fewer new.machine.unfed old.machine.unfed
     || (is_fewer new.machine.core.steps old.machine.core.steps
     || (is_fewer old.machine.out new.machine.out
@@ -204,7 +205,7 @@ is_work (Wire (station.Called (station.Offer d octets))) = true
 is_work _ = false
 
 -- something was done: a frame was got, octets were handed to the station, or something changed
-abbrev pub has_moved : {X : Type 0} → Sight X → (old new : SimState X) → List Act → Bool
+abbrev pub has_moved : {X : Type 0} → (X → LineView) → (old new : SimState X) → List Act → Bool
 has_moved see old new acts = list_any is_work acts || has_changed see old new
 
 -- ## Idle
@@ -237,10 +238,10 @@ pub record IsAtRest (e : End) (came went : List ℕ) (t : Exchange) (past : List
 
 -- By the line's counts: the read gave nothing, unless octets that came wait behind a frame at hand; and the
 -- write took nothing, where octets wait.
-pub record IsIdleAtLine {X : Type 0} (see : Sight X) (old new : SimState X) : Type 0 where
+pub record IsIdleAtLine {X : Type 0} (see : X → LineView) (old new : SimState X) : Type 0 where
   pub fed : new.machine.deframer.next ≡ None → new.machine.unfed ≡ []
-  pub empty : new.machine.unfed ≡ [] → see.empty_reads new.line ≡ one_more (see.empty_reads old.line)
-  pub stalled : new.machine.out ≢ [] → see.stalled_writes new.line ≡ one_more (see.stalled_writes old.line)
+  pub empty : new.machine.unfed ≡ [] → (see new.line).empty_reads ≡ one_more (see old.line).empty_reads
+  pub stalled : new.machine.out ≢ [] → (see new.line).stalled_writes ≡ one_more (see old.line).stalled_writes
 
 pub data IsIdle (e : End) (came went : List ℕ) (k : SimMachine) (t : Exchange) (past : List Act) : Type 0 where
   line_is_full : IsHeldUp e k t past → IsIdle e came went k t past
@@ -258,14 +259,14 @@ pub data IsLeft (e : End) (k : SimMachine) (past : List Act) : Type 0 where
   frame_at_hand : (f : Frame) → k.deframer.next ≡ Some f → IsLeft e k past
 
 -- in each past that the simulated modem fits, something is left that takes memory
-abbrev pub WantsMemory : {X : Type 0} → (received sent : X → List ℕ) → SimState X → Type 0
-WantsMemory received sent s =
-    (at : LineAt) (e : End) (past : List Act) → FitsSim received sent at e s past → IsLeft e s.machine past
+abbrev pub WantsMemory : {X : Type 0} → (look : X → LineView) → SimState X → Type 0
+WantsMemory look s =
+    (at : LineView) (e : End) (past : List Act) → FitsSim look at e s past → IsLeft e s.machine past
 
 -- ## A turn
 
 -- what an answer says: that something was done; that nothing was, and why; that it is over
-pub data Means {X : Type 0} (see : Sight X) (e : End) (came went : List ℕ) (old new : SimState X)
+pub data Means {X : Type 0} (see : X → LineView) (e : End) (came went : List ℕ) (old new : SimState X)
     (t : Exchange) (acts past : List Act) : SimTurn → Type 0 where
   has_done : has_moved see old new acts ≡ true → Means see e came went old new t acts past Moved
   stood_still :
@@ -274,20 +275,20 @@ pub data Means {X : Type 0} (see : Sight X) (e : End) (came went : List ℕ) (ol
   is_over : is_ended new.machine ≡ true → Means see e came went old new t acts past Ended
 
 -- by all that a turn does, the past goes on to one that the simulated modem fits, and its answer is true of that
-pub record TurnFrom {X : Type 0} (see : Sight X) (at : LineAt) (e : End) (past : List Act)
+pub record TurnFrom {X : Type 0} (see : X → LineView) (at : LineView) (e : End) (past : List Act)
     (old new : SimState X) (t : Exchange) (says : SimTurn) : Type 0 where
   pub now : List Act
   pub later : IsLater past now
-  pub fits : FitsSim see.received see.sent at e new now
+  pub fits : FitsSim see at e new now
   pub does : is_ended old.machine ≡ false → DoesEach e old.machine new.machine t past now
   pub means : Means see e fits.came fits.went old new t later.newer now says
 
 -- a turn that ends in this answer, whatever past it fitted before
-pub record GoesTurn {X : Type 0} (see : Sight X) (old new : SimState X) (says : SimTurn) : Type 0 where
+pub record GoesTurn {X : Type 0} (see : X → LineView) (old new : SimState X) (says : SimTurn) : Type 0 where
   pub exchange : Exchange
   pub exchanges : Exchanges see old new exchange
   pub leaves : is_ended old.machine ≡ false → Leaves old.machine new.machine exchange
   pub idle : says ≡ Idle → IsIdleAtLine see old new
   pub turn :
-      (at : LineAt) (e : End) (past : List Act) → FitsSim see.received see.sent at e old past
+      (at : LineView) (e : End) (past : List Act) → FitsSim see at e old past
       → TurnFrom see at e past old new exchange says

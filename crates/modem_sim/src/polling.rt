@@ -1,6 +1,6 @@
 //! A simulated modem as a future. It keeps no handle, since no turn waits.
 ghost use Rattle.std.specs.Prelude.{◌≡◌, ◌+◌, ◌≤◌};
-ghost use Rattle.modem_sim.specs.Sims.{SimGoes, end_given, sight};
+ghost use Rattle.modem_sim.specs.Sims.{SimGoes, end_given};
 ghost use Rattle.modem_sim.specs.Polls.{Polls, Runs, with_given};
 
 use crate::error::SimError;
@@ -15,9 +15,9 @@ const TURNS: usize = 64;
 impl<L: SerialLine> Sim<L> {
     /// At most 64 turns, and none behind one that doesn't answer Moved. Nothing where there is more to come.
     fn turns(&mut self) -> Option<Result<SimTurn, SimError>>
-        ensures runs { Runs (sight L.received L.sent L.calls L.failures L.empty_reads L.stalled_writes) self.old self.new result }
-        ensures goes { SimGoes L.received L.sent self.old self.new }
-        ensures bounded { L.calls self.new.line ≤ L.calls self.old.line + 128 }
+        ensures runs { Runs L.seen self.old self.new result }
+        ensures goes { SimGoes L.seen self.old self.new }
+        ensures bounded { (L.seen self.new.line).calls ≤ (L.seen self.old.line).calls + 128 }
         ensures beyond { L.other_side self.new.line ≡ L.other_side self.old.line }
     {
         for _ in 0..TURNS {
@@ -52,9 +52,9 @@ impl<L: SerialLine> Sim<L> {
     /// Else it makes at most 64 turns and gives the end that they lead to. That end is kept, unless it is 1 NoMemory. Call it
     /// in a future of your own that hands the simulated modem on: a simulated modem polled as a future shows only its output.
     pub fn advance(&mut self) -> Option<Result<SimTurn, SimError>>
-        ensures polls { Polls (sight L.received L.sent L.calls L.failures L.empty_reads L.stalled_writes) self.old self.new result }
-        ensures goes { SimGoes L.received L.sent self.old self.new }
-        ensures bounded { L.calls self.new.line ≤ L.calls self.old.line + 128 }
+        ensures polls { Polls L.seen self.old self.new result }
+        ensures goes { SimGoes L.seen self.old self.new }
+        ensures bounded { (L.seen self.new.line).calls ≤ (L.seen self.old.line).calls + 128 }
         ensures beyond { L.other_side self.new.line ≡ L.other_side self.old.line }
     {
         if let Some(end) = self.end() {
@@ -70,11 +70,10 @@ impl<L: SerialLine> Sim<L> {
 /// turn; else it yields. A poll after an end makes no turn and gives the same end; after 1 NoMemory, which is no end, a poll goes on.
 impl<L: SerialLine + Drop> Future for Sim<L> {
     ghost use Rattle.modem_sim.specs.Polls.{Gives};
-    ghost use Rattle.modem_sim.specs.Sims.{sight};
 
     type Output = Result<SimTurn, SimError>;
 
-    ghost gives = { λ s given. Gives (sight L.received L.sent L.calls L.failures L.empty_reads L.stalled_writes) s given };
+    ghost gives = { λ s given. Gives L.seen s given };
 
     fn poll(&mut self, cx: &mut Context<'_>) -> Poll<Result<SimTurn, SimError>> {
         match self.advance() {

@@ -3,7 +3,7 @@ ghost use Rattle.std.specs.Prelude.{◌≡◌, ◌≢◌, ◌↔◌, ◌⊎◌, 
 ghost use Rattle.std.specs.Borrow.{Lends, sem};
 ghost use Rattle.mux_frame.specs.Spelling.{IsBadN1};
 ghost use Rattle.modem_sim.specs.Acts.{end_of};
-ghost use Rattle.modem_sim.specs.Sims.{FitsSim, SimGoes, end_given, failed_by, has_ended, has_failed, modem_of, sight};
+ghost use Rattle.modem_sim.specs.Sims.{FitsSim, SimGoes, end_given, failed_by, has_ended, has_failed, modem_of};
 ghost use Rattle.modem_sim.specs.Turns.{GoesTurn, WantsMemory};
 
 use crate::error::SimError;
@@ -63,7 +63,8 @@ impl<L: SerialLine> Sim<L> {
     ghost use Rattle.modem_sim.specs.contracts.sim.Sim.{the_row};
     ghost use Rattle.std.specs.Prelude.{List};
     ghost use Rattle.modem_sim.specs.Acts.{Act, End};
-    ghost use Rattle.modem_sim.specs.Sims.{LineAt, state_shown};
+    ghost use Rattle.serial_line.specs.LineViews.{LineView};
+    ghost use Rattle.modem_sim.specs.Sims.{state_shown};
 
     /// A new simulated modem, whatever its line did before. N1 is the most octets of information that a frame may have.
     /// Refusals, which hand everything back: 2 BadN1 where N1 isn't 31 to 32767, checked first; 1 NoMemory.
@@ -74,9 +75,7 @@ impl<L: SerialLine> Sim<L> {
         script: Script,
         n1: u16,
     ) -> Result<Sim<L>, SimRefused<L>>
-        ensures begins { IfOk result
-            (λ s. FitsSim L.received L.sent (record { received = L.received line; sent = L.sent line })
-            (end_of n1 modem script) s []) }
+        ensures begins { IfOk result (λ s. FitsSim L.seen (L.seen line) (end_of n1 modem script) s []) }
         ensures line { IfOk result (λ s. s.line ≡ line) }
         ensures sound { IfOk result (λ s. has_failed s ≡ false) }
         ensures goes_on { IfOk result (λ s. end_given s ≡ None) }
@@ -104,10 +103,8 @@ impl<L: SerialLine> Sim<L> {
     /// Refusals: 1 NoMemory, which drops nothing and leaves what takes memory to the next turn; 3 Line, where the line fails;
     /// 4 Failed, in every later turn, which does nothing.
     pub fn turn(&mut self) -> Result<SimTurn, SimError>
-        ensures goes { SimGoes L.received L.sent self.old self.new }
-        ensures turn { IfOk result (λ says. GoesTurn
-            (sight L.received L.sent L.calls L.failures L.empty_reads L.stalled_writes)
-            self.old self.new says) }
+        ensures goes { SimGoes L.seen self.old self.new }
+        ensures turn { IfOk result (λ says. GoesTurn L.seen self.old self.new says) }
         ensures failed { IsErrOf result SimError.Failed ↔ (has_failed self.old ≡ true) }
         ensures fails { has_failed self.new ≡ failed_by (has_failed self.old) result }
         ensures still { has_failed self.old ≡ true → self.new ≡ self.old }
@@ -116,15 +113,15 @@ impl<L: SerialLine> Sim<L> {
         ensures others { OnErr result
             (IsErrOf result SimError.Line
             ⊎ (IsErrOf result SimError.NoMemory ⊎ IsErrOf result SimError.Failed)) }
-        ensures memory { IsErrOf result SimError.NoMemory → WantsMemory L.received L.sent self.new }
+        ensures memory { IsErrOf result SimError.NoMemory → WantsMemory L.seen self.new }
         ensures ended { IfOk result (λ turn. turn ≡ SimTurn.Ended → has_ended self.new ≡ true) }
         ensures goes_on { IfOk result (λ turn. has_ended self.new ≡ true → turn ≡ SimTurn.Ended) }
         ensures end { end_given self.new ≡ end_given self.old }
-        ensures bounded { L.calls self.new.line ≤ L.calls self.old.line + 2 }
+        ensures bounded { (L.seen self.new.line).calls ≤ (L.seen self.old.line).calls + 2 }
         ensures beyond { L.other_side self.new.line ≡ L.other_side self.old.line }
-        ensures sound { result ≢ Err SimError.Line → L.failures self.new.line ≡ L.failures self.old.line }
+        ensures sound { result ≢ Err SimError.Line → (L.seen self.new.line).failures ≡ (L.seen self.old.line).failures }
         ensures failure { result ≡ Err SimError.Line
-            → L.failures self.new.line ≡ L.failures self.old.line + 1 }
+            → (L.seen self.new.line).failures ≡ (L.seen self.old.line).failures + 1 }
     {
         if self.machine.is_failed() {
             return Err(SimError::Failed);
@@ -146,7 +143,7 @@ impl<L: SerialLine> Sim<L> {
     /// was answered, which closes the multiplexer down as a CLD does (27.010, 5.4.6.3.3).
     #[tactic(auto, using(crate::proofs::sims::ShownStates::shown_is))]
     pub fn state(&self, dlci: Dlci) -> ChannelState
-        ensures { (at : LineAt) (e : End) (past : List Act) → FitsSim L.received L.sent at e self.now past
+        ensures { (at : LineView) (e : End) (past : List Act) → FitsSim L.seen at e self.now past
             → result ≡ state_shown dlci.number past }
     {
         self.machine.core.station.state(dlci)

@@ -1,8 +1,9 @@
 //! What a simulated modem keeps beside its line.
-ghost use Rattle.std.specs.Prelude.{◌≡◌, ◌≢◌, ◌↔◌, ◌⊎◌, ◌+◌, ◌<◌, ◌≤◌, [], ◌++◌, length, take, drop, true, false, None, IfOk, OnOk, OnErr, IsErrOf};
+ghost use Rattle.std.specs.Prelude.{◌≡◌, ◌≢◌, ◌↔◌, ◌⊎◌, ◌+◌, ◌<◌, ◌≤◌, [], length, true, false, None, IfOk, OnOk, OnErr, IsErrOf};
 ghost use Rattle.mux_frame.specs.Spelling.{IsBadN1};
+ghost use Rattle.serial_line.specs.LineViews.{after_fault};
 ghost use Rattle.modem_sim.specs.Cores.{HasNoneToDo, HasPassed, HasReleased, SaysNext};
-ghost use Rattle.modem_sim.specs.Sims.{BeginsAt, Receives, SimMachineFits, SimMachineGoes, is_ended};
+ghost use Rattle.modem_sim.specs.Sims.{BeginsAt, SimMachineFits, SimMachineGoes, is_ended};
 ghost use Rattle.modem_sim.specs.Stills.{Feeds, FeedsNone, LoadsBy, LoadsNone, ReadsOnce, TakesFrame, TakesNone, Writes};
 ghost use Rattle.modem_sim.specs.Acts.{any_act, end_of, is_step_act};
 
@@ -190,18 +191,11 @@ impl SimMachine {
 
     /// Offers the line what is to be written; says how many octets it took.
     pub(crate) fn write<L: SerialLine>(&mut self, line: &mut L) -> Result<usize, LineFault>
-        ensures went { IfOk result (λ n. L.sent line.new ≡ L.sent line.old ++ take n self.old.out) }
-        ensures kept { IfOk result (λ n. self.new ≡ record self.old { out = drop n self.old.out }) }
-        ensures none_went { OnErr result (L.sent line.new ≡ L.sent line.old) }
+        ensures writes { IfOk result (λ n. Writes (L.seen line.old) (L.seen line.new) self.old self.new n) }
         ensures err { OnErr result (self.new ≡ record self.old { failed = true }) }
-        ensures writes { IfOk result
-            (λ n. Writes (L.sent line.old) (L.sent line.new) (L.calls line.old) (L.calls line.new)
-            (L.stalled_writes line.old) (L.stalled_writes line.new) self.old self.new n) }
-        ensures none_empty { L.empty_reads line.new ≡ L.empty_reads line.old }
-        ensures none_came { L.received line.new ≡ L.received line.old }
-        ensures bounded { L.calls line.new ≤ L.calls line.old + 1 }
-        ensures sound { OnOk result (L.failures line.new ≡ L.failures line.old) }
-        ensures failure { OnErr result (L.failures line.new ≡ L.failures line.old + 1) }
+        ensures bounded { (L.seen line.new).calls ≤ (L.seen line.old).calls + 1 }
+        ensures sound { OnOk result ((L.seen line.new).failures ≡ (L.seen line.old).failures) }
+        ensures fault { OnErr result (L.seen line.new ≡ after_fault (L.seen line.old)) }
         ensures beyond { L.other_side line.new ≡ L.other_side line.old }
     {
         if self.line_end.is_written() {
@@ -212,18 +206,11 @@ impl SimMachine {
 
     /// Reads from the line, where nothing read waits; says whether any octets came.
     pub(crate) fn receive<L: SerialLine>(&mut self, line: &mut L) -> Result<bool, LineFault>
-        ensures came { OnOk result (Receives (L.received line.old) (L.received line.new) self.old self.new) }
-        ensures none_came { OnErr result (L.received line.new ≡ L.received line.old) }
+        ensures reads { IfOk result (λ came. ReadsOnce (L.seen line.old) (L.seen line.new) self.old self.new came) }
         ensures err { OnErr result (self.new ≡ record self.old { failed = true }) }
-        ensures none_went { L.sent line.new ≡ L.sent line.old }
-        ensures reads { IfOk result
-            (λ came.
-            ReadsOnce (L.received line.old) (L.received line.new) (L.calls line.old) (L.calls line.new)
-            (L.empty_reads line.old) (L.empty_reads line.new) self.old self.new came) }
-        ensures none_stalled { L.stalled_writes line.new ≡ L.stalled_writes line.old }
-        ensures bounded { L.calls line.new ≤ L.calls line.old + 1 }
-        ensures sound { OnOk result (L.failures line.new ≡ L.failures line.old) }
-        ensures failure { OnErr result (L.failures line.new ≡ L.failures line.old + 1) }
+        ensures bounded { (L.seen line.new).calls ≤ (L.seen line.old).calls + 1 }
+        ensures sound { OnOk result ((L.seen line.new).failures ≡ (L.seen line.old).failures) }
+        ensures fault { OnErr result (L.seen line.new ≡ after_fault (L.seen line.old)) }
         ensures beyond { L.other_side line.new ≡ L.other_side line.old }
     {
         if !self.line_end.is_fed() {

@@ -3,6 +3,7 @@ use Rattle.std.specs.Prelude.{ℕ, ◌+◌, ◌-◌, List, [], ◌++◌, length,
 use Rattle.serial_line.specs.declared.cuts.Cut.{Cut}
 use Rattle.serial_line.specs.declared.line.LineFault.{LineFault}
 use Rattle.serial_line.specs.Counts.{one_more, counted_if_none}
+use Rattle.serial_line.specs.LineViews.{LineView}
 use Rattle.serial_line.specs.OtherSide.{OtherSide}
 
 -- a line in memory, as contracts see it
@@ -46,6 +47,17 @@ room_to_send s = s.room - length s.sent
 -- what was sent and not yet given on
 abbrev pub unmoved : CutState → List ℕ
 unmoved s = drop s.moved s.sent
+
+-- what is seen of it as of any line
+abbrev pub cut_view : CutState → LineView
+cut_view s = record {
+  received = s.received;
+  sent = s.sent;
+  calls = s.calls;
+  failures = s.failures;
+  empty_reads = s.empty_reads;
+  stalled_writes = s.stalled_writes;
+}
 
 -- what was put in and carried to it, and what was taken and carried from it
 abbrev pub other_side_of : CutState → OtherSide

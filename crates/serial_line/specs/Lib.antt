@@ -1,4 +1,5 @@
 pub mod Counts
+pub mod LineViews
 pub mod Cuts
 pub mod OtherSide
 pub mod Tape

@@ -3,6 +3,7 @@ use Rattle.std.specs.Prelude.{◌≡◌, ℕ, Bool, true, false, List, [], Optio
 use Rattle.std.specs.declared.io.ErrorKind.{ErrorKind}
 use Rattle.std.specs.declared.io.ErrorKind.TheVariants.{Interrupted, WouldBlock, TimedOut}
 use Rattle.serial_line.specs.Counts.{one_more}
+use Rattle.serial_line.specs.LineViews.{LineView}
 use Rattle.serial_line.specs.declared.stream_line.ZeroRead.{ZeroRead}
 
 -- a line over a reader and a writer, as contracts see it
@@ -31,6 +32,17 @@ new_stream left held zero = record {
   empty_reads = 0;
   stalled_writes = 0;
   refusals = 0;
+}
+
+-- what is seen of it as of any line
+abbrev pub stream_view : StreamState → LineView
+stream_view s = record {
+  received = s.received;
+  sent = s.sent;
+  calls = s.calls;
+  failures = s.failures;
+  empty_reads = s.empty_reads;
+  stalled_writes = s.stalled_writes;
 }
 
 -- the reader or the writer refused this call for now

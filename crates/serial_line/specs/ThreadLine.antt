@@ -1,6 +1,7 @@
 -- A line between threads.
 use Rattle.std.specs.Prelude.{◌≡◌, ℕ, List, []}
 use Rattle.ring_id.specs.Rings.{RingId}
+use Rattle.serial_line.specs.LineViews.{LineView}
 
 -- one end of a line
 pub record EndState : Type 0 where
@@ -13,6 +14,17 @@ pub record EndState : Type 0 where
   pub stalled_writes : ℕ  -- so many writes could take octets and took none
   pub incoming : RingId
   pub outgoing : RingId
+
+-- what is seen of it as of any line: no call fails
+abbrev pub thread_view : EndState → LineView
+thread_view e = record {
+  received = e.received;
+  sent = e.sent;
+  calls = e.calls;
+  failures = 0;
+  empty_reads = e.empty_reads;
+  stalled_writes = e.stalled_writes;
+}
 
 -- these are the two ends of one line
 pub record AreEnds (a b : EndState) : Type 0 where

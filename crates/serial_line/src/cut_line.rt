@@ -2,7 +2,7 @@
 ghost use Rattle.std.specs.Prelude.{◌≡◌, ◌+◌, ◌^◌, ◌<◌, ◌≤◌, ◌++◌, take, drop, length, min, IfOk, OnErr, IsOkUnless};
 ghost use Rattle.serial_line.specs.Counts.{one_more};
 ghost use Rattle.serial_line.specs.Cuts.{outcome_of};
-ghost use Rattle.serial_line.specs.CutLine.{new_line, room_to_receive, room_to_send, unmoved, after_read, after_write, carried, after_carry, other_side_of};
+ghost use Rattle.serial_line.specs.CutLine.{cut_view, new_line, room_to_receive, room_to_send, unmoved, after_read, after_write, carried, after_carry, other_side_of};
 
 use crate::counting::count_if_none;
 use crate::cuts::{Cut, Cuts};
@@ -138,17 +138,7 @@ impl CutLine {
 }
 
 impl SerialLine for CutLine {
-    ghost received = { λ l. l.received };
-
-    ghost sent = { λ l. l.sent };
-
-    ghost calls = { λ l. l.calls };
-
-    ghost failures = { λ l. l.failures };
-
-    ghost empty_reads = { λ l. l.empty_reads };
-
-    ghost stalled_writes = { λ l. l.stalled_writes };
+    ghost seen = { cut_view };
 
     ghost other_side = { other_side_of };
 

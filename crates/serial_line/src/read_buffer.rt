@@ -1,6 +1,6 @@
 //! Octets that were read from a line and wait to be used.
-ghost use Rattle.std.specs.Prelude.{◌≡◌, ◌+◌, ◌≤◌, ◌==◌, ◌++◌, [], length, drop, IfOk, OnErr, OnOk};
-ghost use Rattle.serial_line.specs.Counts.{one_more, counted_if_none};
+ghost use Rattle.std.specs.Prelude.{◌≡◌, ◌≤◌, ◌==◌, [], length, drop, IfOk, OnErr};
+ghost use Rattle.serial_line.specs.LineViews.{after_read, after_fault};
 
 use crate::{LineFault, SerialLine};
 use std::alloc::{AllocError, Global};
@@ -69,15 +69,8 @@ impl ReadBuffer {
         ensures bound { IfOk result (λ n. n ≤ 512) }
         ensures count { IfOk result (λ n. n ≡ length self.new) }
         ensures none { OnErr result (self.new ≡ []) }
-        ensures came { L.received line.new ≡ L.received line.old ++ self.new }
-        ensures none_went { L.sent line.new ≡ L.sent line.old }
-        ensures counted { L.calls line.new ≡ one_more (L.calls line.old) }
-        ensures sound { OnOk result (L.failures line.new ≡ L.failures line.old) }
-        ensures failure { OnErr result (L.failures line.new ≡ L.failures line.old + 1) }
-        ensures empty { IfOk result (λ n.
-            L.empty_reads line.new ≡ counted_if_none 512 n (L.empty_reads line.old)) }
-        ensures not_empty { OnErr result (L.empty_reads line.new ≡ L.empty_reads line.old) }
-        ensures no_write { L.stalled_writes line.new ≡ L.stalled_writes line.old }
+        ensures came { IfOk result (λ n. L.seen line.new ≡ after_read 512 n self.new (L.seen line.old)) }
+        ensures fault { OnErr result (L.seen line.new ≡ after_fault (L.seen line.old)) }
         ensures beyond { L.other_side line.new ≡ L.other_side line.old }
     {
         self.start = 0;

@@ -9,7 +9,7 @@ ghost use Rattle.std.specs.IoError.{error_kind};
 ghost use Rattle.std.specs.Io.KnownBytes.{Keeps, Consumes, Appends, IsAtEnd};
 ghost use Rattle.serial_line.specs.Counts.{one_more, counted_if_none};
 ghost use Rattle.serial_line.specs.OtherSide.{unknown_side};
-ghost use Rattle.serial_line.specs.StreamLine.{new_stream, is_passing, IsRefused};
+ghost use Rattle.serial_line.specs.StreamLine.{new_stream, stream_view, is_passing, IsRefused};
 ghost use Rattle.serial_line.specs.declared.stream_line.ZeroRead.TheVariants.{Ended, Quiet};
 
 use crate::counting::count_if_none;
@@ -181,17 +181,7 @@ fn read_once<R: Read>(
 }
 
 impl<R: Read, W: Write> SerialLine for StreamLine<R, W> {
-    ghost received = { λ l. l.received };
-
-    ghost sent = { λ l. l.sent };
-
-    ghost calls = { λ l. l.calls };
-
-    ghost failures = { λ l. l.failures };
-
-    ghost empty_reads = { λ l. l.empty_reads };
-
-    ghost stalled_writes = { λ l. l.stalled_writes };
+    ghost seen = { stream_view };
 
     ghost other_side = { λ _. unknown_side };
 

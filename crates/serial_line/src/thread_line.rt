@@ -3,7 +3,7 @@ ghost use Rattle.std.specs.Prelude.{◌≡◌, ◌+◌, ◌<◌, ◌≤◌, ◌+
 ghost use mathlib.Core.List.{IsPrefix};
 ghost use Rattle.serial_line.specs.Counts.{one_more, counted_if_none};
 ghost use Rattle.serial_line.specs.OtherSide.{unknown_side};
-ghost use Rattle.serial_line.specs.ThreadLine.{AreEnds, IsNew};
+ghost use Rattle.serial_line.specs.ThreadLine.{AreEnds, IsNew, thread_view};
 
 use crate::counting::count_if_none;
 use crate::errors::LineError;
@@ -90,17 +90,7 @@ impl ThreadLine {
 }
 
 impl SerialLine for ThreadLine {
-    ghost received = { λ l. l.received };
-
-    ghost sent = { λ l. l.sent };
-
-    ghost calls = { λ l. l.calls };
-
-    ghost failures = { λ _. 0 };
-
-    ghost empty_reads = { λ l. l.empty_reads };
-
-    ghost stalled_writes = { λ l. l.stalled_writes };
+    ghost seen = { thread_view };
 
     ghost other_side = { λ _. unknown_side };
 

@@ -1,6 +1,5 @@
 //! A session's calls on its line.
 ghost use Rattle.std.specs.Prelude.{◌≡◌, ◌≢◌, [], OnErr, IfOk};
-ghost use Rattle.modem_driver.specs.SessionStates.{line_by};
 ghost use Rattle.modem_driver.specs.SessionTurns.{Feeds, MachineReads, MachineWrites};
 
 use crate::machine::Machine;
@@ -11,8 +10,7 @@ impl Machine {
     /// there is no call. A fault is kept in mind.
     #[tactic(auto, using(crate::proofs::sessions::steps::LineCalls::writes_none))]
     pub(crate) fn write_on<L: SerialLine>(&mut self, line: &mut L) -> bool
-        ensures writes { MachineWrites (line_by L.received L.sent L.calls L.failures L.empty_reads L.stalled_writes line.old)
-            (line_by L.received L.sent L.calls L.failures L.empty_reads L.stalled_writes line.new) self.old self.new result }
+        ensures writes { MachineWrites (L.seen line.old) (L.seen line.new) self.old self.new result }
         ensures beyond { L.other_side line.new ≡ L.other_side line.old }
     {
         if self.line_end.is_written() {
@@ -35,8 +33,7 @@ impl Machine {
     /// Reads from the line, once, where all octets were given to the deframer; and gives it those that
     /// wait. Says whether octets came, or were given to it. A fault is kept in mind.
     pub(crate) fn read_on<L: SerialLine>(&mut self, line: &mut L) -> bool
-        ensures reads { MachineReads (line_by L.received L.sent L.calls L.failures L.empty_reads L.stalled_writes line.old)
-            (line_by L.received L.sent L.calls L.failures L.empty_reads L.stalled_writes line.new) self.old self.new result }
+        ensures reads { MachineReads (L.seen line.old) (L.seen line.new) self.old self.new result }
         ensures beyond { L.other_side line.new ≡ L.other_side line.old }
     {
         if !self.line_end.is_fed() {

@@ -1,6 +1,6 @@
 //! A session as a future.
 ghost use Rattle.std.specs.Prelude.{◌≡◌, ◌+◌, ◌≤◌, IfErr, IfSome};
-ghost use Rattle.modem_driver.specs.SessionStates.{line_by, TakesMore};
+ghost use Rattle.modem_driver.specs.SessionStates.{TakesMore};
 ghost use Rattle.modem_history.specs.Turns.{says_moved};
 ghost use Rattle.modem_driver.specs.SessionTurns.{turn_answer, LeavesLost};
 ghost use Rattle.modem_driver.specs.Polls.{has_ended, end_given, end_in, with_end, SessionGoesOn, RunsTurns, PollsOn, Polls, SaysEnd, Gives};
@@ -49,9 +49,9 @@ impl<L: SerialLine, R: Wait + Drop> Session<L, R> {
     /// At most 64 turns, none behind one that doesn't answer Moved, and none once it has ended. Whether
     /// all 64 were made and answered so; or the fault by which the last one ended.
     fn turns(&mut self) -> Result<bool, SessionFault>
-        ensures runs { RunsTurns (line_by L.received L.sent L.calls L.failures L.empty_reads L.stalled_writes) self.old self.new result }
-        ensures goes { SessionGoesOn (line_by L.received L.sent L.calls L.failures L.empty_reads L.stalled_writes) self.old self.new }
-        ensures bounded { L.calls self.new.line ≤ L.calls self.old.line + 128 }
+        ensures runs { RunsTurns L.seen self.old self.new result }
+        ensures goes { SessionGoesOn L.seen self.old self.new }
+        ensures bounded { (L.seen self.new.line).calls ≤ (L.seen self.old.line).calls + 128 }
         ensures takes { TakesMore self.old.driver self.new.driver }
         ensures beyond { L.other_side self.new.line ≡ L.other_side self.old.line }
         ensures lost { IfErr result (λ why. LeavesLost why self.new) }
@@ -95,10 +95,10 @@ impl<L: SerialLine, R: Wait + Drop> Session<L, R> {
     /// What at most 64 turns lead to: Stopped where it has ended then, or the fault of the last one. It is
     /// kept as the end, but for 1 NoMemory. Where there is no end, whether there may be more to do.
     fn run(&mut self) -> Progress
-        ensures polls { PollsOn (line_by L.received L.sent L.calls L.failures L.empty_reads L.stalled_writes) self.old self.new result }
-        ensures goes { SessionGoesOn (line_by L.received L.sent L.calls L.failures L.empty_reads L.stalled_writes) self.old self.new }
-        ensures says { IfSome (end_in result) (SaysEnd (line_by L.received L.sent L.calls L.failures L.empty_reads L.stalled_writes) self.new) }
-        ensures bounded { L.calls self.new.line ≤ L.calls self.old.line + 128 }
+        ensures polls { PollsOn L.seen self.old self.new result }
+        ensures goes { SessionGoesOn L.seen self.old self.new }
+        ensures says { IfSome (end_in result) (SaysEnd L.seen self.new) }
+        ensures bounded { (L.seen self.new.line).calls ≤ (L.seen self.old.line).calls + 128 }
         ensures takes { TakesMore self.old.driver self.new.driver }
         ensures beyond { L.other_side self.new.line ≡ L.other_side self.old.line }
     {
@@ -124,10 +124,10 @@ impl<L: SerialLine, R: Wait + Drop> Session<L, R> {
     /// 64, up to the first that doesn't answer Moved. It gives the end, or, before that, whether there may be more to
     /// do at once. It is for a loop or a future of one's own: a session polled as a future shows only its output.
     pub fn advance(&mut self) -> Progress
-        ensures polls { Polls (line_by L.received L.sent L.calls L.failures L.empty_reads L.stalled_writes) self.old self.new result }
-        ensures goes { SessionGoesOn (line_by L.received L.sent L.calls L.failures L.empty_reads L.stalled_writes) self.old self.new }
-        ensures gives { IfSome (end_in result) (Gives (line_by L.received L.sent L.calls L.failures L.empty_reads L.stalled_writes) self.old) }
-        ensures bounded { L.calls self.new.line ≤ L.calls self.old.line + 128 }
+        ensures polls { Polls L.seen self.old self.new result }
+        ensures goes { SessionGoesOn L.seen self.old self.new }
+        ensures gives { IfSome (end_in result) (Gives L.seen self.old) }
+        ensures bounded { (L.seen self.new.line).calls ≤ (L.seen self.old.line).calls + 128 }
         ensures takes { TakesMore self.old.driver self.new.driver }
         ensures beyond { L.other_side self.new.line ≡ L.other_side self.old.line }
     {
@@ -144,12 +144,11 @@ impl<L: SerialLine, R: Wait + Drop> Session<L, R> {
 /// between; 1 NoMemory is no end, and the next poll goes on. After a fault, call `turn` to place what still waits, or
 /// take it from `finish`.
 impl<L: SerialLine + Drop, R: Wait + Drop> Future for Session<L, R> {
-    ghost use Rattle.modem_driver.specs.SessionStates.{line_by};
     ghost use Rattle.modem_driver.specs.Polls.{Gives};
 
     type Output = Result<Ended, SessionFault>;
 
-    ghost gives = { λ s end. Gives (line_by L.received L.sent L.calls L.failures L.empty_reads L.stalled_writes) s end };
+    ghost gives = { λ s end. Gives L.seen s end };
 
     fn poll(&mut self, cx: &mut Context<'_>) -> Poll<Result<Ended, SessionFault>> {
         match self.advance() {

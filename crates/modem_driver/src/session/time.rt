@@ -4,7 +4,7 @@ ghost use Rattle.std.specs.List.{list_any};
 ghost use Rattle.modem_history.specs.Acts.{Act, in_hand};
 ghost use Rattle.modem_history.specs.Sessions.{Beginning};
 ghost use Rattle.modem_driver.specs.Endpoints.{wants_time};
-ghost use Rattle.modem_driver.specs.SessionStates.{FitsAll, line_by};
+ghost use Rattle.modem_driver.specs.SessionStates.{FitsAll};
 ghost use Rattle.modem_driver.specs.WaitingTicks.{waiting_ticks};
 
 use crate::session::Session;
@@ -17,8 +17,7 @@ impl<L: SerialLine, R: Wait + Drop> Session<L, R> {
     /// every history that the session fits. Where none does, the caller needn't count time, unless it goes by `waiting_ticks`.
     #[tactic(auto, using(crate::proofs::EntryTries::hand_wants))]
     pub fn wants_tick(&self) -> bool
-        ensures { (b : Beginning) (past : List Act)
-            → FitsAll b (line_by L.received L.sent L.calls L.failures L.empty_reads L.stalled_writes) self.now past
+        ensures { (b : Beginning) (past : List Act) → FitsAll b L.seen self.now past
             → result ≡ list_any wants_time (in_hand past) }
     {
         self.machine.wants_tick()
@@ -29,8 +28,7 @@ impl<L: SerialLine, R: Wait + Drop> Session<L, R> {
     /// by this count, tick in each T1.
     #[tactic(auto, using(crate::proofs::sessions::steps::WaitedTicks::session_shows))]
     pub fn waiting_ticks(&self, dlci: Dlci) -> Option<u64>
-        ensures { (b : Beginning) (past : List Act)
-            → FitsAll b (line_by L.received L.sent L.calls L.failures L.empty_reads L.stalled_writes) self.now past
+        ensures { (b : Beginning) (past : List Act) → FitsAll b L.seen self.now past
             → result ≡ waiting_ticks dlci.number past }
     {
         self.machine.waiting_ticks(dlci)

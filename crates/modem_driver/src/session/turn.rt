@@ -1,7 +1,7 @@
 //! Turns of a session.
 ghost use Rattle.std.specs.Prelude.{◌≡◌, ◌≢◌, true, false, None, Err, IfOk, IfErr, OnErr};
 ghost use Rattle.modem_driver.specs.GettingSteps.{HasData};
-ghost use Rattle.modem_driver.specs.SessionStates.{has_lost_line, line_by, TakesMore};
+ghost use Rattle.modem_driver.specs.SessionStates.{has_lost_line, TakesMore};
 ghost use Rattle.modem_driver.specs.TurnSteps.{Places, Checks, SendsOn, Writes, Gets, ReadsOn, TakesOne};
 ghost use Rattle.modem_driver.specs.SessionTurns.{standing_of, turn_answer, fault_of, Answers, HasNoPlace, HasTurned, LeavesLost, LosesOr, TakesTurn, Faults};
 ghost use Rattle.modem_driver.specs.declared.session.error.SessionFault.TheVariants as fault;
@@ -52,8 +52,7 @@ impl<L: SerialLine, R: Wait + Drop> Session<L, R> {
 
     /// Offers what waits to the desk.
     fn place(&mut self) -> bool
-        ensures places { Places (standing_of (line_by L.received L.sent L.calls L.failures L.empty_reads L.stalled_writes) self.old)
-            (standing_of (line_by L.received L.sent L.calls L.failures L.empty_reads L.stalled_writes) self.new) result }
+        ensures places { Places (standing_of L.seen self.old) (standing_of L.seen self.new) result }
         ensures line { self.new.line ≡ self.old.line }
     {
         self.machine.place(&mut self.driver)
@@ -61,9 +60,7 @@ impl<L: SerialLine, R: Wait + Drop> Session<L, R> {
 
     /// Looks at the backlogs.
     fn check_backlogs(&mut self) -> bool
-        ensures checks { Checks
-            (standing_of (line_by L.received L.sent L.calls L.failures L.empty_reads L.stalled_writes) self.old)
-            (standing_of (line_by L.received L.sent L.calls L.failures L.empty_reads L.stalled_writes) self.new) result }
+        ensures checks { Checks (standing_of L.seen self.old) (standing_of L.seen self.new) result }
         ensures line { self.new.line ≡ self.old.line }
     {
         self.machine.check_backlogs()
@@ -72,8 +69,7 @@ impl<L: SerialLine, R: Wait + Drop> Session<L, R> {
     /// Takes the next frame into the output.
     #[tactic(auto, unfolding(crate::specs::SendingSteps::MachineSends))]
     fn send_on(&mut self) -> bool
-        ensures sends { SendsOn (standing_of (line_by L.received L.sent L.calls L.failures L.empty_reads L.stalled_writes) self.old)
-            (standing_of (line_by L.received L.sent L.calls L.failures L.empty_reads L.stalled_writes) self.new) result }
+        ensures sends { SendsOn (standing_of L.seen self.old) (standing_of L.seen self.new) result }
         ensures line { self.new.line ≡ self.old.line }
     {
         self.machine.send_on()
@@ -82,8 +78,7 @@ impl<L: SerialLine, R: Wait + Drop> Session<L, R> {
     /// Writes to the line.
     #[tactic(auto, unfolding(crate::specs::SessionTurns::MachineWrites))]
     fn write_on(&mut self) -> bool
-        ensures writes { Writes (standing_of (line_by L.received L.sent L.calls L.failures L.empty_reads L.stalled_writes) self.old)
-            (standing_of (line_by L.received L.sent L.calls L.failures L.empty_reads L.stalled_writes) self.new) result }
+        ensures writes { Writes (standing_of L.seen self.old) (standing_of L.seen self.new) result }
         ensures beyond { L.other_side self.new.line ≡ L.other_side self.old.line }
     {
         self.machine.write_on(&mut self.line)
@@ -92,9 +87,7 @@ impl<L: SerialLine, R: Wait + Drop> Session<L, R> {
     /// Handles the frame at hand.
     #[tactic(auto, unfolding(crate::specs::GettingSteps::MachineGets))]
     fn get_one(&mut self) -> Result<bool, SessionFault>
-        ensures gets { IfOk result (λ moved. Gets
-            (standing_of (line_by L.received L.sent L.calls L.failures L.empty_reads L.stalled_writes) self.old)
-            (standing_of (line_by L.received L.sent L.calls L.failures L.empty_reads L.stalled_writes) self.new) moved) }
+        ensures gets { IfOk result (λ moved. Gets (standing_of L.seen self.old) (standing_of L.seen self.new) moved) }
         ensures err { OnErr result (self.new ≡ self.old) }
         ensures at_hand { OnErr result (HasData self.new.machine) }
         ensures no_memory { OnErr result (result ≡ Err fault.NoMemory) }
@@ -106,8 +99,7 @@ impl<L: SerialLine, R: Wait + Drop> Session<L, R> {
     /// Reads from the line, and feeds.
     #[tactic(auto, unfolding(crate::specs::SessionTurns::MachineReads))]
     fn read_on(&mut self) -> bool
-        ensures reads { ReadsOn (standing_of (line_by L.received L.sent L.calls L.failures L.empty_reads L.stalled_writes) self.old)
-            (standing_of (line_by L.received L.sent L.calls L.failures L.empty_reads L.stalled_writes) self.new) result }
+        ensures reads { ReadsOn (standing_of L.seen self.old) (standing_of L.seen self.new) result }
         ensures beyond { L.other_side self.new.line ≡ L.other_side self.old.line }
     {
         self.machine.read_on(&mut self.line)
@@ -115,9 +107,7 @@ impl<L: SerialLine, R: Wait + Drop> Session<L, R> {
 
     /// Takes a request.
     fn take_one(&mut self) -> bool
-        ensures takes { TakesOne
-            (standing_of (line_by L.received L.sent L.calls L.failures L.empty_reads L.stalled_writes) self.old)
-            (standing_of (line_by L.received L.sent L.calls L.failures L.empty_reads L.stalled_writes) self.new) result }
+        ensures takes { TakesOne (standing_of L.seen self.old) (standing_of L.seen self.new) result }
         ensures line { self.new.line ≡ self.old.line }
     {
         self.machine.take_one(&mut self.driver, &self.rt)
@@ -130,8 +120,7 @@ impl<L: SerialLine, R: Wait + Drop> Session<L, R> {
         ensures lost { LeavesLost result self.new }
         ensures never { result ≢ fault.NoMemory }
         ensures line { self.new.line ≡ self.old.line }
-        ensures loses { LosesOr result (standing_of (line_by L.received L.sent L.calls L.failures L.empty_reads L.stalled_writes) self.old)
-            (standing_of (line_by L.received L.sent L.calls L.failures L.empty_reads L.stalled_writes) self.new) }
+        ensures loses { LosesOr result (standing_of L.seen self.old) (standing_of L.seen self.new) }
     {
         if self.machine.core.is_lost() {
             return SessionFault::Failed;
@@ -148,12 +137,9 @@ impl<L: SerialLine, R: Wait + Drop> Session<L, R> {
     /// hand, while what was done before stands; 2 Line, where a call on the line failed in this turn; 3 Failed in
     /// every turn after that, which still offers to the desk what waits.
     pub fn turn(&mut self) -> Result<Turn, SessionFault>
-        ensures turns { IfOk result (λ says. TakesTurn (line_by L.received L.sent L.calls L.failures L.empty_reads L.stalled_writes)
-            self.old self.new (turn_answer says)) }
-        ensures faults { IfErr result (λ why. Faults (line_by L.received L.sent L.calls L.failures L.empty_reads L.stalled_writes)
-            self.old self.new (fault_of why)) }
-        ensures turned { HasTurned (standing_of (line_by L.received L.sent L.calls L.failures L.empty_reads L.stalled_writes) self.old)
-            (standing_of (line_by L.received L.sent L.calls L.failures L.empty_reads L.stalled_writes) self.new) }
+        ensures turns { IfOk result (λ says. TakesTurn L.seen self.old self.new (turn_answer says)) }
+        ensures faults { IfErr result (λ why. Faults L.seen self.old self.new (fault_of why)) }
+        ensures turned { HasTurned (standing_of L.seen self.old) (standing_of L.seen self.new) }
         ensures lost { IfErr result (λ why. LeavesLost why self.new) }
         ensures failed { has_lost_line self.old ≡ true → result ≡ Err fault.Failed }
         ensures memory { result ≡ Err fault.NoMemory → HasData self.new.machine }

@@ -3,6 +3,7 @@ use Rattle.std.specs.Prelude.{◌≡◌, ℕ, nat_lt, ◌||◌, codes, Bool, tru
 use Rattle.std.proofs.Common.{arith, sym, ap, ◌∙◌}
 use Rattle.std.proofs.lemmas.Bool.Decides.{nat_tests}
 use Rattle.mux_frame.specs.Reading.{no_flag}
+use Rattle.serial_line.specs.LineViews.{LineView}
 use Rattle.modem_sim.specs.declared.error.SimError.TheVariants as why
 use Rattle.modem_sim.specs.declared.script.StepAct.TheVariants.{Announce}
 use Rattle.modem_sim.specs.declared.script.Step.{Step}
@@ -149,10 +150,10 @@ nothing_wants k still (frame_at_hand f hand) = none_some f (sym still.hand ∙ h
 pub want_rows : WantRows
 want_rows = (step_wants, frame_wants, nothing_wants)
 
-no_line : (s : SimState ℕ) → ¬ Says (λ l. l) s s (Err why.Line)
+no_line : (s : SimState LineView) → ¬ Says (λ l. l) s s (Err why.Line)
 no_line s fails = let one = fails.one_failed in absurd (omega (arith, one))
 
-no_failed : (old new : SimState ℕ) → has_failed old ≡ false → ¬ Says (λ l. l) old new (Err why.Failed)
+no_failed : (old new : SimState LineView) → has_failed old ≡ false → ¬ Says (λ l. l) old new (Err why.Failed)
 no_failed old new sound had = not_both (has_failed old) had.before sound
 
 -- a poll gives no Line where no call failed, no Failed where none had, and neither Idle nor Moved nor BadN1

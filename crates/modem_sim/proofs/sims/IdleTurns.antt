@@ -24,6 +24,7 @@ use Rattle.mux_station.proofs.user_calls.ProbeStopFlowOffer.{sees_the_past}
 use Rattle.mux_station.proofs.received.AnsweredFrames.{sees_the_frame}
 use Rattle.mux_station.proofs.states.StationPasts.{stopped_fits}
 use Rattle.std.specs.Result.{IsErrAnd}
+use Rattle.serial_line.specs.LineViews.{LineView}
 use Rattle.modem_sim.specs.declared.error.SimError.{SimError}
 use Rattle.modem_sim.specs.declared.error.SimError.TheVariants.{NoMemory}
 use Rattle.modem_sim.specs.declared.sim.SimTurn.{SimTurn}
@@ -180,8 +181,8 @@ refused_by (Ok turn) e is none there = cc
 refused_by (Err y) e is none there = let same : y ≡ NoMemory = cc in there (ap (λ (x : SimError). Err x) (sym is ∙ same))
 
 -- so memory is wanted in each past
-pub wants_memory : {X : Type 0} (received sent_by : X → List ℕ) (s : SimState X) → LeavesUndone s.machine → WantsMemory received sent_by s
-wants_memory received sent_by s left at e past fits = is_left e fits.came fits.went s.machine past left fits.machine_fits
+pub wants_memory : {X : Type 0} (look : X → LineView) (s : SimState X) → LeavesUndone s.machine → WantsMemory look s
+wants_memory look s left at e past fits = is_left e fits.came fits.went s.machine past left fits.machine_fits
 
 -- ## What goes out
 

@@ -1,35 +1,36 @@
 -- The turns of a poll, through each history of the state before them.
 use Rattle.std.specs.Prelude.{ℕ, List, [], Option, Result, Ok, refl}
+use Rattle.serial_line.specs.LineViews.{LineView}
 use Rattle.modem_sim.specs.declared.error.SimError.{SimError}
 use Rattle.modem_sim.specs.declared.sim.SimTurn.{SimTurn}
 use Rattle.modem_sim.specs.declared.sim.SimTurn.TheVariants.{Moved, Idle, Ended}
 use Rattle.modem_sim.specs.Acts.{Act, End}
 use Rattle.modem_sim.specs.Cores.{IsLater}
-use Rattle.modem_sim.specs.Sims.{FitsSim, LineAt, Sight, SimState}
+use Rattle.modem_sim.specs.Sims.{FitsSim, SimState}
 use Rattle.modem_sim.specs.Polls.{MovesOn, MovesThrough, Runs, RunsInHistories, Turned, TurnsTo, ends, ends_through, fails, fails_through, goes_on, goes_on_through, moves_none, moves_once, moves_through, moves_through_none, rests, rests_through}
 use Rattle.modem_sim.proofs.ends.OfferedPieces.{later_then}
 
 -- so many turns went on to a past
-record MovedTo {X : Type 0} (see : Sight X) (at : LineAt) (e : End) (old : SimState X) (past : List Act) (n : ℕ) (new : SimState X) : Type 0 where
+record MovedTo {X : Type 0} (see : X → LineView) (at : LineView) (e : End) (old : SimState X) (past : List Act) (n : ℕ) (new : SimState X) : Type 0 where
   now : List Act
   later : IsLater past now
-  fits : FitsSim see.received see.sent at e new now
+  fits : FitsSim see at e new now
   moves : MovesThrough see at e old past n new now
 
 -- one more did
-record TurnedTo {X : Type 0} (see : Sight X) (at : LineAt) (e : End) (past : List Act) (old new : SimState X) (says : SimTurn) : Type 0 where
+record TurnedTo {X : Type 0} (see : X → LineView) (at : LineView) (e : End) (past : List Act) (old new : SimState X) (says : SimTurn) : Type 0 where
   now : List Act
   later : IsLater past now
-  fits : FitsSim see.received see.sent at e new now
+  fits : FitsSim see at e new now
   turns : TurnsTo see at e past now old new says
 
-module _ {X : Type 0} (see : Sight X) (at : LineAt) (e : End) (past : List Act) where
-  turned_to : (between : List Act) (mid new : SimState X) (says : SimTurn) → Turned see mid new (Ok says) → FitsSim see.received see.sent at e mid between → TurnedTo see at e between mid new says
+module _ {X : Type 0} (see : X → LineView) (at : LineView) (e : End) (past : List Act) where
+  turned_to : (between : List Act) (mid new : SimState X) (says : SimTurn) → Turned see mid new (Ok says) → FitsSim see at e mid between → TurnedTo see at e between mid new says
   turned_to between mid new says turned fits =
       let from = turned.turn.turn at e between fits in
       record { now = from.now; later = from.later; fits = from.fits; turns = record { turned = turned; from = from; now_is = refl } }
 
-  moved_to : (old new : SimState X) (n : ℕ) → MovesOn see old n new → FitsSim see.received see.sent at e old past → MovedTo see at e old past n new
+  moved_to : (old new : SimState X) (n : ℕ) → MovesOn see old n new → FitsSim see at e old past → MovedTo see at e old past n new
   moved_to old _ _ moves_none fits = record { now = past; later = record { newer = []; joins = refl }; fits = fits; moves = moves_through_none }
   moved_to old _ _ (moves_once n mid new moves turn) fits =
       let before = moved_to old mid n moves fits in
@@ -42,7 +43,7 @@ module _ {X : Type 0} (see : Sight X) (at : LineAt) (e : End) (past : List Act) 
       }
 
 -- whatever past a simulated modem fitted, the turns of a poll go on from it, each true of its part
-pub runs_in_histories : {X : Type 0} (see : Sight X) (old new : SimState X) (given : Option (Result SimTurn SimError)) → Runs see old new given → RunsInHistories see old new given
+pub runs_in_histories : {X : Type 0} (see : X → LineView) (old new : SimState X) (given : Option (Result SimTurn SimError)) → Runs see old new given → RunsInHistories see old new given
 runs_in_histories see old new _ (goes_on moves) at e past fits =
     let all = moved_to see at e past old new 64 moves fits in
     record { now = all.now; later = all.later; fits = all.fits; runs = goes_on_through all.moves }

@@ -7,11 +7,12 @@ use Rattle.mux_station.specs.Fitting as fitting
 use Rattle.mux_station.specs.Stages.{as_shown}
 use Rattle.mux_station.specs.Sending as sending
 use Rattle.mux_station.specs.States.{state_of}
+use Rattle.serial_line.specs.LineViews.{LineView}
 use Rattle.modem_sim.specs.Acts.{Act, End, wire}
-use Rattle.modem_sim.specs.Sims.{FitsSim, LineAt, SimState, state_shown}
+use Rattle.modem_sim.specs.Sims.{FitsSim, SimState, state_shown}
 
 -- the state of a connection that the station shows is the one after the past
-pub shown_is : {X : Type 0} (received sent : X → List ℕ) (s : SimState X) (d : ℕ) (shown : ChannelState) (at : LineAt) (e : End) (past : List Act) → ((past : List station.Act) → fitting.StationFits s.machine.core.station past → shown ≡ as_shown (state_of s.machine.core.station.role d past)) → FitsSim received sent at e s past → shown ≡ state_shown d past
-shown_is received sent s d shown at e past says fits =
+pub shown_is : {X : Type 0} (look : X → LineView) (s : SimState X) (d : ℕ) (shown : ChannelState) (at : LineView) (e : End) (past : List Act) → ((past : List station.Act) → fitting.StationFits s.machine.core.station past → shown ≡ as_shown (state_of s.machine.core.station.role d past)) → FitsSim look at e s past → shown ≡ state_shown d past
+shown_is look s d shown at e past says fits =
     let core = fits.machine_fits.core_fits in
     says (wire past) core.station_is ∙ ap (λ (x : sending.StationSetting). as_shown (state_of x.role d (wire past))) core.setting_is

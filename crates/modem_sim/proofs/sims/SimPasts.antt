@@ -10,6 +10,7 @@ use Rattle.mux_frame.specs.Reading.{Reads}
 use Rattle.mux_frame.proofs.readings.ComputedReadings.{total_reading}
 use Rattle.at_cmds.proofs.command_texts.CommandLines.{both_true}
 use Rattle.std.proofs.lemmas.Bool.Decides.{nat_tests}
+use Rattle.serial_line.specs.LineViews.{LineView, after_fault}
 use Rattle.modem_sim.specs.Histories.{got, sent}
 use Rattle.mux_station.specs.Acts as station
 use Rattle.mux_station.specs.Sending as sending
@@ -19,8 +20,9 @@ use Rattle.mux_station.specs.Giving.{data_frame, data_given, station_after, next
 use Rattle.mux_station.specs.GivenFrames.{Outgoing, with_freshness}
 use Rattle.modem_sim.specs.Acts.{Act, Wire, End, any_act, setting, wire}
 use Rattle.modem_sim.specs.Cores.{Core, Goes, EndGoesOn, GivesOut, IsGivenOn, IsLater, after_wire_act, gone_on}
-use Rattle.modem_sim.specs.Sims.{SimMachine, SimMachineFits, SimMachineGoes, Receives, SimState, SimGoes, Simulates, IsOver, is_ended}
-use Rattle.modem_sim.specs.Stills.{SimMachineStays, TakesFrame}
+use Rattle.modem_sim.specs.Sims.{SimMachine, SimMachineFits, SimMachineGoes, SimState, SimGoes, Simulates, IsOver, is_ended}
+use Rattle.modem_sim.specs.Stills.{ReadsOnce, SimMachineStays, TakesFrame, Writes}
+use Rattle.modem_sim.specs.Turns.{left_of, octets_read, octets_written}
 use Rattle.modem_sim.proofs.ends.EndAfterFrame.{later-sent_after}
 use Rattle.modem_sim.proofs.ends.OfferedPieces.{later_then}
 use Rattle.mux_station.proofs.law_proofs.PlainFrames.{plain_short}
@@ -163,32 +165,32 @@ machine_read e came went past old octets fits = record {
   went_is = fits.went_is;
 }
 
--- octets went
-pub machine_wrote : (e : End) (came went : List ℕ) (past : List Act) (old : SimMachine) (n : ℕ) → SimMachineFits e came went old past → SimMachineFits e came (went ++ take n old.out) (record old { out = drop n old.out }) past
-machine_wrote e came went past old n fits = record {
+-- octets went, and others are left
+pub machine_wrote : (e : End) (came went : List ℕ) (past : List Act) (old : SimMachine) (gone left : List ℕ) → gone ++ left ≡ old.out → SimMachineFits e came went old past → SimMachineFits e came (went ++ gone) (record old { out = left }) past
+machine_wrote e came went past old gone left parts fits = record {
   wired = fits.wired;
   core_fits = fits.core_fits;
   n1_is = fits.n1_is;
   taken = fits.taken;
   came_is = fits.came_is;
   deframes = fits.deframes;
-  went_is = append_assoc went (take n old.out) (drop n old.out) ∙ ap (λ x. went ++ x) (take-append-drop n old.out) ∙ fits.went_is;
+  went_is = append_assoc went gone left ∙ ap (λ x. went ++ x) parts ∙ fits.went_is;
 }
 
 -- a simulated modem goes on by nothing
-pub sim_none : {X : Type 0} (received sent : X → List ℕ) (s : SimState X) → SimGoes received sent s s
-sim_none received sent s at e past fits = record { now = past; later = record { newer = []; joins = refl }; fits = fits }
+pub sim_none : {X : Type 0} (look : X → LineView) (s : SimState X) → SimGoes look s s
+sim_none look s at e past fits = record { now = past; later = record { newer = []; joins = refl }; fits = fits }
 
 -- and by one thing after another
-pub sim_then : {X : Type 0} (received sent : X → List ℕ) (a b c : SimState X) → SimGoes received sent a b → SimGoes received sent b c → SimGoes received sent a c
-sim_then received sent a b c p q at e past fits =
+pub sim_then : {X : Type 0} (look : X → LineView) (a b c : SimState X) → SimGoes look a b → SimGoes look b c → SimGoes look a c
+sim_then look a b c p q at e past fits =
     let first = p at e past fits in
     let second = q at e first.now first.fits in
     record { now = second.now; later = later_then past first.now second.now first.later second.later; fits = second.fits }
 
 -- the line as it was
-pub sim_machine_goes : {X : Type 0} (received sent : X → List ℕ) (s : SimState X) (may : Act → Bool) (k : SimMachine) → SimMachineGoes may s.machine k → SimGoes received sent s (record s { machine = k })
-sim_machine_goes received sent s may k goes at e past fits =
+pub sim_machine_goes : {X : Type 0} (look : X → LineView) (s : SimState X) (may : Act → Bool) (k : SimMachine) → SimMachineGoes may s.machine k → SimGoes look s (record s { machine = k })
+sim_machine_goes look s may k goes at e past fits =
     let went_on = goes e fits.came fits.went past fits.machine_fits in
     record {
       now = went_on.now;
@@ -214,62 +216,66 @@ machine_failed k e came went past fits = record {
 }
 
 -- another line on which the same came and went
-pub sim_line : {X : Type 0} (received sent : X → List ℕ) (s : SimState X) (line : X) → received line ≡ received s.line → sent line ≡ sent s.line → SimGoes received sent s (record s { line = line })
-sim_line received sent s line came went at e past fits = record {
+pub sim_line : {X : Type 0} (look : X → LineView) (s : SimState X) (line : X) → (look line).received ≡ (look s.line).received → (look line).sent ≡ (look s.line).sent → SimGoes look s (record s { line = line })
+sim_line look s line came went at e past fits = record {
   now = past;
   later = record { newer = []; joins = refl };
   fits = record { came = fits.came; went = fits.went; received_is = came ∙ fits.received_is; sent_is = went ∙ fits.sent_is; machine_fits = fits.machine_fits };
 }
 
 -- octets came, which wait for the deframer
-pub sim_read : {X : Type 0} (received sent : X → List ℕ) (s : SimState X) (line : X) (k : SimMachine) → Receives (received s.line) (received line) s.machine k → sent line ≡ sent s.line → SimGoes received sent s (record { line = line; machine = k })
-sim_read received sent s line k got went at e past fits =
-    let At : SimMachine → Type 0 = λ x. SimMachineFits e (fits.came ++ got.fresh) fits.went x past in
+pub sim_read : {X : Type 0} (look : X → LineView) (s : SimState X) (line : X) (k : SimMachine) (came : Bool) → ReadsOnce (look s.line) (look line) s.machine k came → SimGoes look s (record { line = line; machine = k })
+sim_read look s line k came got at e past fits =
+    let fresh = octets_read got.read in
+    let At : SimMachine → Type 0 = λ x. SimMachineFits e (fits.came ++ fresh) fits.went x past in
     record {
       now = past;
       later = record { newer = []; joins = refl };
       fits = record {
-        came = fits.came ++ got.fresh;
+        came = fits.came ++ fresh;
         went = fits.went;
-        received_is = got.came ∙ ap (λ x. x ++ got.fresh) fits.received_is ∙ append_assoc at.received fits.came got.fresh;
-        sent_is = went ∙ fits.sent_is;
-        machine_fits = subst At (sym got.kept) (machine_read e fits.came fits.went past s.machine got.fresh fits.machine_fits);
+        received_is = got.came_are ∙ ap (λ x. x ++ fresh) fits.received_is ∙ append_assoc at.received fits.came fresh;
+        sent_is = got.none_went ∙ fits.sent_is;
+        machine_fits = subst At (sym got.kept) (machine_read e fits.came fits.went past s.machine fresh fits.machine_fits);
       };
     }
 
--- the line took the first of the octets that wait for it
-pub sim_wrote : {X : Type 0} (received sent : X → List ℕ) (s : SimState X) (line : X) (k : SimMachine) (n : ℕ) → received line ≡ received s.line → sent line ≡ sent s.line ++ take n s.machine.out → k ≡ record s.machine { out = drop n s.machine.out } → SimGoes received sent s (record { line = line; machine = k })
-sim_wrote received sent s line k n came went is at e past fits =
-    let At : SimMachine → Type 0 = λ x. SimMachineFits e fits.came (fits.went ++ take n s.machine.out) x past in
+-- the line took some of the octets that wait for it
+pub sim_wrote : {X : Type 0} (look : X → LineView) (s : SimState X) (line : X) (k : SimMachine) (n : ℕ) → Writes (look s.line) (look line) s.machine k n → SimGoes look s (record { line = line; machine = k })
+sim_wrote look s line k n wrote at e past fits =
+    let gone = octets_written wrote.write in
+    let At : SimMachine → Type 0 = λ x. SimMachineFits e fits.came (fits.went ++ gone) x past in
     record {
       now = past;
       later = record { newer = []; joins = refl };
       fits = record {
         came = fits.came;
-        went = fits.went ++ take n s.machine.out;
-        received_is = came ∙ fits.received_is;
-        sent_is = went ∙ ap (λ x. x ++ take n s.machine.out) fits.sent_is ∙ append_assoc at.sent fits.went (take n s.machine.out);
-        machine_fits = subst At (sym is) (machine_wrote e fits.came fits.went past s.machine n fits.machine_fits);
+        went = fits.went ++ gone;
+        received_is = wrote.none_came ∙ fits.received_is;
+        sent_is = wrote.went ∙ ap (λ x. x ++ gone) fits.sent_is ∙ append_assoc at.sent fits.went gone;
+        machine_fits = subst At (sym wrote.kept) (machine_wrote e fits.came fits.went past s.machine gone (left_of wrote.write s.machine.out) wrote.parts fits.machine_fits);
       };
     }
 
 -- the line failed
-pub sim_failed : {X : Type 0} (received sent : X → List ℕ) (s : SimState X) (line : X) (k : SimMachine) → received line ≡ received s.line → sent line ≡ sent s.line → k ≡ record s.machine { failed = true } → SimGoes received sent s (record { line = line; machine = k })
-sim_failed received sent s line k came went is =
-    let At : SimMachine → Type 0 = λ x. SimGoes received sent s (record { line = line; machine = x }) in
+pub sim_failed : {X : Type 0} (look : X → LineView) (s : SimState X) (line : X) (k : SimMachine) → look line ≡ after_fault (look s.line) → k ≡ record s.machine { failed = true } → SimGoes look s (record { line = line; machine = k })
+sim_failed look s line k fault is =
+    let At : SimMachine → Type 0 = λ x. SimGoes look s (record { line = line; machine = x }) in
     let there : SimState _ = record s { line = line } in
     subst At (sym is)
-    (sim_then received sent s there (record { line = line; machine = record s.machine { failed = true } }) (sim_line received sent s line came went) (sim_machine_goes received sent there any_act (record s.machine { failed = true }) (machine_failed s.machine)))
+    (sim_then look s there (record { line = line; machine = record s.machine { failed = true } })
+    (sim_line look s line (ap (λ (v : LineView). v.received) fault) (ap (λ (v : LineView). v.sent) fault))
+    (sim_machine_goes look there any_act (record s.machine { failed = true }) (machine_failed s.machine)))
 
 -- the line took some, or failed
-pub sim_wrote_by : {X E : Type 0} (received sent : X → List ℕ) (s : SimState X) (line : X) (k : SimMachine) (r : Result ℕ E) → IfOk r (λ n. sent line ≡ sent s.line ++ take n s.machine.out) → IfOk r (λ n. k ≡ record s.machine { out = drop n s.machine.out }) → OnErr r (sent line ≡ sent s.line) → OnErr r (k ≡ record s.machine { failed = true }) → received line ≡ received s.line → SimGoes received sent s (record { line = line; machine = k })
-sim_wrote_by received sent s line k (Ok n) went is none_went failed came = sim_wrote received sent s line k n came went is
-sim_wrote_by received sent s line k (Err why) went is none_went failed came = sim_failed received sent s line k came none_went failed
+pub sim_wrote_by : {X E : Type 0} (look : X → LineView) (s : SimState X) (line : X) (k : SimMachine) (r : Result ℕ E) → IfOk r (λ n. Writes (look s.line) (look line) s.machine k n) → OnErr r (look line ≡ after_fault (look s.line)) → OnErr r (k ≡ record s.machine { failed = true }) → SimGoes look s (record { line = line; machine = k })
+sim_wrote_by look s line k (Ok n) wrote fault failed = sim_wrote look s line k n wrote
+sim_wrote_by look s line k (Err why) wrote fault failed = sim_failed look s line k fault failed
 
 -- octets came, or the line failed
-pub sim_read_by : {X A E : Type 0} (received sent : X → List ℕ) (s : SimState X) (line : X) (k : SimMachine) (r : Result A E) → OnOk r (Receives (received s.line) (received line) s.machine k) → OnErr r (received line ≡ received s.line) → OnErr r (k ≡ record s.machine { failed = true }) → sent line ≡ sent s.line → SimGoes received sent s (record { line = line; machine = k })
-sim_read_by received sent s line k (Ok n) came none_came failed went = sim_read received sent s line k came went
-sim_read_by received sent s line k (Err why) came none_came failed went = sim_failed received sent s line k none_came went failed
+pub sim_read_by : {X E : Type 0} (look : X → LineView) (s : SimState X) (line : X) (k : SimMachine) (r : Result Bool E) → IfOk r (λ came. ReadsOnce (look s.line) (look line) s.machine k came) → OnErr r (look line ≡ after_fault (look s.line)) → OnErr r (k ≡ record s.machine { failed = true }) → SimGoes look s (record { line = line; machine = k })
+sim_read_by look s line k (Ok came) read fault failed = sim_read look s line k came read
+sim_read_by look s line k (Err why) read fault failed = sim_failed look s line k fault failed
 
 -- ## The next frame
 

@@ -6,9 +6,10 @@ use Rattle.at_cmds.proofs.command_texts.CommandLines.{both_true}
 use Rattle.mux_frame.specs.Frames.{Frame}
 use Rattle.mux_station.specs.Acts as station
 use Rattle.mux_station.specs.Sending as sending
+use Rattle.serial_line.specs.LineViews.{LineView}
 use Rattle.modem_sim.specs.Acts.{Act, Wire, Did, End, is_handing, is_step_act, setting, wire}
 use Rattle.modem_sim.specs.Cores.{IsGivenOn, IsLater, after_wire_act, from_queue, sent_now}
-use Rattle.modem_sim.specs.Sims.{FitsSim, SimMachine, SimMachineFits, LineAt, Sight}
+use Rattle.modem_sim.specs.Sims.{FitsSim, SimMachine, SimMachineFits}
 use Rattle.modem_sim.specs.Turns.{PutsNext, TakesAtHand, Write, has_no_room, is_work, is_put, is_taken, left_of, none_at_hand, none_is_there, octets_read, octets_written, some_are_left}
 use Rattle.modem_sim.specs.Stills.{GoesOnce, Loads, TakesFrame, TakesNone, WentOn, at_line, puts, puts_none, some_wait}
 use Rattle.modem_sim.proofs.law_proofs.Histories.{does_in_order}
@@ -200,8 +201,8 @@ read_fits e came went past old new octets is fits =
 
 -- ## The turn
 
-module _ {X : Type 0} (see : Sight X) (l0 l2 l5 : X) (k0 k1 k2 k3 k4 k5 k6 : SimMachine) (done : Bool) (count : ℕ) (loads took came fed : Bool) (w : Went see l0 l2 l5 k0 k1 k2 k3 k4 k5 k6 done count loads took came fed) where
-  goes_so : (at : LineAt) (e : End) (past : List Act) → FitsSim see.received see.sent at e (at_line l0 k0) past → WentOn see at e past (at_line l0 k0) (at_line l5 k6) (record { write = w.writes.write; read = w.reads.read }) (((((done || nat_lt 0 count) || loads) || took) || came) || fed)
+module _ {X : Type 0} (see : X → LineView) (l0 l2 l5 : X) (k0 k1 k2 k3 k4 k5 k6 : SimMachine) (done : Bool) (count : ℕ) (loads took came fed : Bool) (w : Went see l0 l2 l5 k0 k1 k2 k3 k4 k5 k6 done count loads took came fed) where
+  goes_so : (at : LineView) (e : End) (past : List Act) → FitsSim see at e (at_line l0 k0) past → WentOn see at e past (at_line l0 k0) (at_line l5 k6) (record { write = w.writes.write; read = w.reads.read }) (((((done || nat_lt 0 count) || loads) || took) || came) || fed)
   goes_so at e past fits =
       let stepped = w.steps_go e fits.came fits.went past fits.machine_fits in
       let wrote = wrote_fits e fits.came fits.went stepped.now k1 k2 w.writes.write w.writes.parts w.writes.kept stepped.fits in

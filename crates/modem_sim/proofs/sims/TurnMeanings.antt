@@ -5,8 +5,9 @@ use Rattle.std.proofs.lemmas.Bool.Decides.{nat_tests}
 use Rattle.std.proofs.lemmas.List.{nil_from_length}
 use Rattle.at_cmds.proofs.command_texts.CommandLines.{both_true}
 use Rattle.serial_line.specs.Counts.{one_more, counted_if_none}
+use Rattle.serial_line.specs.LineViews.{LineView}
 use Rattle.modem_sim.specs.declared.sim.SimTurn.TheVariants.{Moved, Idle, Ended}
-use Rattle.modem_sim.specs.Sims.{SimMachine, Sight, SimState, is_ended}
+use Rattle.modem_sim.specs.Sims.{SimMachine, SimState, is_ended}
 use Rattle.modem_sim.specs.Turns.{Exchange, Exchanges, GoesTurn, IsIdleAtLine, empty_after, has_done, is_over, stalled_after, stood_still}
 use Rattle.modem_sim.specs.Stills.{GoesOnce, StoodStill}
 use Rattle.modem_sim.proofs.sims.IdleTurns.{idle}
@@ -18,7 +19,7 @@ not_ended : Ended ≡ Idle → ⊥
 not_ended same = cc
 
 -- a turn in which something was done may answer Moved
-pub turn_moved : {X : Type 0} (see : Sight X) (old new : SimState X) (moved : Bool) → GoesOnce see old new moved → moved ≡ true → GoesTurn see old new Moved
+pub turn_moved : {X : Type 0} (see : X → LineView) (old new : SimState X) (moved : Bool) → GoesOnce see old new moved → moved ≡ true → GoesTurn see old new Moved
 turn_moved see old new moved once really = record {
   exchange = once.exchange;
   exchanges = once.exchanges;
@@ -36,15 +37,15 @@ some_stalled (x ∷ out) n some =
     let there : nat_lt 0 (length (x ∷ out)) ≡ true = grind (arith, nat_tests) in
     ap (λ (b : Bool). if b && (0 == 0) then one_more n else n) there
 
-idle_at_line : {X : Type 0} (see : Sight X) (old new : SimState X) (t : Exchange) → Exchanges see old new t → StoodStill new.machine t → IsIdleAtLine see old new
+idle_at_line : {X : Type 0} (see : X → LineView) (old new : SimState X) (t : Exchange) → Exchanges see old new t → StoodStill new.machine t → IsIdleAtLine see old new
 idle_at_line see old new t deals still = record {
   fed = still.waits;
-  empty = λ fed. deals.empty_are ∙ ap (λ r. empty_after r (see.empty_reads old.line)) (still.reads fed);
-  stalled = λ some. deals.stalled_are ∙ ap (λ w. stalled_after w (see.stalled_writes old.line)) (still.full some) ∙ some_stalled new.machine.out (see.stalled_writes old.line) some;
+  empty = λ fed. deals.empty_are ∙ ap (λ r. empty_after r (see old.line).empty_reads) (still.reads fed);
+  stalled = λ some. deals.stalled_are ∙ ap (λ w. stalled_after w (see old.line).stalled_writes) (still.full some) ∙ some_stalled new.machine.out (see old.line).stalled_writes some;
 }
 
 -- one in which nothing was may answer Idle
-pub turn_idle : {X : Type 0} (see : Sight X) (old new : SimState X) (moved : Bool) → GoesOnce see old new moved → moved ≡ false → GoesTurn see old new Idle
+pub turn_idle : {X : Type 0} (see : X → LineView) (old new : SimState X) (moved : Bool) → GoesOnce see old new moved → moved ≡ false → GoesTurn see old new Idle
 turn_idle see old new moved once none =
     let still = once.still none in
     record {
@@ -64,7 +65,7 @@ turn_idle see old new moved once none =
     }
 
 -- one after which the modem has closed down and written all may answer Ended
-pub turn_over : {X : Type 0} (see : Sight X) (old new : SimState X) (moved : Bool) → GoesOnce see old new moved → is_ended new.machine ≡ true → GoesTurn see old new Ended
+pub turn_over : {X : Type 0} (see : X → LineView) (old new : SimState X) (moved : Bool) → GoesOnce see old new moved → is_ended new.machine ≡ true → GoesTurn see old new Ended
 turn_over see old new moved once over = record {
   exchange = once.exchange;
   exchanges = once.exchanges;
@@ -86,13 +87,13 @@ not_both true is other = cc
 not_both false is other = cc
 
 -- so may one that does nothing, where it had ended before
-pub turn_was_over : {X : Type 0} (see : Sight X) (s : SimState X) → is_ended s.machine ≡ true → GoesTurn see s s Ended
+pub turn_was_over : {X : Type 0} (see : X → LineView) (s : SimState X) → is_ended s.machine ≡ true → GoesTurn see s s Ended
 turn_was_over see s over = record {
   exchange = record { write = None; read = None };
   exchanges = record {
-    came = sym (append-nil (see.received s.line));
+    came = sym (append-nil (see s.line).received);
     room = tt;
-    went = sym (append-nil (see.sent s.line));
+    went = sym (append-nil (see s.line).sent);
     offers = none_out s.machine over;
     calls_are = refl;
     stalled_are = refl;

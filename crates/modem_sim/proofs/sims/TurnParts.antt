@@ -3,7 +3,9 @@ use Rattle.std.specs.Prelude.{◌≡◌, ◌≢◌, ℕ, zero, suc, ◌<◌, ◌
 use Rattle.std.proofs.Common.{arith, sym, ap, ◌∙◌, append-nil, length-take, take-append-drop}
 use Rattle.std.proofs.lemmas.Bool.Decides.{nat_tests}
 use Rattle.std.proofs.lemmas.List.{nil_from_length}
-use Rattle.serial_line.specs.Counts.{one_more, counted_if_none}
+use Rattle.std.proofs.Math.Seq.{take-length}
+use Rattle.serial_line.specs.Counts.{counted_if_none}
+use Rattle.serial_line.specs.LineViews.{LineView, after_read, after_write}
 use Rattle.mux_frame.specs.Frames.{Frame}
 use Rattle.mux_frame.specs.Deframing.{Deframing, TakesIn}
 use Rattle.modem_sim.specs.Sims.{SimMachine}
@@ -105,13 +107,15 @@ loads_nothing old mid core fresh same none is handed = record {
 -- ## The line
 
 -- where no octets wait the line is offered none
-pub writes_nothing : (k : SimMachine) (sent : List ℕ) (calls stalled : ℕ) → (length k.out == 0) ≡ true → Writes sent sent calls calls stalled stalled k k 0
-writes_nothing k sent calls stalled empty = record {
+pub writes_nothing : (k : SimMachine) (l : LineView) → (length k.out == 0) ≡ true → Writes l l k k 0
+writes_nothing k l empty = record {
   write = None;
   offers = none_of k.out empty;
-  went = sym (append-nil sent);
+  went = sym (append-nil l.sent);
+  none_came = refl;
   calls_are = refl;
   stalled_are = refl;
+  empty_stay = refl;
   parts = refl;
   count_is = refl;
   kept = refl;
@@ -119,13 +123,15 @@ writes_nothing k sent calls stalled empty = record {
 }
 
 -- where some wait it is offered all, and takes the first
-pub writes_some : (old new : SimMachine) (before sent : List ℕ) (calls_before calls stalled_before stalled n : ℕ) → (length old.out == 0) ≡ false → n ≤ length old.out → sent ≡ before ++ take n old.out → calls ≡ one_more calls_before → stalled ≡ counted_if_none (length old.out) n stalled_before → new ≡ record old { out = drop n old.out } → Writes before sent calls_before calls stalled_before stalled old new n
-writes_some old new before sent calls_before calls stalled_before stalled n some bound went counted stalls is = record {
+pub writes_some : (old new : SimMachine) (l m : LineView) (n : ℕ) → (length old.out == 0) ≡ false → n ≤ length old.out → m ≡ after_write n old.out l → new ≡ record old { out = drop n old.out } → Writes l m old new n
+writes_some old new l m n some bound took is = record {
   write = Some (record { offered = old.out; count = n });
   offers = record { some = some_of old.out some; bound = bound; first = record { rest = []; joins = append-nil old.out } };
-  went = went;
-  calls_are = counted;
-  stalled_are = stalls;
+  went = ap (λ (v : LineView). v.sent) took;
+  none_came = ap (λ (v : LineView). v.received) took;
+  calls_are = ap (λ (v : LineView). v.calls) took;
+  stalled_are = ap (λ (v : LineView). v.stalled_writes) took;
+  empty_stay = ap (λ (v : LineView). v.empty_reads) took;
   parts = take-append-drop n old.out;
   count_is = let long = length-take n old.out in omega (arith, long, bound);
   kept = is;
@@ -133,30 +139,36 @@ writes_some old new before sent calls_before calls stalled_before stalled n some
 }
 
 -- while octets wait for the deframer the line isn't read
-pub reads_nothing : (k : SimMachine) (received : List ℕ) (calls empty : ℕ) → (length k.unfed == 0) ≡ false → ReadsOnce received received calls calls empty empty k k false
-reads_nothing k received calls empties some = record {
+pub reads_nothing : (k : SimMachine) (l : LineView) → (length k.unfed == 0) ≡ false → ReadsOnce l l k k false
+reads_nothing k l some = record {
   read = None;
   room = tt;
   reads = λ empty. absurd (some_of k.unfed some empty);
   reads_fed = λ there. absurd (there refl);
-  came_are = sym (append-nil received);
+  came_are = sym (append-nil l.received);
+  none_went = refl;
   calls_are = refl;
   empty_are = refl;
+  stalled_stay = refl;
   says = refl;
   kept = ap (λ xs. record k { unfed = xs }) (sym (append-nil k.unfed));
   none = λ empty none. absurd (some_of k.unfed some empty);
 }
 
 -- else it is read, with room for 512 octets
-pub reads_some : (old new : SimMachine) (before received octets : List ℕ) (calls_before calls empty_before empty_now n : ℕ) → (length old.unfed == 0) ≡ true → n ≤ 512 → n ≡ length octets → received ≡ before ++ octets → calls ≡ one_more calls_before → empty_now ≡ counted_if_none 512 n empty_before → new ≡ record old { unfed = octets } → ReadsOnce before received calls_before calls empty_before empty_now old new (nat_lt 0 n)
-reads_some old new before received octets calls_before calls empty_before empty_now n empty bound count came counted empties is = record {
+pub reads_some : (old new : SimMachine) (l m : LineView) (octets : List ℕ) (n : ℕ) → (length old.unfed == 0) ≡ true → n ≤ 512 → n ≡ length octets → m ≡ after_read 512 n octets l → new ≡ record old { unfed = octets } → ReadsOnce l m old new (nat_lt 0 n)
+reads_some old new l m octets n empty bound count gave is = record {
   read = Some (record { room = 512; octets = octets });
   room = record { some = omega arith; bound = omega (arith, bound, count) };
   reads = λ _ none. cc;
   reads_fed = λ _. none_of old.unfed empty;
-  came_are = came;
-  calls_are = counted;
-  empty_are = empties ∙ ap (λ m. counted_if_none 512 m empty_before) count;
+  came_are =
+      ap (λ (v : LineView). v.received) gave ∙ ap (λ m. l.received ++ take m octets) count
+      ∙ ap (λ xs. l.received ++ xs) (take-length octets);
+  none_went = ap (λ (v : LineView). v.sent) gave;
+  calls_are = ap (λ (v : LineView). v.calls) gave;
+  empty_are = ap (λ (v : LineView). v.empty_reads) gave ∙ ap (λ m. counted_if_none 512 m l.empty_reads) count;
+  stalled_stay = ap (λ (v : LineView). v.stalled_writes) gave;
   says = ap (nat_lt 0) count;
   kept = is ∙ ap (λ xs. record old { unfed = xs ++ octets }) (sym (none_of old.unfed empty));
   none = λ _ none. let zero = is_zero n none in ap (λ xs. Some (record { room = 512; octets = xs })) (nil_from_length octets (sym count ∙ zero));

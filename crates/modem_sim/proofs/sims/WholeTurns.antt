@@ -7,9 +7,10 @@ use Rattle.std.proofs.lemmas.List.{nil_from_length}
 use Rattle.mux_station.specs.Giving.{next_given}
 use Rattle.mux_station.specs.Sending.{got_refused}
 use Rattle.mux_station.specs.Stations.{seen_in, setting_of}
+use Rattle.serial_line.specs.LineViews.{LineView}
 use Rattle.modem_sim.specs.Acts.{Act, is_step_act}
 use Rattle.modem_sim.specs.Cores.{Core, HasNoneToDo, HasPassed, IsHandedOn, holds_over}
-use Rattle.modem_sim.specs.Sims.{SimMachine, SimMachineGoes, Sight, SimState}
+use Rattle.modem_sim.specs.Sims.{SimMachine, SimMachineGoes, SimState}
 use Rattle.modem_sim.specs.Turns.{Exchanges, Leaves, Offers, Read, Write, calls_made, count_after, empty_after, has_changed, has_moved, is_fewer, is_work, left_of, octets_read, octets_written}
 use Rattle.modem_sim.specs.Stills.{Feeds, FeedsNone, HasLoaded, HasNoneToLoad, Loads, LoadsBy, LoadsNone, ReadsOnce, StoodStill, TakesFrame, TakesNone, Writes, at_line, let_go, puts, puts_none, ready, some_wait}
 
@@ -71,16 +72,14 @@ none_of false false false false false fed is = record { not_done = refl; not_wro
 -- ## The parts of a turn
 
 -- what each of them did, one after the other
-pub record Went {X : Type 0} (see : Sight X) (l0 l2 l5 : X) (k0 k1 k2 k3 k4 k5 k6 : SimMachine) (done : Bool) (count : ℕ) (loaded took came fed : Bool) : Type 0 where
+pub record Went {X : Type 0} (see : X → LineView) (l0 l2 l5 : X) (k0 k1 k2 k3 k4 k5 k6 : SimMachine) (done : Bool) (count : ℕ) (loaded took came fed : Bool) : Type 0 where
   pub steps_go : SimMachineGoes is_step_act k0 k1
   pub steps_same : done ≡ false → k1 ≡ k0
   pub steps_fewer : done ≡ true → length k1.core.steps < length k0.core.steps
   pub steps_rest : k1 ≡ record k0 { core = k1.core }
   pub steps_none : HasNoneToDo k1.core
   pub steps_passed : HasPassed k0.core k1.core
-  pub write_none_came : see.received l2 ≡ see.received l0
-  pub write_none_empty : see.empty_reads l2 ≡ see.empty_reads l0
-  pub writes : Writes (see.sent l0) (see.sent l2) (see.calls l0) (see.calls l2) (see.stalled_writes l0) (see.stalled_writes l2) k1 k2 count
+  pub writes : Writes (see l0) (see l2) k1 k2 count
   pub load_rest : k3 ≡ record k2 { core = k3.core; out = k3.out }
   pub loads : LoadsBy k2 k3 loaded
   pub load_none : loaded ≡ false → LoadsNone k2 k3
@@ -89,16 +88,14 @@ pub record Went {X : Type 0} (see : Sight X) (l0 l2 l5 : X) (k0 k1 k2 k3 k4 k5 k
   pub takes : took ≡ true → TakesFrame k3 k4
   pub take_none : took ≡ false → TakesNone k3 k4
   pub take_steps : k4.core.steps ≡ k3.core.steps
-  pub read_none_went : see.sent l5 ≡ see.sent l2
-  pub read_none_stalled : see.stalled_writes l5 ≡ see.stalled_writes l2
-  pub reads : ReadsOnce (see.received l2) (see.received l5) (see.calls l2) (see.calls l5) (see.empty_reads l2) (see.empty_reads l5) k4 k5 came
+  pub reads : ReadsOnce (see l2) (see l5) k4 k5 came
   pub feeds : Feeds k5 k6
   pub feed_rest : k6 ≡ record k5 { unfed = k6.unfed; deframer = k6.deframer }
   pub feed_fewer : fed ≡ true → length k6.unfed < length k5.unfed
   pub feed_none : fed ≡ false → FeedsNone k5 k6
 
 -- the turn, in which each line has what the one before left it
-module _ {X : Type 0} (see : Sight X) (l0 l2 l5 : X) (k0 k1 k2 k3 k4 k5 k6 : SimMachine) (done : Bool) (count : ℕ) (loaded took came fed : Bool) (w : Went see l0 l2 l5 k0 k1 k2 k3 k4 k5 k6 done count loaded took came fed) where
+module _ {X : Type 0} (see : X → LineView) (l0 l2 l5 : X) (k0 k1 k2 k3 k4 k5 k6 : SimMachine) (done : Bool) (count : ℕ) (loaded took came fed : Bool) (w : Went see l0 l2 l5 k0 k1 k2 k3 k4 k5 k6 done count loaded took came fed) where
   abbrev s0 : SimState X
   s0 = at_line l0 k0
 
@@ -123,39 +120,39 @@ module _ {X : Type 0} (see : Sight X) (l0 l2 l5 : X) (k0 k1 k2 k3 k4 k5 k6 : Sim
       ap (λ (k : SimMachine). k.unfed) w.take_rest ∙ ap (λ (k : SimMachine). k.unfed) w.load_rest ∙ ap (λ (k : SimMachine). k.unfed) w.writes.kept
       ∙ ap (λ (k : SimMachine). k.unfed) w.steps_rest
 
-  pub sent_at_end : see.sent l5 ≡ see.sent l0 ++ octets_written w.writes.write
-  sent_at_end = w.read_none_went ∙ w.writes.went
+  pub sent_at_end : (see l5).sent ≡ (see l0).sent ++ octets_written w.writes.write
+  sent_at_end = w.reads.none_went ∙ w.writes.went
 
-  pub came_at_end : see.received l5 ≡ see.received l0 ++ octets_read w.reads.read
-  came_at_end = w.reads.came_are ∙ ap (λ xs. xs ++ octets_read w.reads.read) w.write_none_came
+  pub came_at_end : (see l5).received ≡ (see l0).received ++ octets_read w.reads.read
+  came_at_end = w.reads.came_are ∙ ap (λ xs. xs ++ octets_read w.reads.read) w.writes.none_came
 
   -- ## What each part moves
 
-  by_octets_come : length (see.received l0) < length (see.received l5) → has_changed see s0 s6 ≡ true
-  by_octets_come more = or_left (is_fewer (see.received l0) (see.received l5)) _ (less _ _ more)
+  by_octets_come : length (see l0).received < length (see l5).received → has_changed see s0 s6 ≡ true
+  by_octets_come more = or_left (is_fewer (see l0).received (see l5).received) _ (less _ _ more)
 
-  by_octets_gone : length (see.sent l0) < length (see.sent l5) → has_changed see s0 s6 ≡ true
+  by_octets_gone : length (see l0).sent < length (see l5).sent → has_changed see s0 s6 ≡ true
   by_octets_gone more =
-      or_right (is_fewer (see.received l0) (see.received l5)) _ (or_left (is_fewer (see.sent l0) (see.sent l5)) _ (less _ _ more))
+      or_right (is_fewer (see l0).received (see l5).received) _ (or_left (is_fewer (see l0).sent (see l5).sent) _ (less _ _ more))
 
   by_feeding : length k6.unfed < length k0.unfed → has_changed see s0 s6 ≡ true
   by_feeding more =
-      or_right (is_fewer (see.received l0) (see.received l5)) _ (or_right (is_fewer (see.sent l0) (see.sent l5)) _
+      or_right (is_fewer (see l0).received (see l5).received) _ (or_right (is_fewer (see l0).sent (see l5).sent) _
       (or_left (is_fewer k6.unfed k0.unfed) _ (less _ _ more)))
 
   by_steps : length k6.core.steps < length k0.core.steps → has_changed see s0 s6 ≡ true
   by_steps more =
-      or_right (is_fewer (see.received l0) (see.received l5)) _ (or_right (is_fewer (see.sent l0) (see.sent l5)) _
+      or_right (is_fewer (see l0).received (see l5).received) _ (or_right (is_fewer (see l0).sent (see l5).sent) _
       (or_right (is_fewer k6.unfed k0.unfed) _ (or_left (is_fewer k6.core.steps k0.core.steps) _ (less _ _ more))))
 
   by_out : length k0.out < length k6.out → has_changed see s0 s6 ≡ true
   by_out more =
-      or_right (is_fewer (see.received l0) (see.received l5)) _ (or_right (is_fewer (see.sent l0) (see.sent l5)) _
+      or_right (is_fewer (see l0).received (see l5).received) _ (or_right (is_fewer (see l0).sent (see l5).sent) _
       (or_right (is_fewer k6.unfed k0.unfed) _ (or_right (is_fewer k6.core.steps k0.core.steps) _ (or_left (is_fewer k0.out k6.out) _ (less _ _ more)))))
 
   by_letting_go : holds_over k6.core.boxes < holds_over k0.core.boxes → has_changed see s0 s6 ≡ true
   by_letting_go more =
-      or_right (is_fewer (see.received l0) (see.received l5)) _ (or_right (is_fewer (see.sent l0) (see.sent l5)) _
+      or_right (is_fewer (see l0).received (see l5).received) _ (or_right (is_fewer (see l0).sent (see l5).sent) _
       (or_right (is_fewer k6.unfed k0.unfed) _ (or_right (is_fewer k6.core.steps k0.core.steps) _ (or_right (is_fewer k0.out k6.out) _ (less _ _ more)))))
 
   -- ## Where a part did nothing
@@ -194,13 +191,13 @@ module _ {X : Type 0} (see : Sight X) (l0 l2 l5 : X) (k0 k1 k2 k3 k4 k5 k6 : Sim
       (λ really. let fewer = w.steps_fewer really in let last = ap length steps_at_end in or_right got _ (by_steps (omega (arith, fewer, last))))
       (λ really.
       let some = is_some count really in
-      let long = ap length sent_at_end ∙ length-append (see.sent l0) (octets_written w.writes.write) in
+      let long = ap length sent_at_end ∙ length-append (see l0).sent (octets_written w.writes.write) in
       let is_count = w.writes.count_is in
       or_right got _ (by_octets_gone (omega (arith, some, long, is_count))))
       (λ really. or_left got _ (same ∙ ap (λ (b : Bool). b || w.loads.some) really))
       (λ really.
       let some = is_some (length (octets_read w.reads.read)) (sym w.reads.says ∙ really) in
-      let long = ap length came_at_end ∙ length-append (see.received l0) (octets_read w.reads.read) in
+      let long = ap length came_at_end ∙ length-append (see l0).received (octets_read w.reads.read) in
       or_right got _ (by_octets_come (omega (arith, some, long))))
       (λ not_done not_wrote not_took really. by_offers not_done not_wrote not_took really w.loads.some refl)
       (λ not_came really.
@@ -216,8 +213,8 @@ module _ {X : Type 0} (see : Sight X) (l0 l2 l5 : X) (k0 k1 k2 k3 k4 k5 k6 : Sim
   -- ## Where nothing was done
 
   record AllSame : Type 0 where
-    received_is : see.received l5 ≡ see.received l0
-    sent_is : see.sent l5 ≡ see.sent l0
+    received_is : (see l5).received ≡ (see l0).received
+    sent_is : (see l5).sent ≡ (see l0).sent
     core_is : k6.core ≡ k0.core
     core_loaded : k6.core ≡ k2.core
     core_stepped : k6.core ≡ k1.core
@@ -239,8 +236,8 @@ module _ {X : Type 0} (see : Sight X) (l0 l2 l5 : X) (k0 k1 k2 k3 k4 k5 k6 : Sim
       let out_is : k6.out ≡ k1.out = out_at_end ∙ ap (λ (k : SimMachine). k.out) (loading.same ∙ same_1 all_false.not_wrote) in
       let unfed_is : k6.unfed ≡ k4.unfed = feeding.same_unfed ∙ ap (λ (k : SimMachine). k.unfed) (same_4 all_false.not_came) in
       record {
-        received_is = came_at_end ∙ ap (λ xs. see.received l0 ++ xs) (none_read all_false.not_came) ∙ append-nil (see.received l0);
-        sent_is = sent_at_end ∙ ap (λ xs. see.sent l0 ++ xs) (none_written all_false.not_wrote) ∙ append-nil (see.sent l0);
+        received_is = came_at_end ∙ ap (λ xs. (see l0).received ++ xs) (none_read all_false.not_came) ∙ append-nil (see l0).received;
+        sent_is = sent_at_end ∙ ap (λ xs. (see l0).sent ++ xs) (none_written all_false.not_wrote) ∙ append-nil (see l0).sent;
         core_is = core_is ∙ ap (λ (k : SimMachine). k.core) (loading.same ∙ first);
         core_loaded = core_is ∙ ap (λ (k : SimMachine). k.core) loading.same;
         core_stepped = core_is ∙ ap (λ (k : SimMachine). k.core) (loading.same ∙ same_1 all_false.not_wrote);
@@ -254,8 +251,8 @@ module _ {X : Type 0} (see : Sight X) (l0 l2 l5 : X) (k0 k1 k2 k3 k4 k5 k6 : Sim
 
   none_changed : AllSame → has_changed see s0 s6 ≡ false
   none_changed same =
-      neither (is_fewer (see.received l0) (see.received l5)) _ (not_less _ _ (ap length (sym same.received_is)))
-      (neither (is_fewer (see.sent l0) (see.sent l5)) _ (not_less _ _ (ap length (sym same.sent_is)))
+      neither (is_fewer (see l0).received (see l5).received) _ (not_less _ _ (ap length (sym same.received_is)))
+      (neither (is_fewer (see l0).sent (see l5).sent) _ (not_less _ _ (ap length (sym same.sent_is)))
       (neither (is_fewer k6.unfed k0.unfed) _ (not_less _ _ (ap length same.unfed_is))
       (neither (is_fewer k6.core.steps k0.core.steps) _ (not_less _ _ (ap (λ (c : Core). length c.steps) same.core_is))
       (neither (is_fewer k0.out k6.out) _ (not_less _ _ (ap length (sym same.out_is)))
@@ -308,11 +305,11 @@ module _ {X : Type 0} (see : Sight X) (l0 l2 l5 : X) (k0 k1 k2 k3 k4 k5 k6 : Sim
     went = sent_at_end;
     offers = subst (λ (xs : List ℕ). Offers w.writes.write xs) (ap (λ (k : SimMachine). k.out) w.steps_rest) w.writes.offers;
     calls_are = w.reads.calls_are ∙ ap (count_after (calls_made w.reads.read)) w.writes.calls_are ∙ both_made w.writes.write w.reads.read;
-    stalled_are = w.read_none_stalled ∙ w.writes.stalled_are;
-    empty_are = w.reads.empty_are ∙ ap (empty_after w.reads.read) w.write_none_empty;
+    stalled_are = w.reads.stalled_stay ∙ w.writes.stalled_are;
+    empty_are = w.reads.empty_are ∙ ap (empty_after w.reads.read) w.writes.empty_stay;
   }
     where
-      both_made : (a : Option Write) (b : Option Read) → count_after (calls_made b) (count_after (calls_made a) (see.calls l0)) ≡ count_after (calls_made a + calls_made b) (see.calls l0)
+      both_made : (a : Option Write) (b : Option Read) → count_after (calls_made b) (count_after (calls_made a) (see l0).calls) ≡ count_after (calls_made a + calls_made b) (see l0).calls
       both_made None None = refl
       both_made None (Some b) = refl
       both_made (Some a) None = refl

@@ -1,7 +1,6 @@
 -- It has gone on so far.
 use Rattle.std.specs.Prelude.{◌<◌}
 use Rattle.std.specs.Duration.{as_nanos}
-use Rattle.modem_driver.specs.SessionStates.{line_by}
 use Rattle.ctl_drive.specs.Asking.{AsksOn}
 use Rattle.ctl_drive.specs.Driving.{DrivesOn}
 use Rattle.ctl_drive.specs.Showing.{GoOn}
@@ -16,7 +15,7 @@ pub record Gone (A B C D : Type 0) : Type 0 where
 abbrev pub invariant-loop : goal.invariant-loop
 invariant-loop g l =
     Gone
-    (DrivesOn (line_by g.L.SerialLine.received g.L.SerialLine.sent g.L.SerialLine.calls g.L.SerialLine.failures g.L.SerialLine.empty_reads g.L.SerialLine.stalled_writes) l.initial.session l.session)
+    (DrivesOn g.L.SerialLine.seen l.initial.session l.session)
     (GoOn (g.W.Write.contents l.initial.output) (g.W.Write.contents l.output) l.initial.users l.users)
     (AsksOn l.initial.plan l.plan l.initial.users.caller.submitted l.users.caller.submitted (g.E.Write.contents l.initial.faults) (g.E.Write.contents l.faults))
     (0 < as_nanos l.ticks.period)

@@ -2,7 +2,7 @@
 use Rattle.std.specs.Prelude.{refl, IsOk}
 use Rattle.std.proofs.Common.{ap, ◌∙◌}
 use Rattle.modem_desk.specs.Ends.{DriverView}
-use Rattle.modem_driver.specs.SessionStates.{end_of, line_by}
+use Rattle.modem_driver.specs.SessionStates.{end_of}
 use Rattle.ctl_drive.specs.Ending.{AllHeard}
 use Rattle.ctl_drive.proofs.Ends.{done_ok, ends_drive, known_done, known_ok, on_both, still_subscribed, still_whole}
 use Rattle.ctl_drive.proofs.ending.end_drive.Goals as goal
@@ -24,9 +24,9 @@ returns-clause-ends g c =
     let left = c.finish-line.result in
     let turned = c.turn_left_away-turned in
     let done : IsOk turned.result = known_done (IsOk turned.result) c.settle_turned-settled.result c.in_ok-settled.settled c.in_ok-settled.ensures.made c.settle_turned-settled.ensures.turned in
-    ends_drive (line_by g.L.SerialLine.received g.L.SerialLine.sent g.L.SerialLine.calls g.L.SerialLine.failures g.L.SerialLine.empty_reads g.L.SerialLine.stalled_writes) c.args.session c.args.users turned.new.users left.driver turned.new.driver
+    ends_drive g.L.SerialLine.seen c.args.session c.args.users turned.new.users left.driver turned.new.driver
     (record {
-      line = line_by g.L.SerialLine.received g.L.SerialLine.sent g.L.SerialLine.calls g.L.SerialLine.failures g.L.SerialLine.empty_reads g.L.SerialLine.stalled_writes left.line;
+      line = g.L.SerialLine.seen left.line;
       desk = end_of left.driver;
       in_hand = left.in_hand.items;
       unplaced = left.unplaced.items;

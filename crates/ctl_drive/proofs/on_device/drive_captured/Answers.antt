@@ -2,7 +2,6 @@
 use Rattle.std.specs.Prelude.{Bool, refl}
 use Rattle.std.proofs.Common.{sym, subst}
 use Rattle.modem_desk.specs.declared.settling.Settled.{Settled}
-use Rattle.modem_driver.specs.SessionStates.{line_by}
 use Rattle.ctl_drive.specs.Entry.{entry_for, given_text}
 use Rattle.ctl_drive.specs.OnDevice.{DroveCaptured}
 use Rattle.ctl_drive.proofs.OnDevice.{well_captured}
@@ -10,7 +9,7 @@ use Rattle.ctl_drive.proofs.on_device.drive_captured.Goals as goal
 
 pub returns-clause-drove : goal.returns-clause-drove
 returns-clause-drove g c = λ none.
-    let look = line_by g.L.SerialLine.received g.L.SerialLine.sent g.L.SerialLine.calls g.L.SerialLine.failures g.L.SerialLine.empty_reads g.L.SerialLine.stalled_writes in
+    let look = g.L.SerialLine.seen in
     let ended = c.in_ok-ended.ended in
     subst
     (λ (x : Bool × Settled). DroveCaptured look c.args.settings.dialect.now (entry_for (given_text c.args.settings.entry) c.args.settings.n1) c.args.settings.n1 c.args.line (g.I.Read.remaining c.args.input) (g.W.Write.contents c.args.output.now) (g.W.Write.contents c.drive_over.new.output) (g.E.Write.contents c.args.faults.now) (g.E.Write.contents c.drive_over.new.faults) x.0 x.1)

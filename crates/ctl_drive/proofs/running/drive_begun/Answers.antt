@@ -1,7 +1,6 @@
 -- The input was driven to its end.
 use Rattle.std.specs.Prelude.{replicate}
 use Rattle.std.proofs.Common.{◌≡◌, ◌∙◌, [], false, ap, subst}
-use Rattle.modem_driver.specs.SessionStates.{line_by}
 use Rattle.ctl_drive.specs.Asking.{PlanView, StopsOn}
 use Rattle.ctl_drive.specs.Ending.{HasDriven}
 use Rattle.ctl_drive.specs.Input.{LinesView}
@@ -19,7 +18,7 @@ returns-clause-driven g c =
     let driven = known_ok _ c.run_session-ran.result _ c.in_ok-last.ensures.made c.run_session-ran.ensures.driven in
     record {
       through = c.run_session-ran.new.plan;
-      driven = subst (λ (p : PlanView). HasDriven (line_by g.L.SerialLine.received g.L.SerialLine.sent g.L.SerialLine.calls g.L.SerialLine.failures g.L.SerialLine.empty_reads g.L.SerialLine.stalled_writes) c.args.session c.args.users p c.run_session-ran.new.plan (g.W.Write.contents c.args.output.now) (g.W.Write.contents c.run_session-ran.new.output) (g.E.Write.contents c.args.faults.now) (g.E.Write.contents c.run_session-ran.new.faults) c.in_ok-last.fault c.in_ok-last.left c.in_ok-last.last) begun driven;
+      driven = subst (λ (p : PlanView). HasDriven g.L.SerialLine.seen c.args.session c.args.users p c.run_session-ran.new.plan (g.W.Write.contents c.args.output.now) (g.W.Write.contents c.run_session-ran.new.output) (g.E.Write.contents c.args.faults.now) (g.E.Write.contents c.run_session-ran.new.faults) c.in_ok-last.fault c.in_ok-last.left c.in_ok-last.last) begun driven;
       bad_is = c.was_bad-was_bad.ensures ∙ ap (λ (p : PlanView). p.was_bad) c.in_ok-last.ensures.kept;
     }
 

@@ -1,6 +1,5 @@
 -- The session goes on, and ends.
 use Rattle.std.proofs.Common.{refl, sym, subst}
-use Rattle.modem_driver.specs.SessionStates.{line_by}
 use Rattle.ctl_drive.specs.Asking.{AsksOn, PlanView}
 use Rattle.ctl_drive.specs.Ending.{HasEndedBy}
 use Rattle.ctl_drive.proofs.Asks.{stops_either, stops_if}
@@ -24,7 +23,7 @@ pub returns-in_ok-ended-in-Ok-clause-driven : goal.returns-in_ok-ended-in-Ok-cla
 returns-in_ok-ended-in-Ok-clause-driven g c =
     let t = c.drive_on-went.new.session in
     let mid = c.drive_on-went.new.users in
-    has_driven (line_by g.L.SerialLine.received g.L.SerialLine.sent g.L.SerialLine.calls g.L.SerialLine.failures g.L.SerialLine.empty_reads g.L.SerialLine.stalled_writes) c.args.session t t c.args.users mid mid
+    has_driven g.L.SerialLine.seen c.args.session t t c.args.users mid mid
     c.args.plan.now c.end_drive.new.plan (g.W.Write.contents c.args.output.now) (g.W.Write.contents c.drive_on-went.new.output)
     (g.W.Write.contents c.end_drive.new.output) (g.E.Write.contents c.args.faults.now) (g.E.Write.contents c.drive_on-went.new.faults) c.in-Ok.fault c.in_ok-ended-in-Ok.ended.1 c.in_ok-ended-in-Ok.ended.0 c.drive_on-went.ensures.drives c.in-Ok.ensures.goes
     (subst (λ (p : PlanView). AsksOn c.args.plan.now p c.args.users.caller.submitted mid.caller.submitted (g.E.Write.contents c.args.faults.now) (g.E.Write.contents c.drive_on-went.new.faults)) (sym c.end_drive.ensures.same) c.in-Ok.ensures.asks)

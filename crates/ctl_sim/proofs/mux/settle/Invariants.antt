@@ -1,11 +1,11 @@
 -- The turns so far.
 use Rattle.std.specs.Prelude.{◌≡◌}
 use Rattle.modem_sim.specs.Sims.{SimGoes}
-use Rattle.ctl_sim.specs.HeldLine.{held_side, sent_by}
+use Rattle.ctl_sim.specs.HeldLine.{held_side, held_view}
 use Rattle.ctl_sim.proofs.mux.settle.Given as goal
 
 abbrev pub invariant-loop : goal.invariant-loop
 invariant-loop l = record {
-  goes : SimGoes (λ l. l.received) sent_by l.initial.sim l.sim;
+  goes : SimGoes held_view l.initial.sim l.sim;
   side : held_side l.sim.line ≡ held_side l.initial.sim.line;
 }

@@ -7,7 +7,7 @@ abbrev pub invariant-loop-place : goal.invariant-loop-place
 invariant-loop-place g l = record {
   few : l.place ≤ length l.initial.files.items;
   long : length l.files.items ≡ length l.initial.files.items;
-  again_are : l.files.items ≡ again_to g.P.SerialLine.received g.P.SerialLine.sent l.place l.initial.files.items;
+  again_are : l.files.items ≡ again_to g.P.SerialLine.seen l.place l.initial.files.items;
 }
 
 abbrev pub decreases-loop-place : goal.decreases-loop-place

@@ -16,6 +16,6 @@ loop-place-preserved g c =
     let till = c.until.ensures ∙ ap (λ (x : FileState _). x.until) c.index-files-place.is in
     record {
       few = let there = c.loop-place-test.true in omega (arith, there);
-      begun = begins_more g.L.SerialLine.received g.L.SerialLine.sent c.args.files.now c.loop-place.place f c.args.line.now c.loop-place.line c.begin.new.self c.loop-place-test.true c.loop-place.invariant.begun
+      begun = begins_more g.L.SerialLine.seen c.args.files.now c.loop-place.place f c.args.line.now c.loop-place.line c.begin.new.self c.loop-place-test.true c.loop-place.invariant.begun
           (subst (λ (x : ℕ × Begin × Until). Hops c.loop-place.line.relay c.begin.new.self.relay (Passed (Began x.0 x.1 x.2))) (λ i. (number i, by i, till i)) c.in_ok-begin.ensures.began) c.begin.ensures.beside;
     }

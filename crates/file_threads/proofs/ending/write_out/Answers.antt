@@ -4,5 +4,5 @@ use Rattle.file_threads.proofs.ending.write_out.Goals as goal
 
 pub loop-preserved : goal.loop-preserved
 loop-preserved g c =
-    turns_then g.L.SerialLine.received g.L.SerialLine.sent g.P.SerialLine.received g.P.SerialLine.sent g.P.SerialLine.empty_reads g.P.SerialLine.stalled_writes c.args.line.now c.loop.line c.move_all-in-loop.new.self.files
+    turns_then g.L.SerialLine.seen g.P.SerialLine.seen c.args.line.now c.loop.line c.move_all-in-loop.new.self.files
     c.loop.invariant c.move_all-in-loop.ensures.turns

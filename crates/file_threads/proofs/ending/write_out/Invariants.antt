@@ -4,4 +4,4 @@ use Rattle.file_threads.proofs.ending.write_out.Given as goal
 
 abbrev pub invariant-loop : goal.invariant-loop
 invariant-loop g l =
-    HadTurns g.L.SerialLine.received g.L.SerialLine.sent g.P.SerialLine.received g.P.SerialLine.sent g.P.SerialLine.empty_reads g.P.SerialLine.stalled_writes l.fn.line l.line.files
+    HadTurns g.L.SerialLine.seen g.P.SerialLine.seen l.fn.line l.line.files

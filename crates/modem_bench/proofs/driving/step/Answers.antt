@@ -1,6 +1,5 @@
 -- A poll that was counted: what it moved, or that it failed.
 use Rattle.std.proofs.Common.{◌∙◌, ap, subst, sym}
-use Rattle.modem_driver.specs.SessionStates.{line_by}
 use Rattle.modem_bench.specs.Driving.{Advances, Steps}
 use Rattle.modem_bench.specs.declared.driving.Halt.TheVariants as halt
 use Rattle.std.specs.Prelude.{Err, Ok, Option}
@@ -11,7 +10,7 @@ use Rattle.modem_bench.proofs.driving.step.Goals as goal
 
 pub returns-in-Ok-Some : goal.returns-in-Ok-Some
 returns-in-Ok-Some g c =
-    let look = line_by g.L.SerialLine.received g.L.SerialLine.sent g.L.SerialLine.calls g.L.SerialLine.failures g.L.SerialLine.empty_reads g.L.SerialLine.stalled_writes in
+    let look = g.L.SerialLine.seen in
     let old = c.args.session.now in
     let new = c.poll.new.session in
     steps_moved look old new c.args.limit.now c.may_poll.new.limit c.moved.new.self c.in-Ok-Some.progress c.went_on.result
@@ -19,7 +18,7 @@ returns-in-Ok-Some g c =
 
 pub returns-in-Err : goal.returns-in-Err
 returns-in-Err g c =
-    let look = line_by g.L.SerialLine.received g.L.SerialLine.sent g.L.SerialLine.calls g.L.SerialLine.failures g.L.SerialLine.empty_reads g.L.SerialLine.stalled_writes in
+    let look = g.L.SerialLine.seen in
     let old = c.args.session.now in
     let new = c.poll.new.session in
     let fails = steps_fails look old new c.args.limit.now c.may_poll.new.limit c.in-Err.fault (subst (Advances look old new) c.in-Err.is c.poll.ensures) in

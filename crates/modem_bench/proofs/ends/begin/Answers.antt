@@ -4,7 +4,7 @@ use Rattle.std.specs.Prelude.{[], Ok}
 use Rattle.std.specs.declared.alloc.Global.{Global}
 use Rattle.std.specs.declared.vec.Vec.{Vec}
 use Rattle.modem_desk.specs.Ends.{AreSubscribed, CallerView, DriverView, IsWhole, ListenerView, subscription_of, place_of}
-use Rattle.modem_driver.specs.SessionStates.{FitsAll, SessionState, beginning_of, line_by}
+use Rattle.modem_driver.specs.SessionStates.{FitsAll, SessionState, beginning_of}
 use Rattle.modem_sim.specs.Sims.{SimState}
 use Rattle.modem_bench.specs.Running.{AreFresh}
 use Rattle.modem_bench.proofs.CallerThreads.{known_ok}
@@ -24,7 +24,7 @@ returns-clause-many g c =
 
 pub returns-clause-begun : goal.returns-clause-begun
 returns-clause-begun g c =
-    let look = line_by g.L.SerialLine.received g.L.SerialLine.sent g.L.SerialLine.calls g.L.SerialLine.failures g.L.SerialLine.empty_reads g.L.SerialLine.stalled_writes in
+    let look = g.L.SerialLine.seen in
     let s = c.in_ok-session.session in
     let made : c.make_session-session.result ≡ Ok s =
     known_ok (λ (r : SessionState g.row.L.Denot × SimState g.row.L.Denot). c.make_session-session.result ≡ Ok r.0) c.both.result (s, c.in_ok-session.sim) c.in_ok-session.ensures.made c.both.ensures.first in

@@ -1,18 +1,19 @@
 -- One turn after the other.
 use Rattle.std.proofs.Common.{◌≡◌, ◌∙◌, ℕ, arith, subst}
 use Rattle.std.specs.Prelude.{Ok, Err, refl}
+use Rattle.serial_line.specs.CutLine.{cut_view}
 use Rattle.modem_sim.specs.declared.sim.SimTurn.{SimTurn}
 use Rattle.modem_sim.specs.Polls.{MovesOn, Turned, moves_none, moves_once}
 use Rattle.modem_sim.proofs.sims.SimPasts.{sim_none, sim_then}
-use Rattle.modem_bench.specs.Rounds.{sight_in, moves, rests, ends, fails}
+use Rattle.modem_bench.specs.Rounds.{moves, rests, ends, fails}
 use Rattle.modem_bench.proofs.rounds.turns.Goals as goal
 
 pub loop-init : goal.loop-init
-loop-init c = record { goes = sim_none sight_in.received sight_in.sent c.args.sim.now; beyond = refl; moves = moves_none }
+loop-init c = record { goes = sim_none cut_view c.args.sim.now; beyond = refl; moves = moves_none }
 
 pub loop-preserved : goal.loop-preserved
 loop-preserved c =
-    let once : Turned sight_in c.loop.sim c.turn.new.self (Ok c.in-Ok-Moved.field-0) = record {
+    let once : Turned cut_view c.loop.sim c.turn.new.self (Ok c.in-Ok-Moved.field-0) = record {
       goes = c.turn.ensures.goes;
       turn = c.in-Ok-Moved.ensures.turn;
       failed = c.in-Ok-Moved.ensures.failed;
@@ -27,20 +28,20 @@ loop-preserved c =
       goes_on = c.in-Ok-Moved.ensures.goes_on;
       end = c.turn.ensures.end;
     } in
-    let Says : SimTurn → Type 0 = λ says. Turned sight_in c.loop.sim c.turn.new.self (Ok says) in
+    let Says : SimTurn → Type 0 = λ says. Turned cut_view c.loop.sim c.turn.new.self (Ok says) in
     record {
-      goes = sim_then sight_in.received sight_in.sent c.args.sim.now c.loop.sim c.turn.new.self c.loop.invariant.goes c.turn.ensures.goes;
+      goes = sim_then cut_view c.args.sim.now c.loop.sim c.turn.new.self c.loop.invariant.goes c.turn.ensures.goes;
       beyond = c.turn.ensures.beyond ∙ c.loop.invariant.beyond;
       moves = moves_once c.loop.counter c.loop.sim c.turn.new.self c.loop.invariant.moves (subst Says c.in-Ok-Moved.field-0-is once);
     }
 
 pub returns-in-Ok-Idle-clause-goes : goal.returns-in-Ok-Idle-clause-goes
 returns-in-Ok-Idle-clause-goes c =
-    sim_then sight_in.received sight_in.sent c.args.sim.now c.loop.sim c.turn.new.self c.loop.invariant.goes c.turn.ensures.goes
+    sim_then cut_view c.args.sim.now c.loop.sim c.turn.new.self c.loop.invariant.goes c.turn.ensures.goes
 
 pub returns-in-Ok-Idle-clause-runs : goal.returns-in-Ok-Idle-clause-runs
 returns-in-Ok-Idle-clause-runs c =
-    let once : Turned sight_in c.loop.sim c.turn.new.self (Ok c.in-Ok-Idle.field-0) = record {
+    let once : Turned cut_view c.loop.sim c.turn.new.self (Ok c.in-Ok-Idle.field-0) = record {
       goes = c.turn.ensures.goes;
       turn = c.in-Ok-Idle.ensures.turn;
       failed = c.in-Ok-Idle.ensures.failed;
@@ -55,17 +56,17 @@ returns-in-Ok-Idle-clause-runs c =
       goes_on = c.in-Ok-Idle.ensures.goes_on;
       end = c.turn.ensures.end;
     } in
-    let Says : SimTurn → Type 0 = λ says. Turned sight_in c.loop.sim c.turn.new.self (Ok says) in
+    let Says : SimTurn → Type 0 = λ says. Turned cut_view c.loop.sim c.turn.new.self (Ok says) in
     let last = c.loop-test.true in
     rests c.loop.counter c.loop.sim (omega (arith, last)) c.loop.invariant.moves (subst Says c.in-Ok-Idle.field-0-is once)
 
 pub returns-in-Ok-Ended-clause-goes : goal.returns-in-Ok-Ended-clause-goes
 returns-in-Ok-Ended-clause-goes c =
-    sim_then sight_in.received sight_in.sent c.args.sim.now c.loop.sim c.turn.new.self c.loop.invariant.goes c.turn.ensures.goes
+    sim_then cut_view c.args.sim.now c.loop.sim c.turn.new.self c.loop.invariant.goes c.turn.ensures.goes
 
 pub returns-in-Ok-Ended-clause-runs : goal.returns-in-Ok-Ended-clause-runs
 returns-in-Ok-Ended-clause-runs c =
-    let once : Turned sight_in c.loop.sim c.turn.new.self (Ok c.in-Ok-Ended.field-0) = record {
+    let once : Turned cut_view c.loop.sim c.turn.new.self (Ok c.in-Ok-Ended.field-0) = record {
       goes = c.turn.ensures.goes;
       turn = c.in-Ok-Ended.ensures.turn;
       failed = c.in-Ok-Ended.ensures.failed;
@@ -80,17 +81,17 @@ returns-in-Ok-Ended-clause-runs c =
       goes_on = c.in-Ok-Ended.ensures.goes_on;
       end = c.turn.ensures.end;
     } in
-    let Says : SimTurn → Type 0 = λ says. Turned sight_in c.loop.sim c.turn.new.self (Ok says) in
+    let Says : SimTurn → Type 0 = λ says. Turned cut_view c.loop.sim c.turn.new.self (Ok says) in
     let last = c.loop-test.true in
     ends c.loop.counter c.loop.sim (omega (arith, last)) c.loop.invariant.moves (subst Says c.in-Ok-Ended.field-0-is once)
 
 pub returns-in-Err-clause-goes : goal.returns-in-Err-clause-goes
 returns-in-Err-clause-goes c =
-    sim_then sight_in.received sight_in.sent c.args.sim.now c.loop.sim c.turn.new.self c.loop.invariant.goes c.turn.ensures.goes
+    sim_then cut_view c.args.sim.now c.loop.sim c.turn.new.self c.loop.invariant.goes c.turn.ensures.goes
 
 pub returns-in-Err-clause-runs : goal.returns-in-Err-clause-runs
 returns-in-Err-clause-runs c =
-    let once : Turned sight_in c.loop.sim c.turn.new.self (Err c.in-Err.why) = record {
+    let once : Turned cut_view c.loop.sim c.turn.new.self (Err c.in-Err.why) = record {
       goes = c.turn.ensures.goes;
       turn = c.in-Err.ensures.turn;
       failed = c.in-Err.ensures.failed;
@@ -113,7 +114,7 @@ returns-clause-goes c = c.loop.invariant.goes
 
 pub returns-clause-runs : goal.returns-clause-runs
 returns-clause-runs c =
-    let At : ℕ → Type 0 = λ n. MovesOn sight_in c.args.sim.now n c.loop.sim in
+    let At : ℕ → Type 0 = λ n. MovesOn cut_view c.args.sim.now n c.loop.sim in
     let last = c.loop-test.false in
     let all : c.loop.counter ≡ 64 = omega arith in
     moves (subst At all c.loop.invariant.moves)

@@ -3,10 +3,10 @@ use Rattle.std.proofs.Common.{map, subst}
 use Rattle.std.specs.Prelude.{vec_items}
 use Rattle.std.specs.declared.alloc.Global.{Global}
 use Rattle.std.specs.declared.vec.Vec.{Vec}
-use Rattle.serial_line.specs.ThreadLine.{EndState}
+use Rattle.serial_line.specs.ThreadLine.{EndState, thread_view}
 use Rattle.modem_desk.specs.declared.request.Outcome.{Outcome}
 use Rattle.modem_sim.specs.declared.script.Script.{Script}
-use Rattle.modem_bench.specs.Running.{IsLine, Ran, RanFor, look_at, sight_of}
+use Rattle.modem_bench.specs.Running.{IsLine, Ran, RanFor}
 use Rattle.modem_bench.specs.Simulating.{IsStarted}
 use Rattle.modem_bench.proofs.CallerThreads.{known_ok, ok_on}
 use Rattle.modem_bench.proofs.running.run_signalled.Goals as goal
@@ -14,7 +14,7 @@ use Rattle.modem_bench.proofs.running.run_signalled.Goals as goal
 pub returns : goal.returns
 returns g c =
     let ends = c.in_ok-ends.ends in
-    ok_on (λ (os : Vec (Vec Outcome Global) Global). RanFor look_at sight_of c.args.submissions.now ends.callers.items ends.session ends.sim (map vec_items os.items))
+    ok_on (λ (os : Vec (Vec Outcome Global) Global). RanFor thread_view c.args.submissions.now ends.callers.items ends.session ends.sim (map vec_items os.items))
     (λ (os : Vec (Vec Outcome Global) Global). Ran c.args.submissions.now c.args.callers c.args.cut c.args.script (map vec_items os.items))
     c.run_threads.result
     (λ os ran. record {
@@ -24,7 +24,7 @@ returns g c =
       session = ends.session;
       at_line = c.in_ok-ends.ensures.at_line;
       sim = ends.sim;
-      started = subst (λ (s : Script). IsStarted sight_of c.in_ok-line.line.1 s ends.sim) c.in_ok-line.ensures.kept c.in_ok-ends.ensures.started;
+      started = subst (λ (s : Script). IsStarted thread_view c.in_ok-line.line.1 s ends.sim) c.in_ok-line.ensures.kept c.in_ok-ends.ensures.started;
       callers = ends.callers.items;
       fresh = c.in_ok-ends.ensures.many;
       ran = ran;

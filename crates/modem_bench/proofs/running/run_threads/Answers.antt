@@ -5,8 +5,6 @@ use Rattle.std.specs.declared.vec.Vec.{Vec}
 use Rattle.std.specs.declared.alloc.Global.{Global}
 use Rattle.modem_desk.specs.Ends.{AreSubscribed, CallerView, DeskId, Place, IsWhole, subscription_of, place_of}
 use Rattle.modem_desk.specs.declared.request.Outcome.{Outcome}
-use Rattle.modem_driver.specs.SessionStates.{line_by}
-use Rattle.modem_sim.specs.Sims.{sight}
 use Rattle.modem_bench.specs.Driving.{WasSettled}
 use Rattle.modem_bench.specs.Running.{RanFor}
 use Rattle.modem_bench.specs.declared.calling.Worked.{Worked}
@@ -30,8 +28,7 @@ settle_run-requires-clause-listeners g c =
 
 pub returns : goal.returns
 returns g c =
-    let look = line_by g.L.SerialLine.received g.L.SerialLine.sent g.L.SerialLine.calls g.L.SerialLine.failures g.L.SerialLine.empty_reads g.L.SerialLine.stalled_writes in
-    let see = sight g.L.SerialLine.received g.L.SerialLine.sent g.L.SerialLine.calls g.L.SerialLine.failures g.L.SerialLine.empty_reads g.L.SerialLine.stalled_writes in
+    let look = g.L.SerialLine.seen in
     let s1 = c.in_ok-session.session in
     let ws = c.in_ok-session.back.items in
     let ls = c.args.ends.listeners.items in
@@ -42,9 +39,9 @@ returns g c =
     maps_through ws cs refl ∙ called_places c.args.submissions.now c.args.ends.callers.items ws called in
     ok_both (λ (os : Vec (Vec Outcome Global) Global). os.items ≡ map (λ (w : Worked). w.outcomes) ws)
     (λ (os : Vec (Vec Outcome Global) Global). WasSettled look s1 cs ls)
-    (λ (os : Vec (Vec Outcome Global) Global). RanFor look see c.args.submissions.now c.args.ends.callers.items c.args.ends.session c.args.ends.sim (map vec_items os.items))
+    (λ (os : Vec (Vec Outcome Global) Global). RanFor look c.args.submissions.now c.args.ends.callers.items c.args.ends.session c.args.ends.sim (map vec_items os.items))
     c.settle_run.result
-    (λ os outcomes over. ran_for look see c.args.submissions.now c.args.ends.callers.items cs ws os.items
+    (λ os outcomes over. ran_for look c.args.submissions.now c.args.ends.callers.items cs ws os.items
     c.args.ends.session s1 c.args.ends.sim ls over.settled
     called refl outcomes c.requires.begun on c.in_ok-session.ensures.simulated
     (subst (λ (x : DeskId × List Place). IsWhole x.0 x.1) (λ i. (sym on.takes.desk i, sym places i)) c.requires.callers)

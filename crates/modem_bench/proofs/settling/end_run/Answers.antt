@@ -3,7 +3,7 @@ use Rattle.std.proofs.Common.{ap, map, subst, sym}
 use Rattle.std.specs.Prelude.{vec_items}
 use Rattle.modem_desk.specs.Ends.{AreSubscribed, DeskId, DriverView, IsWhole, subscription_of, place_of}
 use Rattle.modem_desk.specs.Books.{DeskBooks}
-use Rattle.modem_driver.specs.SessionStates.{end_of, line_by}
+use Rattle.modem_driver.specs.SessionStates.{end_of}
 use Rattle.modem_bench.proofs.settling.end_run.Goals as goal
 
 pub settle-requires-clause-callers : goal.settle-requires-clause-callers
@@ -16,7 +16,7 @@ settle-requires-clause-listeners g c =
 
 pub returns-in-Ok : goal.returns-in-Ok
 returns-in-Ok g c =
-    let look = line_by g.L.SerialLine.received g.L.SerialLine.sent g.L.SerialLine.calls g.L.SerialLine.failures g.L.SerialLine.empty_reads g.L.SerialLine.stalled_writes in
+    let look = g.L.SerialLine.seen in
     let f = c.finish-finished.result in
     record {
       leftovers = record {

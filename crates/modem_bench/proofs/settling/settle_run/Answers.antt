@@ -4,7 +4,7 @@ use Rattle.std.specs.declared.alloc.Global.{Global}
 use Rattle.std.specs.declared.vec.Vec.{Vec}
 use Rattle.modem_desk.specs.Ends.{AreSubscribed, CallerView, DeskId, IsWhole, subscription_of, place_of}
 use Rattle.modem_desk.specs.declared.request.Outcome.{Outcome}
-use Rattle.modem_driver.specs.SessionStates.{SessionState, line_by}
+use Rattle.modem_driver.specs.SessionStates.{SessionState}
 use Rattle.modem_bench.specs.Driving.{IsOver}
 use Rattle.modem_bench.specs.declared.calling.Worked.{Worked}
 use Rattle.modem_bench.proofs.CallerThreads.{known_ok}
@@ -31,7 +31,7 @@ returns-clause-outcomes g c =
 
 pub returns-clause-over : goal.returns-clause-over
 returns-clause-over g c =
-    let look = line_by g.L.SerialLine.received g.L.SerialLine.sent g.L.SerialLine.calls g.L.SerialLine.failures g.L.SerialLine.empty_reads g.L.SerialLine.stalled_writes in
+    let look = g.L.SerialLine.seen in
     let callers : c.in_ok-callers.callers.items ≡ map (λ (w : Worked). w.caller) c.args.back.items =
     known_ok (λ (r : Parts). r.0.items ≡ map (λ (w : Worked). w.caller) c.args.back.items) c.parted.result (c.in_ok-callers.callers, c.in_ok-callers.outcomes) c.in_ok-callers.ensures.made c.parted.ensures.callers in
     let kept = c.in_ok-callers.ensures.kept in

@@ -1,13 +1,12 @@
 -- An entry goes on call by call, to its end.
 use Rattle.std.proofs.Common.{arith, subst, sym}
 use Rattle.modem_driver.specs.Entries.{IsUnderWay, answer_by}
-use Rattle.modem_driver.specs.SessionStates.{line_by}
 use Rattle.modem_driver.proofs.Entries.{begun, goes_on, ends_by, ends_failed, says_entered, says_why, none_answered}
 use Rattle.modem_driver.proofs.entering.enter.Goals as goal
 
 pub loop-init : goal.loop-init
 loop-init g c =
-    let l = line_by g.L.SerialLine.received g.L.SerialLine.sent g.L.SerialLine.calls g.L.SerialLine.failures g.L.SerialLine.empty_reads g.L.SerialLine.stalled_writes c.args.line.now in
+    let l = g.L.SerialLine.seen c.args.line.now in
     subst (IsUnderWay 0 l l) (sym c.new-entry.ensures) (begun l)
 
 pub loop-preserved : goal.loop-preserved

@@ -1,12 +1,11 @@
 -- Nothing has answered yet, and patience was asked after each call.
 use Rattle.std.specs.Prelude.{◌≡◌, false}
 use Rattle.modem_driver.specs.EntryTries.{AsksEach, IsAsking}
-use Rattle.modem_driver.specs.SessionStates.{line_by}
 use Rattle.modem_driver.proofs.entry_tries.ask.Given as goal
 
 abbrev pub invariant-loop : goal.invariant-loop
 invariant-loop g l =
-    let look = line_by g.L.SerialLine.received g.L.SerialLine.sent g.L.SerialLine.calls g.L.SerialLine.failures g.L.SerialLine.empty_reads g.L.SerialLine.stalled_writes in
+    let look = g.L.SerialLine.seen in
     record {
       asking : IsAsking (look l.initial.line) (look l.line) l.text l.counter l.entry (g.P.Patience.asked l.initial.patience) (g.P.Patience.asked l.patience);
       ready : g.P.Patience.is_over l.patience ≡ false;

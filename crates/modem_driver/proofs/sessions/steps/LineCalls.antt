@@ -1,11 +1,13 @@
 -- A session's calls on its line.
 use Rattle.std.proofs.Common.{ap, sym, ◌∙◌, subst, arith, take-append-drop, lit≤}
+use Rattle.std.proofs.Math.Seq.{take-length}
 use Rattle.std.proofs.lemmas.Bool.{le-ltb, lt-ltb, ne_eqb}
 use Rattle.std.proofs.lemmas.List.{append-nil, length-append, length-take-le, length-drop}
 use Rattle.std.specs.Prelude.{◌≡◌, ◌≢◌, ℕ, zero, suc, ◌+◌, ◌<◌, ◌≤◌, ◌==◌, ◌&&◌, ◌||◌, if◌then◌else◌, Option, nat_lt, Bool, true, false, List, [], ◌∷◌, ◌++◌, length, take, drop, refl, None, Some}
 use Rattle.mux_frame.specs.Frames.{Frame}
 use Rattle.mux_frame.specs.Deframing.{Deframing, TakesIn}
 use Rattle.serial_line.specs.Counts.{one_more, counted_if_none}
+use Rattle.serial_line.specs.LineViews.{after_fault, after_read, after_write}
 use Rattle.modem_history.specs.EveryTurn.{counted_none}
 use Rattle.modem_history.specs.Turns.{counted}
 use Rattle.modem_history.specs.Sessions.{LineView}
@@ -74,44 +76,49 @@ writes_none l old none d = record {
 }
 
 -- where some wait the line took some of them, or none
-pub writes_some : (l m : LineView) (old : Machine) (count : ℕ) → old.unwritten ≢ [] → count ≤ length old.unwritten → m.received ≡ l.received → m.sent ≡ l.sent ++ take count old.unwritten → m.failures ≡ l.failures → m.calls ≡ one_more l.calls → m.stalled_writes ≡ counted_if_none (length old.unwritten) count l.stalled_writes → m.empty_reads ≡ l.empty_reads
+pub writes_some : (l m : LineView) (old : Machine) (count : ℕ) → old.unwritten ≢ [] → count ≤ length old.unwritten → m ≡ after_write count old.unwritten l
     → MachineWrites l m old (record old { unwritten = drop count old.unwritten }) (nat_lt 0 count)
 unfolding MachineWrites Leads MachineMoves
-writes_some l m old count some few received sent failures calls stalled empty d = record {
-  write = Some (record { offered = old.unwritten; count = count });
-  leads = λ b past f. write_goes l m old count received sent failures b d past f;
-  offers = record { some = some_length old.unwritten some; bound = few; first = record { rest = []; joins = append-nil old.unwritten ∙ sym (take-append-drop count old.unwritten) } };
-  offered = refl;
-  left = refl;
-  stalled = λ _. stalled ∙ none_counted (length old.unwritten) count l.stalled_writes;
-  empty_stays = empty;
-  went = sent;
-  came_none = received;
-  calls = calls;
-  moved_is = more_by (length l.sent) count ∙ ap (nat_lt (length l.sent)) (sym (ap length sent ∙ (length-append l.sent (take count old.unwritten) ∙ ap (λ (n : ℕ). length l.sent + n) (length-take-le count old.unwritten few))));
-  still = λ still same. ap (λ (n : ℕ). record old { unwritten = drop n old.unwritten }) (none_more count still);
-  stays = refl;
-}
+writes_some l m old count some few took d =
+    let received : m.received ≡ l.received = ap (λ (v : LineView). v.received) took in
+    let sent : m.sent ≡ l.sent ++ take count old.unwritten = ap (λ (v : LineView). v.sent) took in
+    record {
+      write = Some (record { offered = old.unwritten; count = count });
+      leads = λ b past f. write_goes l m old count received sent (ap (λ (v : LineView). v.failures) took) b d past f;
+      offers = record { some = some_length old.unwritten some; bound = few; first = record { rest = []; joins = append-nil old.unwritten ∙ sym (take-append-drop count old.unwritten) } };
+      offered = refl;
+      left = refl;
+      stalled = λ _. ap (λ (v : LineView). v.stalled_writes) took ∙ none_counted (length old.unwritten) count l.stalled_writes;
+      empty_stays = ap (λ (v : LineView). v.empty_reads) took;
+      went = sent;
+      came_none = received;
+      calls = ap (λ (v : LineView). v.calls) took;
+      moved_is = more_by (length l.sent) count ∙ ap (nat_lt (length l.sent)) (sym (ap length sent ∙ (length-append l.sent (take count old.unwritten) ∙ ap (λ (n : ℕ). length l.sent + n) (length-take-le count old.unwritten few))));
+      still = λ still same. ap (λ (n : ℕ). record old { unwritten = drop n old.unwritten }) (none_more count still);
+      stays = refl;
+    }
 
 -- or the call failed
-pub writes_failing : (l m : LineView) (old : Machine) → old.unwritten ≢ [] → m.received ≡ l.received → m.sent ≡ l.sent → m.failures ≡ l.failures + 1 → m.calls ≡ one_more l.calls → m.empty_reads ≡ l.empty_reads
-    → MachineWrites l m old (record old { faulty = true }) false
+pub writes_failing : (l m : LineView) (old : Machine) → old.unwritten ≢ [] → m ≡ after_fault l → MachineWrites l m old (record old { faulty = true }) false
 unfolding MachineWrites Leads MachineMoves
-writes_failing l m old some received sent failures calls empty d = record {
-  write = Some (record { offered = old.unwritten; count = 0 });
-  leads = λ b past f. fault_goes l m old received sent failures b d past f;
-  offers = record { some = some_length old.unwritten some; bound = omega arith; first = record { rest = []; joins = append-nil old.unwritten } };
-  offered = refl;
-  left = refl;
-  stalled = λ sound. absurd (true_is_false sound);
-  empty_stays = empty;
-  went = sent ∙ sym (append-nil l.sent);
-  came_none = received;
-  calls = calls;
-  moved_is = never_less (length l.sent) ∙ ap (λ (xs : List ℕ). nat_lt (length l.sent) (length xs)) (sym sent);
-  still = λ still same. ap (λ (c : Bool). record old { faulty = c }) same;
-  stays = refl;
-}
+writes_failing l m old some fault d =
+    let received : m.received ≡ l.received = ap (λ (v : LineView). v.received) fault in
+    let sent : m.sent ≡ l.sent = ap (λ (v : LineView). v.sent) fault in
+    record {
+      write = Some (record { offered = old.unwritten; count = 0 });
+      leads = λ b past f. fault_goes l m old received sent (ap (λ (v : LineView). v.failures) fault) b d past f;
+      offers = record { some = some_length old.unwritten some; bound = omega arith; first = record { rest = []; joins = append-nil old.unwritten } };
+      offered = refl;
+      left = refl;
+      stalled = λ sound. absurd (true_is_false sound);
+      empty_stays = ap (λ (v : LineView). v.empty_reads) fault;
+      went = sent ∙ sym (append-nil l.sent);
+      came_none = received;
+      calls = ap (λ (v : LineView). v.calls) fault;
+      moved_is = never_less (length l.sent) ∙ ap (λ (xs : List ℕ). nat_lt (length l.sent) (length xs)) (sym sent);
+      still = λ still same. ap (λ (c : Bool). record old { faulty = c }) same;
+      stays = refl;
+    }
 
 -- ## Reading and feeding
 
@@ -158,87 +165,95 @@ reads_fed l old new count some k =
     subst (λ (v : Machine). MachineReads l l old v (nat_lt 0 count)) (sym k.stays) (fed_there l old new.deframer count some k.takes k.bound k.few k.some k.frame_stays)
 
 -- where none wait the line was read, and gave none
-pub reads_none : (l m : LineView) (old : Machine) → old.unfed ≡ [] → m.received ≡ l.received ++ [] → m.sent ≡ l.sent → m.failures ≡ l.failures → m.calls ≡ one_more l.calls → m.empty_reads ≡ counted_if_none 512 0 l.empty_reads → m.stalled_writes ≡ l.stalled_writes → MachineReads l m old (record old { unfed = [] }) false
+pub reads_none : (l m : LineView) (old : Machine) → old.unfed ≡ [] → m ≡ after_read 512 0 [] l → MachineReads l m old (record old { unfed = [] }) false
 unfolding MachineReads Leads MachineMoves
-reads_none l m old none received sent failures calls empty stalled d = record {
-  read = Some (record { room = 512; octets = [] });
-  leads = λ b past f. read_goes l m old [] none received sent failures b d past f;
-  room = lit≤ tt;
-  came = received;
-  went_none = sent;
-  calls = calls;
-  unfed = omega arith;
-  reads_fed = λ _. none;
-  moved_is =
-      (never_less (length l.received) ∙ ap (λ (xs : List ℕ). nat_lt (length l.received) (length xs)) (sym (received ∙ append-nil l.received)))
-      ∙ (or_no (nat_lt (length l.received) (length m.received)) ∙ ap (λ (xs : List ℕ). nat_lt (length l.received) (length m.received) || nat_lt 0 (length xs)) (sym none));
-  nothing_came = λ _ _ _. (refl, ap (λ (xs : List ℕ). record old { unfed = xs }) (sym none));
-  feeds = λ _ some _. some none;
-  reads = lit≤ tt;
-  empty = λ _. empty ∙ none_counted 512 0 l.empty_reads;
-  stalled_stays = stalled;
-  fewer = λ _ some. absurd (some (append-nil old.unfed ∙ none));
-  frame_stays = λ f e. e;
-  stays = refl;
-}
+reads_none l m old none gave d =
+    let received : m.received ≡ l.received ++ [] = ap (λ (v : LineView). v.received) gave in
+    let sent : m.sent ≡ l.sent = ap (λ (v : LineView). v.sent) gave in
+    record {
+      read = Some (record { room = 512; octets = [] });
+      leads = λ b past f. read_goes l m old [] none received sent (ap (λ (v : LineView). v.failures) gave) b d past f;
+      room = lit≤ tt;
+      came = received;
+      went_none = sent;
+      calls = ap (λ (v : LineView). v.calls) gave;
+      unfed = omega arith;
+      reads_fed = λ _. none;
+      moved_is =
+          (never_less (length l.received) ∙ ap (λ (xs : List ℕ). nat_lt (length l.received) (length xs)) (sym (received ∙ append-nil l.received)))
+          ∙ (or_no (nat_lt (length l.received) (length m.received)) ∙ ap (λ (xs : List ℕ). nat_lt (length l.received) (length m.received) || nat_lt 0 (length xs)) (sym none));
+      nothing_came = λ _ _ _. (refl, ap (λ (xs : List ℕ). record old { unfed = xs }) (sym none));
+      feeds = λ _ some _. some none;
+      reads = lit≤ tt;
+      empty = λ _. ap (λ (v : LineView). v.empty_reads) gave ∙ none_counted 512 0 l.empty_reads;
+      stalled_stays = ap (λ (v : LineView). v.stalled_writes) gave;
+      fewer = λ _ some. absurd (some (append-nil old.unfed ∙ none));
+      frame_stays = λ f e. e;
+      stays = refl;
+    }
   where
     or_no : (c : Bool) → c ≡ (c || false)
     or_no true = refl
     or_no false = refl
 
 -- or the call failed
-pub reads_failing : (l m : LineView) (old : Machine) → old.unfed ≡ [] → m.received ≡ l.received → m.sent ≡ l.sent → m.failures ≡ l.failures + 1 → m.calls ≡ one_more l.calls → m.stalled_writes ≡ l.stalled_writes → MachineReads l m old (record old { faulty = true }) false
+pub reads_failing : (l m : LineView) (old : Machine) → old.unfed ≡ [] → m ≡ after_fault l → MachineReads l m old (record old { faulty = true }) false
 unfolding MachineReads Leads MachineMoves
-reads_failing l m old none received sent failures calls stalled d = record {
-  read = Some (record { room = 512; octets = [] });
-  leads = λ b past f. fault_goes l m old received sent failures b d past f;
-  room = lit≤ tt;
-  came = received ∙ sym (append-nil l.received);
-  went_none = sent;
-  calls = calls;
-  unfed = omega arith;
-  reads_fed = λ _. none;
-  moved_is =
-      (never_less (length l.received) ∙ ap (λ (xs : List ℕ). nat_lt (length l.received) (length xs)) (sym received))
-      ∙ (or_less (nat_lt (length l.received) (length m.received)) ∙ ap (λ (c : Bool). nat_lt (length l.received) (length m.received) || c) (never_less (length old.unfed)));
-  nothing_came = λ _ same _. (refl, ap (λ (c : Bool). record old { faulty = c }) same);
-  feeds = λ _ some _. absurd (some none);
-  reads = lit≤ tt;
-  empty = λ sound. absurd (true_is_false sound);
-  stalled_stays = stalled;
-  fewer = λ _ some. absurd (some (append-nil old.unfed ∙ none));
-  frame_stays = λ f e. e;
-  stays = refl;
-}
+reads_failing l m old none fault d =
+    let received : m.received ≡ l.received = ap (λ (v : LineView). v.received) fault in
+    let sent : m.sent ≡ l.sent = ap (λ (v : LineView). v.sent) fault in
+    record {
+      read = Some (record { room = 512; octets = [] });
+      leads = λ b past f. fault_goes l m old received sent (ap (λ (v : LineView). v.failures) fault) b d past f;
+      room = lit≤ tt;
+      came = received ∙ sym (append-nil l.received);
+      went_none = sent;
+      calls = ap (λ (v : LineView). v.calls) fault;
+      unfed = omega arith;
+      reads_fed = λ _. none;
+      moved_is =
+          (never_less (length l.received) ∙ ap (λ (xs : List ℕ). nat_lt (length l.received) (length xs)) (sym received))
+          ∙ (or_less (nat_lt (length l.received) (length m.received)) ∙ ap (λ (c : Bool). nat_lt (length l.received) (length m.received) || c) (never_less (length old.unfed)));
+      nothing_came = λ _ same _. (refl, ap (λ (c : Bool). record old { faulty = c }) same);
+      feeds = λ _ some _. absurd (some none);
+      reads = lit≤ tt;
+      empty = λ sound. absurd (true_is_false sound);
+      stalled_stays = ap (λ (v : LineView). v.stalled_writes) fault;
+      fewer = λ _ some. absurd (some (append-nil old.unfed ∙ none));
+      frame_stays = λ f e. e;
+      stays = refl;
+    }
   where
     or_less : (c : Bool) → c ≡ (c || false)
     or_less true = refl
     or_less false = refl
 
 -- octets came, and were given to the deframer at once
-pub reads_some : (l m : LineView) (old : Machine) (came : List ℕ) (fed : Deframing) (count : ℕ) → old.unfed ≡ [] → came ≢ [] → length came ≤ 512 → m.received ≡ l.received ++ came → m.sent ≡ l.sent → m.failures ≡ l.failures → m.calls ≡ one_more l.calls → m.empty_reads ≡ counted_if_none 512 (length came) l.empty_reads → m.stalled_writes ≡ l.stalled_writes
+pub reads_some : (l m : LineView) (old : Machine) (came : List ℕ) (fed : Deframing) (count : ℕ) → old.unfed ≡ [] → came ≢ [] → length came ≤ 512 → m ≡ after_read 512 (length came) came l
     → TakesIn old.deframer (take count came) fed → fed.n1 ≡ old.deframer.n1 → count ≤ length came → (old.deframer.next ≡ None → 0 < length came → 0 < count) → ((f : Frame) → old.deframer.next ≡ Some f → fed.next ≡ Some f)
     → MachineReads l m old (record old { unfed = drop count came; deframer = fed }) true
 unfolding MachineReads Leads MachineMoves MachineGoes
-reads_some l m old came fed count none some few received sent failures calls empty stalled takes bound part more stays d =
+reads_some l m old came fed count none some few gave takes bound part more stays d =
+    let received : m.received ≡ l.received ++ came = ap (λ (v : LineView). v.received) gave ∙ ap (λ (xs : List ℕ). l.received ++ xs) (take-length came) in
+    let sent : m.sent ≡ l.sent = ap (λ (v : LineView). v.sent) gave in
     let long : length m.received ≡ length l.received + length came = ap length received ∙ length-append l.received came in
     let least = some_length came some in
     let moved : nat_lt (length l.received) (length m.received) ≡ true = lt-ltb (length l.received) (length m.received) (omega (arith, long, least)) in
     record {
       read = Some (record { room = 512; octets = came });
-      leads = λ b past f. feed_goes (record old { unfed = came }) fed count takes bound b m d past (read_goes l m old came none received sent failures b d past f);
+      leads = λ b past f. feed_goes (record old { unfed = came }) fed count takes bound b m d past (read_goes l m old came none received sent (ap (λ (v : LineView). v.failures) gave) b d past f);
       room = few;
       came = received;
       went_none = sent;
-      calls = calls;
+      calls = ap (λ (v : LineView). v.calls) gave;
       unfed = let rest = length-drop count came in omega (arith, rest);
       reads_fed = λ _. none;
       moved_is = ap (λ (c : Bool). c || nat_lt (length (drop count came)) (length old.unfed)) (sym moved);
       nothing_came = λ h. absurd (true_false h);
       feeds = λ h. absurd (true_false h);
       reads = lit≤ tt;
-      empty = λ _. empty ∙ none_counted 512 (length came) l.empty_reads;
-      stalled_stays = stalled;
+      empty = λ _. ap (λ (v : LineView). v.empty_reads) gave ∙ none_counted 512 (length came) l.empty_reads;
+      stalled_stays = ap (λ (v : LineView). v.stalled_writes) gave;
       fewer = λ at_hand _.
           let rest = left_over came count part in
           let least_fed = more (none_before old.deframer.next fed.next stays at_hand) least in

@@ -8,9 +8,8 @@ use Rattle.data_files.proofs.filed_line.FiledLine.into_files.Goals as goal
 
 pub returns-clause-fits : goal.returns-clause-fits
 returns-clause-fits g c =
-    let r = g.P.SerialLine.received in
-    let s = g.P.SerialLine.sent in
+    let look = g.P.SerialLine.seen in
     let moved = c.into_parts-line.ensures.moved in
-    subst (λ (fs : List (FileState _)). All (FileFits r s []) fs)
-    (sym (c.begin_again.ensures ∙ ap (λ (fs : List (FileState _)). map (again r s) fs) c.into_parts-line.ensures.files))
-    (all_again r s (passes moved.past) c.args.self.files moved.files)
+    subst (λ (fs : List (FileState _)). All (FileFits look []) fs)
+    (sym (c.begin_again.ensures ∙ ap (λ (fs : List (FileState _)). map (again look) fs) c.into_parts-line.ensures.files))
+    (all_again look (passes moved.past) c.args.self.files moved.files)

@@ -10,7 +10,7 @@ loop-preserved g c =
     let e = c.round-in-loop.ensures in
     let now = c.round-in-loop.new.self in
     record {
-      turns = turns_then g.L.SerialLine.received g.L.SerialLine.sent g.P.SerialLine.received g.P.SerialLine.sent g.P.SerialLine.empty_reads g.P.SerialLine.stalled_writes c.args.self.now c.loop.self now.files
+      turns = turns_then g.L.SerialLine.seen g.P.SerialLine.seen c.args.self.now c.loop.self now.files
           c.loop.invariant.turns e.turns;
       same = e.same ∙ ap (λ (x : FiledState _ _). record x { line = now.line; files = now.files }) c.loop.invariant.same;
       beside = e.beside

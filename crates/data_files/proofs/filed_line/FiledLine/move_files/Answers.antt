@@ -14,7 +14,7 @@ loop-place-preserved g c =
     let long = e.count in
     record {
       few = omega (arith, there, long);
-      turns = turns_more g.L.SerialLine.received g.L.SerialLine.sent g.P.SerialLine.received g.P.SerialLine.sent g.P.SerialLine.empty_reads g.P.SerialLine.stalled_writes c.loop-place.place _ c.loop-place.self c.move_file-moved.new.self
+      turns = turns_more g.L.SerialLine.seen g.P.SerialLine.seen c.loop-place.place _ c.loop-place.self c.move_file-moved.new.self
           c.loop-place.invariant.turns there e.moves e.same e.count;
       same = e.same ∙ ap (λ (x : FiledState _ _). record x { line = c.move_file-moved.new.self.line; files = c.move_file-moved.new.self.files }) c.loop-place.invariant.same;
       beside = e.beside ∙ ap (λ (x : DataLineState _). record x { relay = c.move_file-moved.new.self.line.relay }) c.loop-place.invariant.beside;

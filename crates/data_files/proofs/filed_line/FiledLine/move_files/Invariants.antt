@@ -6,7 +6,7 @@ use Rattle.data_files.proofs.filed_line.FiledLine.move_files.Given as goal
 abbrev pub invariant-loop-place : goal.invariant-loop-place
 invariant-loop-place g l = record {
   few : l.place ≤ length l.self.files;
-  turns : TurnsSoFar g.L.SerialLine.received g.L.SerialLine.sent g.P.SerialLine.received g.P.SerialLine.sent g.P.SerialLine.empty_reads g.P.SerialLine.stalled_writes l.place l.fn.self l.self;
+  turns : TurnsSoFar g.L.SerialLine.seen g.P.SerialLine.seen l.place l.fn.self l.self;
   same : l.self ≡ record l.fn.self { line = l.self.line; files = l.self.files };
   beside : l.self.line ≡ record l.fn.self.line { relay = l.self.line.relay };
 }

@@ -2,4 +2,4 @@ use Rattle.data_files.proofs.Lifts.{line_passes}
 use Rattle.data_files.proofs.filed_line.FiledLine.read_line.Goals as goal
 
 pub invariant_of-self : goal.invariant_of-self
-invariant_of-self g c = line_passes g.L.SerialLine.received g.L.SerialLine.sent g.P.SerialLine.received g.P.SerialLine.sent (record { line = c.self.inside.line; files = c.self.inside.files.items; role = c.self.inside.role; n1 = c.self.inside.n1; before = c.self.inside.before }) c.try_read.new.self _ c.try_read.ensures.goes c.self.invariant
+invariant_of-self g c = line_passes g.L.SerialLine.seen g.P.SerialLine.seen (record { line = c.self.inside.line; files = c.self.inside.files.items; role = c.self.inside.role; n1 = c.self.inside.n1; before = c.self.inside.before }) c.try_read.new.self _ c.try_read.ensures.goes c.self.invariant

@@ -4,4 +4,4 @@ use Rattle.modem_data_line.proofs.data_line.DataLine.feed_relay.Goals as goal
 
 -- src/moving.rt:109:5
 pub returns-clause-goes : goal.returns-clause-goes
-returns-clause-goes g c = rw (← c.self.view_is) (takes_waiting g.L.SerialLine.received g.L.SerialLine.sent _ _ c.feed.ensures.feeds refl)
+returns-clause-goes g c = rw (← c.self.view_is) (takes_waiting g.L.SerialLine.seen _ _ c.feed.ensures.feeds refl)

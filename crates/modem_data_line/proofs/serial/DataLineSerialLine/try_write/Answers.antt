@@ -6,6 +6,6 @@ use Rattle.modem_data_line.proofs.serial.DataLineSerialLine.try_write.Goals as g
 pub returns-clause-stuck : goal.returns-clause-stuck
 returns-clause-stuck g c = λ z some.
     let same = c.in_ok-begin_call.ensures.goes_on in
-    offered_or g.L.SerialLine.sent g.L.SerialLine.stalled_writes c.args.self.now.line c.begin_call.new.self.line c.pass_out-count.new.self.line c.self.inside.line
+    offered_or g.L.SerialLine.seen c.args.self.now.line c.begin_call.new.self.line c.pass_out-count.new.self.line c.self.inside.line
     c.pass_out-count.new.self.is_lost c.self.inside.is_lost (ap (λ (x : DataLineState _). x.line) same)
     (ap (λ (x : DataLineState _). x.line) c.self.view_is) (ap (λ (x : DataLineState _). x.is_lost) c.self.view_is) (c.pass_out-count.ensures.stuck z some)

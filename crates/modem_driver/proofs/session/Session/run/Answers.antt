@@ -4,7 +4,7 @@ use Rattle.std.specs.Prelude.{refl, if◌then◌else◌, Ok, Err, Bool}
 use Rattle.modem_driver.specs.declared.session.ending.Ended.TheVariants.{Stopped}
 use Rattle.modem_driver.specs.declared.session.polling.Progress.{Progress}
 use Rattle.modem_driver.specs.declared.session.polling.Progress.TheVariants as progress
-use Rattle.modem_driver.specs.SessionStates.{SessionState, TakesMore, line_by}
+use Rattle.modem_driver.specs.SessionStates.{SessionState, TakesMore}
 use Rattle.modem_driver.specs.Polls.{SaysEnd, SessionGoesOn, has_ended, with_end}
 use Rattle.modem_driver.proofs.sessions.polls.Polls.{ended_says, ends_failing, ends_stopped, failing_says, goes_then}
 use Rattle.modem_driver.proofs.session.Session.run.Goals as goal
@@ -20,14 +20,14 @@ returns-then-has_ended-clause-polls g c =
 
 pub returns-then-has_ended-clause-goes : goal.returns-then-has_ended-clause-goes
 returns-then-has_ended-clause-goes g c =
-    let look = line_by g.L.SerialLine.received g.L.SerialLine.sent g.L.SerialLine.calls g.L.SerialLine.failures g.L.SerialLine.empty_reads g.L.SerialLine.stalled_writes in
+    let look = g.L.SerialLine.seen in
     let mid = c.turns.new.self in
     let ended : has_ended mid.machine ≡ true = sym c.has_ended.ensures ∙ c.if-has_ended.true in
     subst (SessionGoesOn look c.args.self.now) (sym c.keep_end.ensures) (goes_then look c.args.self.now mid (with_end (Ok Stopped) mid) c.in-Ok.ensures.goes (ends_stopped look mid ended))
 
 pub returns-then-has_ended-clause-says : goal.returns-then-has_ended-clause-says
 returns-then-has_ended-clause-says g c =
-    let look = line_by g.L.SerialLine.received g.L.SerialLine.sent g.L.SerialLine.calls g.L.SerialLine.failures g.L.SerialLine.empty_reads g.L.SerialLine.stalled_writes in
+    let look = g.L.SerialLine.seen in
     let mid = c.turns.new.self in
     subst (λ (s : SessionState g.row.L.Denot). SaysEnd look s (Ok Stopped)) (sym c.keep_end.ensures) (ended_says look (with_end (Ok Stopped) mid) (Ok Stopped) refl)
 
@@ -45,13 +45,13 @@ returns-else-more-clause-polls g c =
 
 pub returns-in-Err : goal.returns-in-Err
 returns-in-Err g c =
-    let look = line_by g.L.SerialLine.received g.L.SerialLine.sent g.L.SerialLine.calls g.L.SerialLine.failures g.L.SerialLine.empty_reads g.L.SerialLine.stalled_writes in
+    let look = g.L.SerialLine.seen in
     let old = c.args.self.now in
     let mid = c.turns.new.self in
     let why = c.in-Err.why in
     let kept = c.keep_end-in-Err.ensures in
     let goes : SessionGoesOn look old (with_end (Err why) mid) = goes_then look old mid (with_end (Err why) mid) c.in-Err.ensures.goes (ends_failing look mid why c.in-Err.ensures.lost) in
-    let Few : SessionState g.row.L.Denot → Type 0 = λ s. g.L.SerialLine.calls s.line ≤ g.L.SerialLine.calls old.line + 128 in
+    let Few : SessionState g.row.L.Denot → Type 0 = λ s. (g.L.SerialLine.seen s.line).calls ≤ (g.L.SerialLine.seen old.line).calls + 128 in
     record {
       polls = record { mid = mid; ran = Err why; runs = c.in-Err.ensures.runs; given_is = refl; stays = kept };
       goes = subst (SessionGoesOn look old) (sym kept) goes;

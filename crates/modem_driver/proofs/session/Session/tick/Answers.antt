@@ -1,8 +1,7 @@
 -- A tick of what is kept.
-use Rattle.modem_driver.specs.SessionStates.{line_by}
 use Rattle.modem_driver.proofs.sessions.steps.StartAndTick.{session_ticks}
 use Rattle.modem_driver.proofs.session.Session.tick.Goals as goal
 
 pub returns-clause-ticks : goal.returns-clause-ticks
 returns-clause-ticks g c =
-    session_ticks (line_by g.L.SerialLine.received g.L.SerialLine.sent g.L.SerialLine.calls g.L.SerialLine.failures g.L.SerialLine.empty_reads g.L.SerialLine.stalled_writes) c.self.inside.line c.self.inside.driver c.args.self.now c.self.inside.machine c.tick.new.self c.self.view_is c.in_ok-tick.ensures.ticks
+    session_ticks g.L.SerialLine.seen c.self.inside.line c.self.inside.driver c.args.self.now c.self.inside.machine c.tick.new.self c.self.view_is c.in_ok-tick.ensures.ticks

@@ -2,7 +2,6 @@
 use Rattle.std.proofs.Common.{ap, sym, ◌∙◌, subst, true, false, Bool}
 use Rattle.std.specs.Prelude.{refl, Result, Ok, Err}
 use Rattle.modem_driver.specs.declared.session.error.SessionFault.{SessionFault}
-use Rattle.modem_driver.specs.SessionStates.{line_by}
 use Rattle.modem_driver.specs.TurnSteps.{TurnState}
 use Rattle.modem_driver.specs.SessionTurns.{Answers, TakesTurn, Faults, standing_of, turn_answer}
 use Rattle.modem_driver.proofs.sessions.meanings.TurnMeanings.{goes_turn}
@@ -14,40 +13,40 @@ use Rattle.modem_driver.proofs.session.Session.turn.Goals as goal
 pub returns-then-is_lost-clause-faults : goal.returns-then-is_lost-clause-faults
 unfolding Faults
 returns-then-is_lost-clause-faults g c =
-    let look = line_by g.L.SerialLine.received g.L.SerialLine.sent g.L.SerialLine.calls g.L.SerialLine.failures g.L.SerialLine.empty_reads g.L.SerialLine.stalled_writes in
+    let look = g.L.SerialLine.seen in
     let p = c.place-placed.ensures.places in
     (failed_before p (lost_at_first true p (sym c.is_lost.ensures ∙ c.if-is_lost.true))).fault
 
 pub returns-then-is_lost-clause-turned : goal.returns-then-is_lost-clause-turned
 returns-then-is_lost-clause-turned g c =
-    let look = line_by g.L.SerialLine.received g.L.SerialLine.sent g.L.SerialLine.calls g.L.SerialLine.failures g.L.SerialLine.empty_reads g.L.SerialLine.stalled_writes in
+    let look = g.L.SerialLine.seen in
     let p = c.place-placed.ensures.places in
     (failed_before p (lost_at_first true p (sym c.is_lost.ensures ∙ c.if-is_lost.true))).turned
 
 pub returns-then-is_faulty-clause-faults : goal.returns-then-is_faulty-clause-faults
 unfolding Faults
 returns-then-is_faulty-clause-faults g c =
-    let look = line_by g.L.SerialLine.received g.L.SerialLine.sent g.L.SerialLine.calls g.L.SerialLine.failures g.L.SerialLine.empty_reads g.L.SerialLine.stalled_writes in
+    let look = g.L.SerialLine.seen in
     let p = c.place-placed.ensures.places in
     (lost_first c.lose_line.result (standing_of look c.lose_line.new.self) p c.lose_line.ensures.loses (lost_at_first false p (sym c.is_lost.ensures ∙ c.if-is_lost.false))).fault
 
 pub returns-then-is_faulty-clause-turned : goal.returns-then-is_faulty-clause-turned
 returns-then-is_faulty-clause-turned g c =
-    let look = line_by g.L.SerialLine.received g.L.SerialLine.sent g.L.SerialLine.calls g.L.SerialLine.failures g.L.SerialLine.empty_reads g.L.SerialLine.stalled_writes in
+    let look = g.L.SerialLine.seen in
     let p = c.place-placed.ensures.places in
     (lost_first c.lose_line.result (standing_of look c.lose_line.new.self) p c.lose_line.ensures.loses (lost_at_first false p (sym c.is_lost.ensures ∙ c.if-is_lost.false))).turned
 
 pub returns-then-is_faulty-2-clause-faults : goal.returns-then-is_faulty-2-clause-faults
 unfolding Faults
 returns-then-is_faulty-2-clause-faults g c =
-    let look = line_by g.L.SerialLine.received g.L.SerialLine.sent g.L.SerialLine.calls g.L.SerialLine.failures g.L.SerialLine.empty_reads g.L.SerialLine.stalled_writes in
+    let look = g.L.SerialLine.seen in
     let p = c.place-placed.ensures.places in
     let end = c.lose_line-then-is_faulty-2 in
     (lost_writing end.result (standing_of look end.new.self) p c.check_backlogs-checked.ensures.checks c.send_on-sent.ensures.sends c.write_on-wrote.ensures.writes end.ensures.loses (faulty_at_first false p (sym c.is_faulty.ensures ∙ c.if-is_faulty.false)) (lost_at_first false p (sym c.is_lost.ensures ∙ c.if-is_lost.false))).fault
 
 pub returns-then-is_faulty-2-clause-turned : goal.returns-then-is_faulty-2-clause-turned
 returns-then-is_faulty-2-clause-turned g c =
-    let look = line_by g.L.SerialLine.received g.L.SerialLine.sent g.L.SerialLine.calls g.L.SerialLine.failures g.L.SerialLine.empty_reads g.L.SerialLine.stalled_writes in
+    let look = g.L.SerialLine.seen in
     let p = c.place-placed.ensures.places in
     let end = c.lose_line-then-is_faulty-2 in
     (lost_writing end.result (standing_of look end.new.self) p c.check_backlogs-checked.ensures.checks c.send_on-sent.ensures.sends c.write_on-wrote.ensures.writes end.ensures.loses (faulty_at_first false p (sym c.is_faulty.ensures ∙ c.if-is_faulty.false)) (lost_at_first false p (sym c.is_lost.ensures ∙ c.if-is_lost.false))).turned
@@ -55,27 +54,27 @@ returns-then-is_faulty-2-clause-turned g c =
 pub returns-in_default-clause-faults : goal.returns-in_default-clause-faults
 unfolding Faults
 returns-in_default-clause-faults g c =
-    let look = line_by g.L.SerialLine.received g.L.SerialLine.sent g.L.SerialLine.calls g.L.SerialLine.failures g.L.SerialLine.empty_reads g.L.SerialLine.stalled_writes in
+    let look = g.L.SerialLine.seen in
     let p = c.place-placed.ensures.places in
     (gets_in_vain (standing_of look c.get_one.new.self) p c.check_backlogs-checked.ensures.checks c.send_on-sent.ensures.sends c.write_on-wrote.ensures.writes (ap (standing_of look) c.in_default.ensures.err) (sym c.is_faulty-2.ensures ∙ c.if-is_faulty-2.false) (lost_at_first false p (sym c.is_lost.ensures ∙ c.if-is_lost.false))).fault
 
 pub returns-in_default-clause-turned : goal.returns-in_default-clause-turned
 returns-in_default-clause-turned g c =
-    let look = line_by g.L.SerialLine.received g.L.SerialLine.sent g.L.SerialLine.calls g.L.SerialLine.failures g.L.SerialLine.empty_reads g.L.SerialLine.stalled_writes in
+    let look = g.L.SerialLine.seen in
     let p = c.place-placed.ensures.places in
     (gets_in_vain (standing_of look c.get_one.new.self) p c.check_backlogs-checked.ensures.checks c.send_on-sent.ensures.sends c.write_on-wrote.ensures.writes (ap (standing_of look) c.in_default.ensures.err) (sym c.is_faulty-2.ensures ∙ c.if-is_faulty-2.false) (lost_at_first false p (sym c.is_lost.ensures ∙ c.if-is_lost.false))).turned
 
 pub returns-then-is_faulty-3-clause-faults : goal.returns-then-is_faulty-3-clause-faults
 unfolding Faults
 returns-then-is_faulty-3-clause-faults g c =
-    let look = line_by g.L.SerialLine.received g.L.SerialLine.sent g.L.SerialLine.calls g.L.SerialLine.failures g.L.SerialLine.empty_reads g.L.SerialLine.stalled_writes in
+    let look = g.L.SerialLine.seen in
     let p = c.place-placed.ensures.places in
     let end = c.lose_line-then-is_faulty-3 in
     (lost_reading end.result (standing_of look end.new.self) p c.check_backlogs-checked.ensures.checks c.send_on-sent.ensures.sends c.write_on-wrote.ensures.writes c.in-Ok.ensures.gets c.read_on-read.ensures.reads end.ensures.loses (faulty_at_first false p (sym c.is_faulty.ensures ∙ c.if-is_faulty.false)) (lost_at_first false p (sym c.is_lost.ensures ∙ c.if-is_lost.false))).fault
 
 pub returns-then-is_faulty-3-clause-turned : goal.returns-then-is_faulty-3-clause-turned
 returns-then-is_faulty-3-clause-turned g c =
-    let look = line_by g.L.SerialLine.received g.L.SerialLine.sent g.L.SerialLine.calls g.L.SerialLine.failures g.L.SerialLine.empty_reads g.L.SerialLine.stalled_writes in
+    let look = g.L.SerialLine.seen in
     let p = c.place-placed.ensures.places in
     let end = c.lose_line-then-is_faulty-3 in
     (lost_reading end.result (standing_of look end.new.self) p c.check_backlogs-checked.ensures.checks c.send_on-sent.ensures.sends c.write_on-wrote.ensures.writes c.in-Ok.ensures.gets c.read_on-read.ensures.reads end.ensures.loses (faulty_at_first false p (sym c.is_faulty.ensures ∙ c.if-is_faulty.false)) (lost_at_first false p (sym c.is_lost.ensures ∙ c.if-is_lost.false))).turned
@@ -106,38 +105,38 @@ returns-clause-turned g c =
 
 pub returns-then-is_lost-clause-takes : goal.returns-then-is_lost-clause-takes
 returns-then-is_lost-clause-takes g c =
-    let look = line_by g.L.SerialLine.received g.L.SerialLine.sent g.L.SerialLine.calls g.L.SerialLine.failures g.L.SerialLine.empty_reads g.L.SerialLine.stalled_writes in
+    let look = g.L.SerialLine.seen in
     took_none (standing_of look c.place-placed.new.self) c.place-placed.ensures.places refl
 
 pub returns-then-is_faulty-clause-takes : goal.returns-then-is_faulty-clause-takes
 returns-then-is_faulty-clause-takes g c =
-    let look = line_by g.L.SerialLine.received g.L.SerialLine.sent g.L.SerialLine.calls g.L.SerialLine.failures g.L.SerialLine.empty_reads g.L.SerialLine.stalled_writes in
+    let look = g.L.SerialLine.seen in
     let s = standing_of look c.lose_line.new.self in
     took_none s c.place-placed.ensures.places (lost_driver c.lose_line.result (standing_of look c.place-placed.new.self) s c.lose_line.ensures.loses)
 
 pub returns-then-is_faulty-2-clause-takes : goal.returns-then-is_faulty-2-clause-takes
 returns-then-is_faulty-2-clause-takes g c =
-    let look = line_by g.L.SerialLine.received g.L.SerialLine.sent g.L.SerialLine.calls g.L.SerialLine.failures g.L.SerialLine.empty_reads g.L.SerialLine.stalled_writes in
+    let look = g.L.SerialLine.seen in
     let end = c.lose_line-then-is_faulty-2 in
     let s = standing_of look end.new.self in
     took_none s c.place-placed.ensures.places (lost_driver end.result (standing_of look c.write_on-wrote.new.self) s end.ensures.loses ∙ wrote_driver c.check_backlogs-checked.ensures.checks c.send_on-sent.ensures.sends c.write_on-wrote.ensures.writes)
 
 pub returns-in_default-clause-takes : goal.returns-in_default-clause-takes
 returns-in_default-clause-takes g c =
-    let look = line_by g.L.SerialLine.received g.L.SerialLine.sent g.L.SerialLine.calls g.L.SerialLine.failures g.L.SerialLine.empty_reads g.L.SerialLine.stalled_writes in
+    let look = g.L.SerialLine.seen in
     let s = standing_of look c.get_one.new.self in
     took_none s c.place-placed.ensures.places (ap (λ (x : TurnState). x.driver) (ap (standing_of look) c.in_default.ensures.err) ∙ wrote_driver c.check_backlogs-checked.ensures.checks c.send_on-sent.ensures.sends c.write_on-wrote.ensures.writes)
 
 pub returns-then-is_faulty-3-clause-takes : goal.returns-then-is_faulty-3-clause-takes
 returns-then-is_faulty-3-clause-takes g c =
-    let look = line_by g.L.SerialLine.received g.L.SerialLine.sent g.L.SerialLine.calls g.L.SerialLine.failures g.L.SerialLine.empty_reads g.L.SerialLine.stalled_writes in
+    let look = g.L.SerialLine.seen in
     let end = c.lose_line-then-is_faulty-3 in
     let s = standing_of look end.new.self in
     took_none s c.place-placed.ensures.places (lost_driver end.result (standing_of look c.read_on-read.new.self) s end.ensures.loses ∙ read_driver c.check_backlogs-checked.ensures.checks c.send_on-sent.ensures.sends c.write_on-wrote.ensures.writes c.in-Ok.ensures.gets c.read_on-read.ensures.reads)
 
 pub returns-clause-takes : goal.returns-clause-takes
 returns-clause-takes g c =
-    let look = line_by g.L.SerialLine.received g.L.SerialLine.sent g.L.SerialLine.calls g.L.SerialLine.failures g.L.SerialLine.empty_reads g.L.SerialLine.stalled_writes in
+    let look = g.L.SerialLine.seen in
     let s = standing_of look c.read_on-read.new.self in
     took_one (standing_of look c.args.self.now) s (standing_of look c.take_one-took.new.self) (took_none s c.place-placed.ensures.places (read_driver c.check_backlogs-checked.ensures.checks c.send_on-sent.ensures.sends c.write_on-wrote.ensures.writes c.in-Ok.ensures.gets c.read_on-read.ensures.reads)) c.take_one-took.ensures.takes
 

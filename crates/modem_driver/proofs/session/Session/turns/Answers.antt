@@ -1,7 +1,6 @@
 -- One turn after the other.
 use Rattle.std.proofs.Common.{◌≡◌, ◌∙◌, ℕ, arith, subst, sym}
 use Rattle.std.specs.Prelude.{refl}
-use Rattle.modem_driver.specs.SessionStates.{line_by}
 use Rattle.modem_driver.specs.SessionTurns.{TakesTurn, turn_answer, fault_of}
 use Rattle.modem_driver.specs.Polls.{MovesOn, moves_none, moves_once, goes_on, ends, rests, fails}
 use Rattle.modem_driver.proofs.sessions.polls.Polls.{fault_goes, goes_none, goes_then, moved_is, turn_goes}
@@ -10,12 +9,12 @@ use Rattle.modem_driver.proofs.session.Session.turns.Goals as goal
 
 pub loop-init : goal.loop-init
 loop-init g c =
-    let look = line_by g.L.SerialLine.received g.L.SerialLine.sent g.L.SerialLine.calls g.L.SerialLine.failures g.L.SerialLine.empty_reads g.L.SerialLine.stalled_writes in
+    let look = g.L.SerialLine.seen in
     record { goes = goes_none look c.args.self.now; moves = moves_none; takes = takes_none c.args.self.now.driver; beyond = refl; calls = omega arith }
 
 pub loop-preserved : goal.loop-preserved
 loop-preserved g c =
-    let look = line_by g.L.SerialLine.received g.L.SerialLine.sent g.L.SerialLine.calls g.L.SerialLine.failures g.L.SerialLine.empty_reads g.L.SerialLine.stalled_writes in
+    let look = g.L.SerialLine.seen in
     let turned = c.in-Ok.ensures.turned in
     let one = turned.calls in
     let before = c.loop.invariant.calls in
@@ -51,7 +50,7 @@ returns-then-not-is_moved-clause-runs g c =
 
 pub returns-then-not-is_moved-clause-goes : goal.returns-then-not-is_moved-clause-goes
 returns-then-not-is_moved-clause-goes g c =
-    let look = line_by g.L.SerialLine.received g.L.SerialLine.sent g.L.SerialLine.calls g.L.SerialLine.failures g.L.SerialLine.empty_reads g.L.SerialLine.stalled_writes in
+    let look = g.L.SerialLine.seen in
     goes_then look c.args.self.now c.loop.self c.turn.new.self c.loop.invariant.goes (turn_goes look c.loop.self c.turn.new.self (turn_answer c.in-Ok.says) c.in-Ok.ensures.turns c.in-Ok.ensures.turned)
 
 pub returns-in-Err-clause-runs : goal.returns-in-Err-clause-runs
@@ -67,12 +66,12 @@ returns-in-Err-clause-runs g c =
 
 pub returns-in-Err-clause-goes : goal.returns-in-Err-clause-goes
 returns-in-Err-clause-goes g c =
-    let look = line_by g.L.SerialLine.received g.L.SerialLine.sent g.L.SerialLine.calls g.L.SerialLine.failures g.L.SerialLine.empty_reads g.L.SerialLine.stalled_writes in
+    let look = g.L.SerialLine.seen in
     goes_then look c.args.self.now c.loop.self c.turn.new.self c.loop.invariant.goes (fault_goes look c.loop.self c.turn.new.self (fault_of c.in-Err.why) c.in-Err.ensures.faults c.in-Err.ensures.turned)
 
 pub returns-clause-runs : goal.returns-clause-runs
 returns-clause-runs g c =
-    let look = line_by g.L.SerialLine.received g.L.SerialLine.sent g.L.SerialLine.calls g.L.SerialLine.failures g.L.SerialLine.empty_reads g.L.SerialLine.stalled_writes in
+    let look = g.L.SerialLine.seen in
     let At : ℕ → Type 0 = λ n. MovesOn look c.args.self.now n c.loop.self in
     let last = c.loop-test.false in
     let all : c.loop.counter ≡ 64 = omega arith in

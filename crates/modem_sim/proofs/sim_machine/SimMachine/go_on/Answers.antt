@@ -1,5 +1,4 @@
 use Rattle.modem_sim.specs.Acts.{any_act, is_step_act}
-use Rattle.modem_sim.specs.Sims.{Sight, sight}
 use Rattle.modem_sim.specs.Stills.{at_line, leaves_frame, leaves_octets, leaves_step}
 use Rattle.modem_sim.proofs.sims.SimPasts.{sim_machine_goes, sim_read_by, sim_then, sim_wrote_by}
 use Rattle.modem_sim.proofs.sims.TurnHistories.{goes_once}
@@ -8,79 +7,73 @@ use Rattle.modem_sim.proofs.sim_machine.SimMachine.go_on.Goals as goal
 
 pub returns-in_err-done-clause-goes : goal.returns-in_err-done-clause-goes
 returns-in_err-done-clause-goes g c =
-    sim_machine_goes g.L.SerialLine.received g.L.SerialLine.sent (at_line c.args.line.now c.args.self.now) is_step_act c.do_steps.new.self c.do_steps.ensures.goes
+    sim_machine_goes g.L.SerialLine.seen (at_line c.args.line.now c.args.self.now) is_step_act c.do_steps.new.self c.do_steps.ensures.goes
 
 pub returns-in_err-wrote-clause-goes : goal.returns-in_err-wrote-clause-goes
 returns-in_err-wrote-clause-goes g c =
-    let received = g.L.SerialLine.received in
-    let sent = g.L.SerialLine.sent in
-    sim_then received sent (at_line c.args.line.now c.args.self.now) (at_line c.args.line.now c.do_steps.new.self) (at_line c.write.new.line c.write.new.self)
-    (sim_machine_goes received sent (at_line c.args.line.now c.args.self.now) is_step_act c.do_steps.new.self c.do_steps.ensures.goes)
-    (sim_wrote_by received sent (at_line c.args.line.now c.do_steps.new.self) c.write.new.line c.write.new.self c.write.result
-    c.write.ensures.went c.write.ensures.kept c.write.ensures.none_went c.write.ensures.err c.write.ensures.none_came)
+    let look = g.L.SerialLine.seen in
+    sim_then look (at_line c.args.line.now c.args.self.now) (at_line c.args.line.now c.do_steps.new.self) (at_line c.write.new.line c.write.new.self)
+    (sim_machine_goes look (at_line c.args.line.now c.args.self.now) is_step_act c.do_steps.new.self c.do_steps.ensures.goes)
+    (sim_wrote_by look (at_line c.args.line.now c.do_steps.new.self) c.write.new.line c.write.new.self c.write.result
+    c.write.ensures.writes c.write.ensures.fault c.write.ensures.err)
 
 pub returns-in_err-loaded-clause-goes : goal.returns-in_err-loaded-clause-goes
 returns-in_err-loaded-clause-goes g c =
-    let received = g.L.SerialLine.received in
-    let sent = g.L.SerialLine.sent in
-    sim_then received sent (at_line c.args.line.now c.args.self.now) (at_line c.write.new.line c.write.new.self) (at_line c.write.new.line c.load.new.self)
-    (sim_then received sent (at_line c.args.line.now c.args.self.now) (at_line c.args.line.now c.do_steps.new.self) (at_line c.write.new.line c.write.new.self)
-    (sim_machine_goes received sent (at_line c.args.line.now c.args.self.now) is_step_act c.do_steps.new.self c.do_steps.ensures.goes)
-    (sim_wrote_by received sent (at_line c.args.line.now c.do_steps.new.self) c.write.new.line c.write.new.self c.write.result
-    c.write.ensures.went c.write.ensures.kept c.write.ensures.none_went c.write.ensures.err c.write.ensures.none_came))
-    (sim_machine_goes received sent (at_line c.write.new.line c.write.new.self) any_act c.load.new.self c.load.ensures.goes)
+    let look = g.L.SerialLine.seen in
+    sim_then look (at_line c.args.line.now c.args.self.now) (at_line c.write.new.line c.write.new.self) (at_line c.write.new.line c.load.new.self)
+    (sim_then look (at_line c.args.line.now c.args.self.now) (at_line c.args.line.now c.do_steps.new.self) (at_line c.write.new.line c.write.new.self)
+    (sim_machine_goes look (at_line c.args.line.now c.args.self.now) is_step_act c.do_steps.new.self c.do_steps.ensures.goes)
+    (sim_wrote_by look (at_line c.args.line.now c.do_steps.new.self) c.write.new.line c.write.new.self c.write.result
+    c.write.ensures.writes c.write.ensures.fault c.write.ensures.err))
+    (sim_machine_goes look (at_line c.write.new.line c.write.new.self) any_act c.load.new.self c.load.ensures.goes)
 
 pub returns-in_err-took-clause-goes : goal.returns-in_err-took-clause-goes
 returns-in_err-took-clause-goes g c =
-    let received = g.L.SerialLine.received in
-    let sent = g.L.SerialLine.sent in
-    sim_then received sent (at_line c.args.line.now c.args.self.now) (at_line c.write.new.line c.load.new.self) (at_line c.write.new.line c.take_frame.new.self)
-    (sim_then received sent (at_line c.args.line.now c.args.self.now) (at_line c.write.new.line c.write.new.self) (at_line c.write.new.line c.load.new.self)
-    (sim_then received sent (at_line c.args.line.now c.args.self.now) (at_line c.args.line.now c.do_steps.new.self) (at_line c.write.new.line c.write.new.self)
-    (sim_machine_goes received sent (at_line c.args.line.now c.args.self.now) is_step_act c.do_steps.new.self c.do_steps.ensures.goes)
-    (sim_wrote_by received sent (at_line c.args.line.now c.do_steps.new.self) c.write.new.line c.write.new.self c.write.result
-    c.write.ensures.went c.write.ensures.kept c.write.ensures.none_went c.write.ensures.err c.write.ensures.none_came))
-    (sim_machine_goes received sent (at_line c.write.new.line c.write.new.self) any_act c.load.new.self c.load.ensures.goes))
-    (sim_machine_goes received sent (at_line c.write.new.line c.load.new.self) any_act c.take_frame.new.self c.take_frame.ensures.goes)
+    let look = g.L.SerialLine.seen in
+    sim_then look (at_line c.args.line.now c.args.self.now) (at_line c.write.new.line c.load.new.self) (at_line c.write.new.line c.take_frame.new.self)
+    (sim_then look (at_line c.args.line.now c.args.self.now) (at_line c.write.new.line c.write.new.self) (at_line c.write.new.line c.load.new.self)
+    (sim_then look (at_line c.args.line.now c.args.self.now) (at_line c.args.line.now c.do_steps.new.self) (at_line c.write.new.line c.write.new.self)
+    (sim_machine_goes look (at_line c.args.line.now c.args.self.now) is_step_act c.do_steps.new.self c.do_steps.ensures.goes)
+    (sim_wrote_by look (at_line c.args.line.now c.do_steps.new.self) c.write.new.line c.write.new.self c.write.result
+    c.write.ensures.writes c.write.ensures.fault c.write.ensures.err))
+    (sim_machine_goes look (at_line c.write.new.line c.write.new.self) any_act c.load.new.self c.load.ensures.goes))
+    (sim_machine_goes look (at_line c.write.new.line c.load.new.self) any_act c.take_frame.new.self c.take_frame.ensures.goes)
 
 pub returns-in_err-came-clause-goes : goal.returns-in_err-came-clause-goes
 returns-in_err-came-clause-goes g c =
-    let received = g.L.SerialLine.received in
-    let sent = g.L.SerialLine.sent in
-    sim_then received sent (at_line c.args.line.now c.args.self.now) (at_line c.write.new.line c.take_frame.new.self) (at_line c.receive.new.line c.receive.new.self)
-    (sim_then received sent (at_line c.args.line.now c.args.self.now) (at_line c.write.new.line c.load.new.self) (at_line c.write.new.line c.take_frame.new.self)
-    (sim_then received sent (at_line c.args.line.now c.args.self.now) (at_line c.write.new.line c.write.new.self) (at_line c.write.new.line c.load.new.self)
-    (sim_then received sent (at_line c.args.line.now c.args.self.now) (at_line c.args.line.now c.do_steps.new.self) (at_line c.write.new.line c.write.new.self)
-    (sim_machine_goes received sent (at_line c.args.line.now c.args.self.now) is_step_act c.do_steps.new.self c.do_steps.ensures.goes)
-    (sim_wrote_by received sent (at_line c.args.line.now c.do_steps.new.self) c.write.new.line c.write.new.self c.write.result
-    c.write.ensures.went c.write.ensures.kept c.write.ensures.none_went c.write.ensures.err c.write.ensures.none_came))
-    (sim_machine_goes received sent (at_line c.write.new.line c.write.new.self) any_act c.load.new.self c.load.ensures.goes))
-    (sim_machine_goes received sent (at_line c.write.new.line c.load.new.self) any_act c.take_frame.new.self c.take_frame.ensures.goes))
-    (sim_read_by received sent (at_line c.write.new.line c.take_frame.new.self) c.receive.new.line c.receive.new.self c.receive.result
-    c.receive.ensures.came c.receive.ensures.none_came c.receive.ensures.err c.receive.ensures.none_went)
+    let look = g.L.SerialLine.seen in
+    sim_then look (at_line c.args.line.now c.args.self.now) (at_line c.write.new.line c.take_frame.new.self) (at_line c.receive.new.line c.receive.new.self)
+    (sim_then look (at_line c.args.line.now c.args.self.now) (at_line c.write.new.line c.load.new.self) (at_line c.write.new.line c.take_frame.new.self)
+    (sim_then look (at_line c.args.line.now c.args.self.now) (at_line c.write.new.line c.write.new.self) (at_line c.write.new.line c.load.new.self)
+    (sim_then look (at_line c.args.line.now c.args.self.now) (at_line c.args.line.now c.do_steps.new.self) (at_line c.write.new.line c.write.new.self)
+    (sim_machine_goes look (at_line c.args.line.now c.args.self.now) is_step_act c.do_steps.new.self c.do_steps.ensures.goes)
+    (sim_wrote_by look (at_line c.args.line.now c.do_steps.new.self) c.write.new.line c.write.new.self c.write.result
+    c.write.ensures.writes c.write.ensures.fault c.write.ensures.err))
+    (sim_machine_goes look (at_line c.write.new.line c.write.new.self) any_act c.load.new.self c.load.ensures.goes))
+    (sim_machine_goes look (at_line c.write.new.line c.load.new.self) any_act c.take_frame.new.self c.take_frame.ensures.goes))
+    (sim_read_by look (at_line c.write.new.line c.take_frame.new.self) c.receive.new.line c.receive.new.self c.receive.result
+    c.receive.ensures.reads c.receive.ensures.fault c.receive.ensures.err)
 
 pub returns-clause-goes : goal.returns-clause-goes
 returns-clause-goes g c =
-    let received = g.L.SerialLine.received in
-    let sent = g.L.SerialLine.sent in
-    sim_then received sent (at_line c.args.line.now c.args.self.now) (at_line c.receive.new.line c.receive.new.self) (at_line c.receive.new.line c.feed-fed.new.self)
-    (sim_then received sent (at_line c.args.line.now c.args.self.now) (at_line c.write.new.line c.take_frame.new.self) (at_line c.receive.new.line c.receive.new.self)
-    (sim_then received sent (at_line c.args.line.now c.args.self.now) (at_line c.write.new.line c.load.new.self) (at_line c.write.new.line c.take_frame.new.self)
-    (sim_then received sent (at_line c.args.line.now c.args.self.now) (at_line c.write.new.line c.write.new.self) (at_line c.write.new.line c.load.new.self)
-    (sim_then received sent (at_line c.args.line.now c.args.self.now) (at_line c.args.line.now c.do_steps.new.self) (at_line c.write.new.line c.write.new.self)
-    (sim_machine_goes received sent (at_line c.args.line.now c.args.self.now) is_step_act c.do_steps.new.self c.do_steps.ensures.goes)
-    (sim_wrote_by received sent (at_line c.args.line.now c.do_steps.new.self) c.write.new.line c.write.new.self c.write.result
-    c.write.ensures.went c.write.ensures.kept c.write.ensures.none_went c.write.ensures.err c.write.ensures.none_came))
-    (sim_machine_goes received sent (at_line c.write.new.line c.write.new.self) any_act c.load.new.self c.load.ensures.goes))
-    (sim_machine_goes received sent (at_line c.write.new.line c.load.new.self) any_act c.take_frame.new.self c.take_frame.ensures.goes))
-    (sim_read_by received sent (at_line c.write.new.line c.take_frame.new.self) c.receive.new.line c.receive.new.self c.receive.result
-    c.receive.ensures.came c.receive.ensures.none_came c.receive.ensures.err c.receive.ensures.none_went))
-    (sim_machine_goes received sent (at_line c.receive.new.line c.receive.new.self) any_act c.feed-fed.new.self c.feed-fed.ensures.goes)
+    let look = g.L.SerialLine.seen in
+    sim_then look (at_line c.args.line.now c.args.self.now) (at_line c.receive.new.line c.receive.new.self) (at_line c.receive.new.line c.feed-fed.new.self)
+    (sim_then look (at_line c.args.line.now c.args.self.now) (at_line c.write.new.line c.take_frame.new.self) (at_line c.receive.new.line c.receive.new.self)
+    (sim_then look (at_line c.args.line.now c.args.self.now) (at_line c.write.new.line c.load.new.self) (at_line c.write.new.line c.take_frame.new.self)
+    (sim_then look (at_line c.args.line.now c.args.self.now) (at_line c.write.new.line c.write.new.self) (at_line c.write.new.line c.load.new.self)
+    (sim_then look (at_line c.args.line.now c.args.self.now) (at_line c.args.line.now c.do_steps.new.self) (at_line c.write.new.line c.write.new.self)
+    (sim_machine_goes look (at_line c.args.line.now c.args.self.now) is_step_act c.do_steps.new.self c.do_steps.ensures.goes)
+    (sim_wrote_by look (at_line c.args.line.now c.do_steps.new.self) c.write.new.line c.write.new.self c.write.result
+    c.write.ensures.writes c.write.ensures.fault c.write.ensures.err))
+    (sim_machine_goes look (at_line c.write.new.line c.write.new.self) any_act c.load.new.self c.load.ensures.goes))
+    (sim_machine_goes look (at_line c.write.new.line c.load.new.self) any_act c.take_frame.new.self c.take_frame.ensures.goes))
+    (sim_read_by look (at_line c.write.new.line c.take_frame.new.self) c.receive.new.line c.receive.new.self c.receive.result
+    c.receive.ensures.reads c.receive.ensures.fault c.receive.ensures.err))
+    (sim_machine_goes look (at_line c.receive.new.line c.receive.new.self) any_act c.feed-fed.new.self c.feed-fed.ensures.goes)
 
 pub returns-clause-turn : goal.returns-clause-turn
 returns-clause-turn g c =
-    let line = g.L.SerialLine in
-    let see : Sight g.row.L.Denot = sight line.received line.sent line.calls line.failures line.empty_reads line.stalled_writes in
+    let see = g.L.SerialLine.seen in
     let went : Went see c.args.line.now c.write.new.line c.receive.new.line
     c.args.self.now c.do_steps.new.self c.write.new.self c.load.new.self c.take_frame.new.self c.receive.new.self c.feed-fed.new.self
     c.in_ok-done.done c.in_ok-wrote.field-0 c.in_ok-loaded.loaded c.in_ok-took.took c.in_ok-came.came c.feed-fed.result =
@@ -91,8 +84,6 @@ returns-clause-turn g c =
       steps_rest = c.do_steps.ensures.rest;
       steps_none = c.in_ok-done.ensures.none;
       steps_passed = c.do_steps.ensures.passed;
-      write_none_came = c.write.ensures.none_came;
-      write_none_empty = c.write.ensures.none_empty;
       writes = c.in_ok-wrote.ensures.writes;
       load_rest = c.load.ensures.rest;
       loads = c.in_ok-loaded.ensures.loads;
@@ -102,8 +93,6 @@ returns-clause-turn g c =
       takes = c.in_ok-took.ensures.takes;
       take_none = c.in_ok-took.ensures.none;
       take_steps = c.in_ok-took.ensures.steps;
-      read_none_went = c.receive.ensures.none_went;
-      read_none_stalled = c.receive.ensures.none_stalled;
       reads = c.in_ok-came.ensures.reads;
       feeds = c.feed-fed.ensures.feeds;
       feed_rest = c.feed-fed.ensures.rest;

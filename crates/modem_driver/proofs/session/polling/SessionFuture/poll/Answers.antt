@@ -5,14 +5,13 @@ use Rattle.futures.specs.Poll.{OnPending}
 use Rattle.futures.specs.declared.task.Poll.{Poll}
 use Rattle.modem_driver.specs.declared.session.ending.Ended.{Ended}
 use Rattle.modem_driver.specs.declared.session.error.SessionFault.{SessionFault}
-use Rattle.modem_driver.specs.SessionStates.{line_by}
 use Rattle.modem_driver.specs.Polls.{Gives, end_in}
 use Rattle.modem_driver.proofs.sessions.polls.Polls.{gives_before}
 use Rattle.modem_driver.proofs.session.polling.SessionFuture.poll.Goals as goal
 
 pub returns-in-More-clause-same : goal.returns-in-More-clause-same
 returns-in-More-clause-same g c =
-    let look = line_by g.L.SerialLine.received g.L.SerialLine.sent g.L.SerialLine.calls g.L.SerialLine.failures g.L.SerialLine.empty_reads g.L.SerialLine.stalled_writes in
+    let look = g.L.SerialLine.seen in
     let old = c.args.self.now in
     let new = c.advance.new.self in
     let Before : Type 0 = (end : Result Ended SessionFault) → Gives look new end → Gives look old end in
@@ -20,7 +19,7 @@ returns-in-More-clause-same g c =
 
 pub returns-in-Idle-clause-same : goal.returns-in-Idle-clause-same
 returns-in-Idle-clause-same g c =
-    let look = line_by g.L.SerialLine.received g.L.SerialLine.sent g.L.SerialLine.calls g.L.SerialLine.failures g.L.SerialLine.empty_reads g.L.SerialLine.stalled_writes in
+    let look = g.L.SerialLine.seen in
     let old = c.args.self.now in
     let new = c.advance.new.self in
     let Before : Type 0 = (end : Result Ended SessionFault) → Gives look new end → Gives look old end in
