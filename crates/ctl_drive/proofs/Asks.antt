@@ -3,6 +3,7 @@ use Rattle.std.specs.Prelude.{◌≡◌, ℕ, zero, suc, ◌+◌, Bool, true, fa
 use Rattle.std.proofs.Common.{ap, append_assoc, arith, inl, inr, sym, subst, append-nil, ◌∙◌}
 use Rattle.std.proofs.lemmas.Grind.{flat_map-append}
 use Rattle.std.proofs.lemmas.List.{length-append}
+use Rattle.std.proofs.KnownBytes.{Consumes-nil}
 use Rattle.std.specs.Io.KnownBytes.{Consumes, IsAtEnd}
 use Rattle.mux_frame.specs.declared.dlci.Dlci.{Dlci}
 use Rattle.modem_desk.specs.declared.request.Ask.{Ask}
@@ -201,10 +202,6 @@ asks_stops old new a b said through same none = subst (λ (p : PlanView). AsksOn
 
 -- ## From its beginning to its end
 
-consumed_none : (a : Option (List ℕ)) → Consumes a a []
-consumed_none None = tt
-consumed_none (Some a) = refl
-
 none_waits_at : (n d : ℕ) → waits_at (replicate n []) d ≡ []
 none_waits_at zero zero = refl
 none_waits_at zero (suc d) = refl
@@ -216,7 +213,7 @@ asked_none input silent = record {
   lines = [];
   read = record {
     came = [];
-    consumed = consumed_none input;
+    consumed = Consumes-nil input;
     lines_are = λ more e. refl;
     at_end = λ e f. absurd (apart (sym e));
   };

@@ -1,13 +1,13 @@
 -- How a drive begins.
-use Rattle.std.specs.Prelude.{◌≡◌, ◌<◌, ℕ, All, Bool, false, zero, suc, List, [], ◌∷◌, Option, None, Some, get_or, length, map, refl, replicate, slice_index_or, Result, Ok, Err, IfOk, OnErr}
+use Rattle.std.specs.Prelude.{◌≡◌, ◌<◌, ℕ, All, Bool, false, zero, suc, List, [], ◌∷◌, Option, None, get_or, length, map, refl, replicate, slice_index_or, Result, Ok, Err, IfOk, OnErr}
 use mathlib.Core.Option.{some, some-ne-none}
 use Rattle.std.proofs.lemmas.Bool.{false≢true}
 use lib.ListN.{get_elem?}
-use Rattle.std.specs.Io.KnownBytes.{Appends}
 use Rattle.std.proofs.lemmas.List.Elements.{All-nil}
 use Rattle.at_text.specs.declared.unsolicited.UrcKind.{UrcKind}
 use Rattle.at_text.specs.Rules.{Rules, dialect_of}
-use Rattle.std.proofs.Common.{sym, subst, arith, ◌∙◌, ap, append-nil}
+use Rattle.std.proofs.Common.{sym, subst, arith, ◌∙◌, ap}
+use Rattle.std.proofs.KnownBytes.{Appends-nil}
 use Rattle.mux_frame.specs.declared.dlci.Dlci.{Dlci}
 use Rattle.modem_desk.specs.Ends.{AreSubscribed, CallerView, DriverView, IsWhole, ListenerView, Opened, place_of, subscription_of}
 use Rattle.modem_desk.specs.declared.request.Outcome.{Outcome}
@@ -118,10 +118,6 @@ none_counted zero (suc d) = refl
 none_counted (suc n) zero = refl
 none_counted (suc n) (suc d) = none_counted n d
 
-prints_none : (out : Option (List ℕ)) → Appends out out []
-prints_none None = tt
-prints_none (Some xs) = sym (append-nil xs)
-
 -- the only caller
 pub one_is : (cs : List CallerView) (c : CallerView) → length cs ≡ 1 → c ≡ slice_index_or cs 0 c → cs ≡ c ∷ []
 one_is [] c one is = absurd (omega (arith, one))
@@ -159,7 +155,7 @@ new_users kinds d cs ls u h out =
     let got : u.caller.got ≡ [] = fresh.3.1 in
     record {
       shown = [];
-      printed = prints_none out;
+      printed = Appends-nil out;
       outcomes_are = sym got;
       right = All-nil (IsRightPiece u.caller.place.first u.caller.submitted);
       lines_are = λ i l few.

@@ -4,9 +4,9 @@ use Rattle.std.proofs.Common.{ap, sym, subst, ◌∙◌, arith, append-nil, inl,
 use Rattle.std.proofs.lemmas.Bool.{false≢true}
 use Rattle.std.proofs.lemmas.List.{length-append, length-set}
 use Rattle.std.proofs.lemmas.List.Elements.{All-append}
+use Rattle.std.proofs.KnownBytes.{Appends-nil}
 use Rattle.std.specs.declared.vec.Vec.{Vec}
 use Rattle.std.specs.declared.alloc.Global.{Global}
-use Rattle.std.specs.Io.KnownBytes.{Appends}
 use mathlib.Core.Option.{some}
 use lib.ListN.{get_elem?}
 use Rattle.modem_desk.specs.Ends.{CallerView, ListenerView, Place, subscription_of}
@@ -25,10 +25,6 @@ use Rattle.ctl_drive.specs.declared.users.UnderWay.{UnderWay}
 use Rattle.ctl_drive.specs.declared.users.Users.{Users}
 use Rattle.ctl_drive.proofs.Lines.{All-one, count_same, lines_more, outcomes_more, pieces_stay, printed_by, printed_more, under_way_stay}
 use Rattle.ctl_drive.proofs.Orders.{SubmitsOne, TakesOne, asked_grows, at_back, grows_taking, keeps_submitting, keeps_taking, told_set, told_shut}
-
-prints_nothing : (out : Option (List ℕ)) → Appends out out []
-prints_nothing None = tt
-prints_nothing (Some xs) = sym (append-nil xs)
 
 -- ## Nothing is asked or told
 
@@ -224,7 +220,7 @@ told_beside out old new o a s =
           let now : count_asked new.asked ≡ 0 = ap count_asked s.asked in
           record {
             shown = h.shown ++ piece ∷ [];
-            printed = printed_by first out old.dialect new.dialect (h.shown ++ piece ∷ []) s.dialect (printed_more old.dialect first out out h.shown piece h.printed (prints_nothing out));
+            printed = printed_by first out old.dialect new.dialect (h.shown ++ piece ∷ []) s.dialect (printed_more old.dialect first out out h.shown piece h.printed (Appends-nil out));
             outcomes_are = outcomes_more h.shown (piece ∷ []) ∙ ap (λ (x : List Outcome). x ++ o ∷ []) h.outcomes_are ∙ sym s.one.got;
             right =
                 subst (λ (x : Place × List Request). All (IsRightPiece x.0.first x.1) (h.shown ++ piece ∷ [])) (λ i. (sym s.one.place i, sym s.one.submitted i))

@@ -3,7 +3,7 @@ use Rattle.std.specs.Prelude.{◌≡◌, ◌≢◌, ◌⊎◌, ◌==◌, ℕ, �
 use Rattle.std.proofs.Common.{ap, arith, inl, suc, sym, subst, zero, ◌∙◌}
 use Rattle.std.specs.Option.{unwrap_or}
 use denote.Ref.{Bor}
-use Rattle.std.proofs.lemmas.List.{map-append, take_all, take_more}
+use Rattle.std.proofs.lemmas.List.{take_all}
 use Rattle.serial_line.specs.StreamLine.{StreamState, new_stream, stream_view}
 use Rattle.serial_line.specs.declared.stream_line.ZeroRead.TheVariants.{Ended}
 use Rattle.mux_frame.specs.declared.dlci.Dlci.{Dlci}
@@ -17,7 +17,9 @@ use Rattle.mux_capture.specs.Passing.{CaptureState}
 use Rattle.ctl_drive.specs.Asking.{NamesRead}
 use Rattle.ctl_drive.specs.CapturedLine.{CapturedState, CapturesUnlessFailed, captured_line}
 use Rattle.ctl_drive.specs.DataDrive.{DroveData}
-use Rattle.ctl_drive.specs.DataDevice.{DroveFiles, DroveFilesCaptured, DroveFilesDevice, DroveFilesLine, EndsFilesByFault, EndsWith, IsFileOf, RanFiles, opened_file, opened_files}
+use Rattle.ctl_drive.specs.DataDevice.{DroveFiles, DroveFilesCaptured, DroveFilesDevice, DroveFilesLine, EndsFilesByFault, EndsWith, RanFiles}
+use Rattle.file_threads.specs.DataPaths.{IsFileOf, opened_files}
+use Rattle.file_threads.proofs.DataPaths.{maps_more}
 use Rattle.file_threads.specs.FileEnds.{FileEnd, IsWritten, SaysEnds, SaysFull, ends_texts, full_texts}
 use Rattle.ctl_drive.specs.FileEnds.{NamesEnds}
 use Rattle.ctl_drive.specs.OnDevice.{SaysEnd, SaysFaultIf, capture_path, driven_status, end_status}
@@ -25,17 +27,11 @@ use Rattle.file_threads.specs.Said.{AreSaid}
 use Rattle.ctl_drive.specs.Saying.{SaysFault, left_texts, path_for}
 use Rattle.ctl_drive.specs.declared.fault.DriveFault.{DriveFault}
 use Rattle.ctl_drive.specs.declared.running.Driven.{Driven}
-use Rattle.ctl_drive.specs.declared.settings.DataPath.{DataPath}
+use Rattle.file_threads.specs.declared.data_path.DataPath.{DataPath}
 use Rattle.ctl_drive.proofs.Asks.{names_nothing}
 use Rattle.ctl_drive.proofs.OnDevice.{by_status, capture_is}
 
 -- ## Lists of paths
-
-maps_more : {A B : Type 0} (h : A → B) (xs : List A) (i : ℕ) (x : A) (ys : List B) → i < length xs → ys ≡ map h (take i xs)
-    → ys ++ h (slice_index_or xs i x) ∷ [] ≡ map h (take (i + 1) xs)
-maps_more h xs i x ys there e =
-    ap (λ (l : List _). l ++ h (slice_index_or xs i x) ∷ []) e
-    ∙ (sym (map-append h (take i xs) (slice_index_or xs i x ∷ [])) ∙ ap (λ (l : List _). map h l) (sym (take_more xs i x there)))
 
 -- no paths yet, and no connections
 pub dlcis_none : (data_paths : List DataPath) → [] ≡ map (λ p. p.dlci) (take 0 data_paths)
@@ -51,38 +47,22 @@ pub dlcis_all : (data_paths : List DataPath) (i : ℕ) (named : List Dlci) → l
     → named ≡ map (λ q. q.dlci) data_paths
 dlcis_all data_paths i named most e = e ∙ ap (λ (l : List DataPath). map (λ q. q.dlci) l) (take_all i data_paths most)
 
--- no paths yet, and no files
-pub files_none : (data_paths : List DataPath) → [] ≡ opened_files (take 0 data_paths)
-files_none data_paths = refl
-
--- the files of some paths, with that of the next, are those of one path more
-pub files_more : (data_paths : List DataPath) (i : ℕ) (p : DataPath) (before after : List (FileState StreamState)) (f : FileState StreamState) → i < length data_paths
-    → before ≡ opened_files (take i data_paths) → f ≡ opened_file (slice_index_or data_paths i p) → after ≡ before ++ f ∷ []
-    → after ≡ opened_files (take (i + 1) data_paths)
-files_more data_paths i p before after f there e is grew =
-    grew ∙ (ap (λ (x : FileState StreamState). before ++ x ∷ []) is ∙ maps_more (λ (q : DataPath). opened_file q) data_paths i p before there e)
-
--- those of as many paths as there are are those of all
-pub files_all : (data_paths : List DataPath) (i : ℕ) (files : List (FileState StreamState)) → length data_paths ≤ i → files ≡ opened_files (take i data_paths)
-    → files ≡ opened_files data_paths
-files_all data_paths i files most e = e ∙ ap opened_files (take_all i data_paths most)
-
 -- the files are those of the connections
-pub same_numbers : (data_paths : List DataPath) (named : List Dlci) (files : List (FileState StreamState)) → files ≡ opened_files data_paths
+pub same_numbers : (data_paths : List DataPath) (named : List Dlci) (files : List (FileState StreamState)) → files ≡ opened_files false data_paths
     → named ≡ map (λ p. p.dlci) data_paths → dlcis files ≡ numbers named
 same_numbers data_paths named files e n = ap dlcis e ∙ (both data_paths ∙ ap numbers (sym n))
   where
-    both : (ps : List DataPath) → dlcis (opened_files ps) ≡ numbers (map (λ p. p.dlci) ps)
+    both : (ps : List DataPath) → dlcis (opened_files false ps) ≡ numbers (map (λ p. p.dlci) ps)
     both [] = refl
     both (p ∷ ps) = ap (λ (ds : List ℕ). p.dlci.number ∷ ds) (both ps)
 
 -- nothing has passed between them and their connections
-pub all_fresh : (data_paths : List DataPath) (files : List (FileState StreamState)) → files ≡ opened_files data_paths
+pub all_fresh : (data_paths : List DataPath) (files : List (FileState StreamState)) → files ≡ opened_files false data_paths
     → All (IsFresh stream_view) files
 all_fresh data_paths files e =
     subst (λ (fs : List (FileState StreamState)). All (IsFresh stream_view) fs) (sym e) (each data_paths)
   where
-    each : (ps : List DataPath) → All (IsFresh stream_view) (opened_files ps)
+    each : (ps : List DataPath) → All (IsFresh stream_view) (opened_files false ps)
     each [] i f there = absurd (omega (arith, there))
     each (p ∷ ps) zero f there = record { before_is = refl; none_waits = refl; none_read = refl; none_renewed = refl; none_dropped = refl }
     each (p ∷ ps) (suc i) f there = each ps i f (omega (arith, there))

@@ -61,10 +61,6 @@ pub still_subscribed : (d e : DeskId) (old new : Users) → e ≡ d → KeepPlac
 still_subscribed d e old new desk keep h =
     subst (λ (x : DeskId × List Subscription). AreSubscribed x.0 x.1) (λ i. (sym desk i, sym keep.listeners i)) h
 
--- what is told of the value of an Ok holds of that value
-pub known_ok : {A E : Type 0} (P : A → Type 0) (r : Result A E) (x : A) → r ≡ Ok x → IfOk r P → P x
-known_ok {A} {E} P r x is h = subst (λ (s : Result A E). IfOk s P) is h
-
 -- what is told of an Ok holds, where it is one
 pub known_done : {A E : Type 0} (P : Type 0) (r : Result A E) (x : A) → r ≡ Ok x → OnOk r P → P
 known_done {A} {E} P r x is h = subst (λ (s : Result A E). OnOk s P) is h

@@ -6,6 +6,7 @@ use Rattle.std.proofs.lemmas.Grind.{common_steps, flat_map-append}
 use Rattle.std.specs.declared.vec.Vec.{Vec}
 use Rattle.std.specs.declared.alloc.Global.{Global}
 use Rattle.std.specs.Prelude.{◌≡◌, ◌≢◌, ℕ, ◌+◌, ◌<◌, ◌==◌, Bool, true, false, List, [], ◌∷◌, ◌++◌, All, Option, None, Some, drop, filter, flat_map, get_or, length, map, set, slice_index_or, take, refl, if◌then◌else◌}
+use Rattle.std.proofs.KnownBytes.{Appends-trans}
 use Rattle.std.specs.Io.KnownBytes.{Appends}
 use Rattle.std.proofs.lemmas.List.{get_or-set_same, get_or-set_other, length-set}
 use Rattle.std.proofs.Math.Seq.{map-set_same}
@@ -23,19 +24,12 @@ use Rattle.ctl_drive.specs.Channels.{KeepsOrder, closed_by, state_at, submitted_
 use Rattle.ctl_drive.specs.declared.channels.ChannelState.{ChannelState}
 use Rattle.ctl_drive.specs.declared.users.Asked.{Asked}
 use Rattle.ctl_drive.specs.Showing.{Shown, Answered, Announced, AreApart, AreUnderWay, GoOn, HasShown, IsAsked, IsLine, IsRightPiece, KeepPlaces, TellsLine, Unprinted, control_ask, count_asked, count_on, is_busy, lines_at, outcomes_in, shown_text}
-use Rattle.ctl_drive.proofs.Aparts.{apart_fewer, apart_more}
+use Rattle.ctl_drive.proofs.Aparts.{apart_fewer, apart_more, equal, unequal}
 use Rattle.ctl_drive.proofs.Orders.{SubmitsOne, TakesOne, asked_stays, grows_taking, keeps_submitting, keeps_taking, told_closed, told_submitted}
 
 -- a number compares equal to itself
 pub same_number : (m : ℕ) → (m == m) ≡ true
 same_number m = search rules
-
--- numbers that compare equal are equal
-pub equal : (m n : ℕ) → (m == n) ≡ true → m ≡ n
-equal m n h = search rules
-
-unequal : (m n : ℕ) → (m == n) ≡ false → n ≢ m
-unequal m n h e = false≢true (sym h ∙ ap (λ (x : ℕ). m == x) e ∙ same_number m)
 
 -- what holds of one holds of each in the list of that one alone
 pub All-one : {X : Type 0} (P : X → Type 0) (x : X) → P x → All P (x ∷ [])
@@ -224,18 +218,12 @@ lines_more n (Answered d i o ∷ xs) ys = lines_more n xs ys
 lines_more n (Announced i u ∷ xs) ys = by_test u (lines_at n (xs ++ ys)) (lines_at n xs) (lines_at n ys) (lines_more n xs ys) (i == n)
 lines_more n (Unprinted a o ∷ xs) ys = lines_more n xs ys
 
-prints_more : (a b c : Option (List ℕ)) (xs ys : List ℕ) → Appends a b xs → Appends b c ys → Appends a c (xs ++ ys)
-prints_more None b c xs ys h k = tt
-prints_more (Some a) (Some b) (Some c) xs ys h k = k ∙ ap (λ (x : List ℕ). x ++ ys) h ∙ append_assoc a xs ys
-prints_more (Some a) (Some b) None xs ys h k = k
-prints_more (Some a) None c xs ys h k = absurd h
-
 -- a piece was printed behind the others
 pub printed_more : (rules : Rules) (a b c : Option (List ℕ)) (ss : List Shown) (s : Shown) → Appends a b (flat_map (shown_text rules) ss) → Appends b c (shown_text rules s)
     → Appends a c (flat_map (shown_text rules) (ss ++ s ∷ []))
 printed_more rules a b c ss s h k =
     subst (Appends a c) (sym (flat_map-append (shown_text rules) ss (s ∷ []) ∙ ap (λ (x : List ℕ). flat_map (shown_text rules) ss ++ x) (append-nil (shown_text rules s))))
-    (prints_more a b c (flat_map (shown_text rules) ss) (shown_text rules s) h k)
+    (Appends-trans a b c (flat_map (shown_text rules) ss) (shown_text rules s) h k)
 
 -- an outcome was taken, and printed as that of its line
 pub record Tells (before after : Option (List ℕ)) (old new : Users) (o : Outcome) (line : UnderWay) : Type 0 where

@@ -1,6 +1,7 @@
 -- Lines are read, one after the other.
 use Rattle.std.specs.Prelude.{◌≡◌, ℕ, ◌==◌, Bool, true, false, List, [], ◌∷◌, ◌++◌, length, Option, None, Some, refl}
 use Rattle.std.proofs.Common.{ap, sym, subst, append_assoc, append-nil, ◌∙◌}
+use Rattle.std.proofs.KnownBytes.{Consumes-kept, Consumes-nil, Consumes-trans}
 use Rattle.std.specs.Io.KnownBytes.{Consumes, IsAtEnd, Keeps}
 use Rattle.std.specs.Str.Iter.{LacksByte}
 use Rattle.ctl_text.specs.Input.{input_lines}
@@ -12,23 +13,11 @@ use Rattle.ctl_drive.specs.Input.{HasRead, LinesView, Reads, line_in}
 
 -- ## What the reader has left
 
-consumes_then : (a b c : Option (List ℕ)) (xs ys : List ℕ) → Consumes a b xs → Consumes b c ys → Consumes a c (xs ++ ys)
-consumes_then None b c xs ys h k = tt
-consumes_then (Some a) None c xs ys h k = absurd h
-consumes_then (Some a) (Some b) None xs ys h k = absurd k
-consumes_then (Some a) (Some b) (Some c) xs ys h k = h ∙ ap (λ (l : List ℕ). xs ++ l) k ∙ sym (append_assoc xs ys c)
-
 consumes_none : (a b c : Option (List ℕ)) (xs : List ℕ) → Consumes a b xs → Consumes b c [] → Consumes a c xs
-consumes_none a b c xs h k = subst (Consumes a c) (append-nil xs) (consumes_then a b c xs [] h k)
+consumes_none a b c xs h k = subst (Consumes a c) (append-nil xs) (Consumes-trans a b c xs [] h k)
 
 keeps_consumes : (a b : Option (List ℕ)) → Keeps a b → Consumes a b []
-keeps_consumes None b h = tt
-keeps_consumes (Some a) None h = absurd h
-keeps_consumes (Some a) (Some b) h = sym h
-
-consumed_none : (a : Option (List ℕ)) → Consumes a a []
-consumed_none None = tt
-consumed_none (Some a) = refl
+keeps_consumes a b h = Consumes-kept a a b [] (Consumes-nil a) h
 
 -- ## Steps
 
@@ -48,7 +37,7 @@ unfolding Reads
 reads_piece old new piece going took text same first lines h =
     subst (HasRead first new) (sym (append-nil lines)) (record {
       came = h.came ++ piece;
-      consumed = consumes_then first old.left new.left h.came piece h.consumed took;
+      consumed = Consumes-trans first old.left new.left h.came piece h.consumed took;
       lines_are = λ more e.
           ap input_lines (append_assoc h.came piece more)
           ∙ h.lines_are (piece ++ more) (λ ended. absurd (apart (sym ended ∙ going)))

@@ -4,6 +4,7 @@ use Rattle.std.proofs.Common.{ap, arith, sym, subst, inl, inr, ◌∙◌}
 use Rattle.ctl_text.specs.Writing.{IsBegun}
 use Rattle.ctl_text.specs.declared.line_fault.LineFault.{LineFault}
 use Rattle.file_threads.specs.Said.{AreSaid}
+use Rattle.file_threads.proofs.FileEnds.{said_last}
 use Rattle.ctl_drive.specs.Saying.{AreBadFrom, BadLine, IsBadFor, IsGood, Names, NamesBad, bad_text, bad_texts, is_any, left_text, left_texts}
 
 texts_more : (bad : List BadLine) (line : BadLine) → bad_texts (bad ++ line ∷ []) ≡ bad_texts bad ++ bad_text line.place line.why ∷ []
@@ -33,11 +34,6 @@ bad_last place n (l ∷ lines) bad line why at (AreBadFrom.bad_passed _ _ _ _ g 
     AreBadFrom.bad_passed place l (lines ++ line ∷ []) (bad ++ record { place = n; why = why } ∷ []) g (bad_last (place + 1) n lines bad line why (omega (arith, at)) h is)
 bad_last place n (l ∷ lines) (b ∷ bad) line why at (AreBadFrom.bad_next _ _ w _ _ g h) is =
     AreBadFrom.bad_next place l w (lines ++ line ∷ []) (bad ++ record { place = n; why = why } ∷ []) g (bad_last (place + 1) n lines bad line why (omega (arith, at)) h is)
-
--- another text
-pub said_last : (a b c : Option (List ℕ)) (texts : List (List ℕ)) (text : List ℕ) → AreSaid a b texts → IsBegun b c text → AreSaid a c (texts ++ text ∷ [])
-said_last a b c [] text (AreSaid.said_none _) begun = AreSaid.said_next a c c text [] begun (AreSaid.said_none c)
-said_last a b c (t ∷ texts) text (AreSaid.said_next _ between _ _ _ first h) begun = AreSaid.said_next a between c t (texts ++ text ∷ []) first (said_last between b c texts text h begun)
 
 -- ## What was named
 

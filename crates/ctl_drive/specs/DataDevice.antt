@@ -1,13 +1,12 @@
 -- A drive on a device, with files beside connections that carry data.
-use Rattle.std.specs.Prelude.{◌≡◌, ◌<◌, ◌⊎◌, ℕ, Bool, true, false, List, All, Option, None, Result, Ok, Err, IfOk, length, map, slice_index_or}
+use Rattle.std.specs.Prelude.{◌≡◌, ◌⊎◌, ℕ, Bool, true, false, List, All, Option, None, Result, Ok, Err, IfOk, length}
 use Rattle.serial_line.specs.StreamLine.{StreamState, new_stream, stream_view}
 use Rattle.serial_line.specs.declared.stream_line.ZeroRead.TheVariants.{Ended}
 use Rattle.at_text.specs.Rules.{Rules}
 use Rattle.modem_desk.specs.declared.settling.Settled.{Settled}
 use Rattle.modem_history.specs.Sessions.{LineView}
 use Rattle.mux_capture.specs.Passing.{CaptureState}
-use Rattle.modem_data.specs.declared.begin.Until.TheVariants.{Close}
-use Rattle.data_files.specs.Files.{FileState, FiledState, HasMoved, new_file}
+use Rattle.data_files.specs.Files.{FileState, FiledState, HasMoved}
 use Rattle.data_files.specs.Moves.{HadTurns}
 use Rattle.ctl_drive.specs.Asking.{NamesRead}
 use Rattle.ctl_drive.specs.CapturedLine.{CapturedState, CapturesAll, captured_line}
@@ -15,7 +14,8 @@ use Rattle.ctl_drive.specs.DataDrive.{DroveData}
 use Rattle.file_threads.specs.FileEnds.{FileEnd, IsWritten, SaysEnds, ends_texts, full_texts}
 use Rattle.file_threads.specs.Said.{AreSaid}
 use Rattle.ctl_drive.specs.Saying.{SaysFault, left_texts, path_for}
-use Rattle.ctl_drive.specs.declared.settings.DataPath.{DataPath}
+use Rattle.file_threads.specs.DataPaths.{IsFileOf}
+use Rattle.file_threads.specs.declared.data_path.DataPath.{DataPath}
 use Rattle.ctl_drive.specs.declared.fault.DriveFault.{DriveFault}
 use Rattle.ctl_drive.specs.declared.running.Driven.{Driven}
 
@@ -63,13 +63,6 @@ DroveFilesLine true look file_look rules text n1 line files input before after s
 
 -- ## On a device
 
--- a file beside a connection, between two rings, at which nothing has passed
-abbrev pub opened_file : DataPath → FileState StreamState
-opened_file p = new_file stream_view p.dlci.number p.begin Close (new_stream None None Ended)
-
-abbrev pub opened_files : List DataPath → List (FileState StreamState)
-opened_files data_paths = map (λ p. opened_file p) data_paths
-
 -- A line between two rings, on which nothing had happened, was driven so, and files between rings with it.
 abbrev pub DroveFilesDevice : (captures : Bool) (rules : Rules) (text : List ℕ) (n1 : ℕ) (files : List (FileState StreamState))
     (before after silent said : Option (List ℕ)) (was_bad : Bool) (left : Settled) → Type 0
@@ -93,12 +86,6 @@ pub record RanFiles (captures : Bool) (rules : Rules) (text : List ℕ) (n1 : �
   pub ended : Option (List ℕ)
   pub drove : DroveFilesDevice captures rules text n1 files before after silent ended was_bad left
   pub left_said : AreSaid ended said (left_texts (length left.left.items))
-
--- the path is that of the file of one of these
-pub record IsFileOf (data_paths : List DataPath) (path : List ℕ) : Type 0 where
-  pub place : ℕ
-  pub there : place < length data_paths
-  pub here : (p : DataPath) → (slice_index_or data_paths place p).path.now ≡ path
 
 -- The bad ones of the lines that were read were named, and what came of files was said, and which have more to write; then it was said
 -- how many requests were left, if any were, and then why the drive ended.

@@ -1,9 +1,10 @@
 //! A drive on a device, with files beside connections that carry data, from the paths to the status.
-ghost use Rattle.std.specs.Prelude.{◌≡◌, ◌≢◌, ◌≤◌, ◌==◌, [], All, IfOk, IfSome, None, is_some, map, true};
+ghost use Rattle.std.specs.Prelude.{◌≡◌, ◌≢◌, ◌≤◌, ◌==◌, [], All, IfOk, IfSome, None, false, is_some, map, true};
 ghost use Rattle.data_files.specs.Files.{IsFresh, dlcis};
 ghost use Rattle.modem_data.specs.PipeSets.{numbers};
 ghost use Rattle.ctl_drive.specs.CapturedLine.{HasBegun};
-ghost use Rattle.ctl_drive.specs.DataDevice.{DroveFiles, DroveFilesCaptured, DroveFilesDevice, DroveFilesLine, DroveFilesWell, EndsFilesByFault, EndsWith, RanFiles, opened_files};
+ghost use Rattle.ctl_drive.specs.DataDevice.{DroveFiles, DroveFilesCaptured, DroveFilesDevice, DroveFilesLine, DroveFilesWell, EndsFilesByFault, EndsWith, RanFiles};
+ghost use Rattle.file_threads.specs.DataPaths.{opened_files};
 ghost use Rattle.ctl_drive.specs.Entry.{entry_for, given_text};
 ghost use Rattle.ctl_drive.specs.FileEnds.{NamesEnds};
 ghost use Rattle.ctl_drive.specs.OnDevice.{capture_path};
@@ -14,12 +15,11 @@ use crate::fault::DriveFault;
 use crate::on_device::{Opened, Threaded, judge_capture, open_all, start_threads};
 use crate::running::Driven;
 use crate::saying::{Paths, say_end, say_fault};
-use crate::settings::{DataPath, Settings};
-use crate::starting_files::start_files;
+use crate::settings::Settings;
 use bell::Bell;
 use data_files::DataFile;
 use device_line::DeviceLine;
-use file_threads::{say_files, say_full, write_out};
+use file_threads::{DataPath, say_files, say_full, start_files, write_out};
 use mux_capture::Capture;
 use mux_frame::Dlci;
 use serial_line::SerialLine;
@@ -233,10 +233,10 @@ where
     I: Read + Send + Drop + 'static,
     W: Write,
     E: Write,
-    requires { files.items ≡ opened_files data_paths.now }
+    requires { files.items ≡ opened_files false data_paths.now }
     ensures drove { IfOk result (λ d. d.fault ≡ None → DroveFilesDevice (is_some (given_text settings.entry.capture))
         settings.entry.dialect.now (entry_for (given_text settings.entry.entry) settings.entry.n1) settings.entry.n1
-        (opened_files data_paths.now) (W.contents output.old) (W.contents output.new) (E.contents faults.old) (E.contents faults.new)
+        (opened_files false data_paths.now) (W.contents output.old) (W.contents output.new) (E.contents faults.old) (E.contents faults.new)
         d.was_bad d.left) }
     ensures names { NamesEnds None (E.contents faults.old) (E.contents faults.new) }
 {
@@ -301,7 +301,7 @@ where
     E: Write,
     ensures status { result ≤ 2 }
     ensures drove { result ≢ 1 → RanFiles (is_some (given_text settings.entry.capture)) settings.entry.dialect.now
-        (entry_for (given_text settings.entry.entry) settings.entry.n1) settings.entry.n1 (opened_files data_paths.now)
+        (entry_for (given_text settings.entry.entry) settings.entry.n1) settings.entry.n1 (opened_files false data_paths.now)
         (W.contents output.old) (W.contents output.new) (E.contents faults.old) (E.contents faults.new) (result == 2) }
     ensures fault { result ≡ 1 → EndsFilesByFault path.now (capture_path settings.entry.capture) data_paths.now
         (E.contents faults.old) (E.contents faults.new) }
@@ -314,14 +314,14 @@ where
     let Ok(bell) = Bell::new(alloc) else {
         return say_fault(alloc, faults, paths, DriveFault::NoMemory);
     };
-    let (files, threads) = match start_files(rt, &bell, data_paths) {
+    let (files, threads) = match start_files(rt, &bell, data_paths, false) {
         Ok(started) => started,
-        Err(refused) => {
+        Err(unopened) => {
             let paths = Paths {
-                device: refused.path,
+                device: unopened.path,
                 ..paths
             };
-            return say_fault(alloc, faults, paths, refused.why);
+            return say_fault(alloc, faults, paths, DriveFault::from(unopened.why));
         }
     };
     let ended = drive_data_path(

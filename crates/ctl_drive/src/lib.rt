@@ -7,7 +7,7 @@
 //! # Layout
 //!
 //! - `on_device`, `settings`, `patience`: from a device's path to its status, over its threads (`file_threads`).
-//! - `data_device`, `data_drive`, `starting_files`: one with files beside connections that carry data.
+//! - `data_device`, `data_drive`: one with files beside connections that carry data.
 //! - `running`, `driving`, `ending`, `fault`: a drive over any line. `users`, `plan`, `queues`, `turns`, `channels`,
 //!   `input`: what it asks.
 //! - `showing`, `pieces`, `saying`: what it prints. `captured_line`: what it captures.
@@ -32,13 +32,13 @@ mod running;
 mod saying;
 mod settings;
 mod showing;
-mod starting_files;
 mod turns;
 mod users;
 
 pub use data_device::drive_data_run;
 pub use data_drive::drive_data_over;
 pub use fault::{DriveFault, GiveUp};
+pub use file_threads::DataPath;
 pub use on_device::{drive_run, drive_threaded};
 pub use running::{Driven, drive_over};
-pub use settings::{DataPath, Settings};
+pub use settings::{DEFAULT_N1, Settings};

@@ -1,7 +1,5 @@
 //! What a drive says beside its output, as far as the writer takes it.
-ghost use Rattle.std.specs.Prelude.{◌≡◌, IfOk, IfSome};
-ghost use Rattle.std.specs.Fmt.{debug_str};
-ghost use Rattle.std.specs.String.{string_bytes};
+ghost use Rattle.std.specs.Prelude.{◌≡◌};
 ghost use Rattle.ctl_text.specs.Writing.{IsBegun};
 ghost use Rattle.ctl_drive.specs.OnDevice.{SaysEnd, end_status};
 ghost use Rattle.file_threads.specs.Said.{AreSaid};
@@ -10,6 +8,7 @@ ghost use Rattle.ctl_drive.specs.Saying.{SaysFault, bad_text, left_texts, path_f
 use crate::fault::DriveFault;
 use crate::running::Driven;
 use ctl_text::{LineFault, say_bad_line, say_line};
+use file_threads::quoted;
 use itoa::Buffer;
 use std::alloc::Global;
 use std::fmt;
@@ -53,15 +52,6 @@ fn path_of<'a>(paths: Paths<'a>, fault: DriveFault) -> &'a str
         DriveFault::NoCapture(_) => paths.capture,
         _ => paths.device,
     }
-}
-
-/// A path between quotation marks. Refused where memory is.
-fn quoted(alloc: Global, path: &str) -> Result<String, fmt::Error>
-    ensures { IfOk result (λ quoted. IfSome (debug_str path.now) (λ text. string_bytes quoted ≡ text)) }
-{
-    let mut text = String::new(alloc);
-    write!(text, "{path:?}")?;
-    Ok(text)
 }
 
 /// What stands behind the path in the line of a fault that concerns one. Refused where memory is.

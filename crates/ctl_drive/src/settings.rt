@@ -5,15 +5,13 @@ ghost use Rattle.std.specs.String.{string_bytes};
 ghost use Rattle.ctl_drive.specs.Entry.{entry_for, entry_text, given_text};
 
 use at_text::Dialect;
-use file_threads::OfConnection;
-use modem_data::Begin;
 use mux_frame::Dlci;
 use std::alloc::{AllocError, Global};
 use std::fmt::Write;
 use std::time::Duration;
 
 /// N1 where the modem is told none (27.007, 5.7).
-const DEFAULT_N1: u16 = 31;
+pub const DEFAULT_N1: u16 = 31;
 
 /// Seconds that a connection may be without an answer where no time is given.
 const QUIET_SECONDS: u64 = 120;
@@ -35,23 +33,6 @@ pub struct Settings<'a> {
     pub data: &'a [Dlci],
     /// The path of a file for a capture of the frames that pass. Where it is `None` there is none.
     pub capture: Option<&'a str>,
-}
-
-/// A connection that carries data, and the file beside it.
-#[derive(Clone, Copy)]
-pub struct DataPath<'a> {
-    pub dlci: Dlci,
-    /// How its data begins.
-    pub begin: Begin,
-    /// The path of a terminal, set up as a modem's is, which is read and written. Where data begins by a prompt it is the path of
-    /// any file with the text and its end, 1A, which is read to its end.
-    pub path: &'a str,
-}
-
-impl OfConnection for DataPath<'_> {
-    fn connection(&self) -> Dlci {
-        self.dlci
-    }
 }
 
 /// How long a connection may be without an answer to its command.

@@ -2,8 +2,8 @@
 use Rattle.std.specs.Prelude.{◌≡◌, ℕ, ◌+◌, ◌<◌, ◌≤◌, List, [], ◌∷◌, ◌++◌, length, take, refl}
 use Rattle.std.proofs.Common.{ap, sym, ◌∙◌, get_or, arith}
 use Rattle.std.proofs.lemmas.List.{take_all, take_more}
-use Rattle.std.proofs.lemmas.List.Sums.{fold-append}
 use Rattle.ctl_sim.specs.Plain.{Plain, plain_after, plain_octet}
+use Rattle.ctl_sim.proofs.Served.{after_both}
 
 -- no octets are taken yet
 pub fed_none : (p : Plain) → p ≡ plain_after p []
@@ -14,14 +14,10 @@ one_octet : (p : Plain) (c : ℕ) → plain_after p (c ∷ []) ≡ plain_octet p
 unfolding plain_after
 one_octet p c = refl
 
-both_after : (p : Plain) (xs ys : List ℕ) → plain_after p (xs ++ ys) ≡ plain_after (plain_after p xs) ys
-unfolding plain_after
-both_after p xs ys = fold-append plain_octet p xs ys
-
 -- one more octet
 pub fed_more : (p q r : Plain) (octets : List ℕ) (i c : ℕ) → i < length octets → q ≡ plain_after p (take i octets) → c ≡ get_or octets i c → r ≡ plain_octet q c → r ≡ plain_after p (take (i + 1) octets)
 fed_more p q r octets i c within is read next =
-    next ∙ ap (λ (x : Plain). plain_octet x c) is ∙ sym (one_octet (plain_after p (take i octets)) c) ∙ sym (both_after p (take i octets) (c ∷ []))
+    next ∙ ap (λ (x : Plain). plain_octet x c) is ∙ sym (one_octet (plain_after p (take i octets)) c) ∙ sym (after_both p (take i octets) (c ∷ []))
     ∙ ap (plain_after p) (ap (λ x. take i octets ++ x ∷ []) read ∙ sym (take_more octets i c within))
 
 -- all of them

@@ -2,6 +2,7 @@
 use Rattle.std.specs.Result.{result_err}
 use Rattle.std.specs.Prelude.{Result, Ok, Err, IfErr, IsErrAnd, ◌≡◌, ◌≢◌, ◌≤◌, ℕ, List, [], ◌∷◌, ◌++◌, length, take, Option, Some, None, refl}
 use Rattle.std.proofs.Common.{suc, zero, arith, ap, sym, ◌∙◌, append-nil, subst}
+use Rattle.std.proofs.KnownBytes.{Appends-trans, Consumes-trans}
 use Rattle.std.specs.Io.KnownBytes.{Appends, Consumes}
 use Rattle.modem_sim.specs.declared.state.ModemState.{ModemState}
 use Rattle.ctl_sim.specs.declared.server.Mode.{Mode}
@@ -11,8 +12,7 @@ use Rattle.ctl_sim.specs.declared.fault.ServeFault.{ServeFault}
 use Rattle.ctl_sim.specs.Leaving.{BeginsAnswer, IsLeftAt, IsLeftBy, IsOfModem, IsOfReader, LeftSoFar, NextBegins}
 use Rattle.ctl_sim.specs.Serving.{Entry, Setting}
 use Rattle.ctl_sim.specs.Standing.{IsAtLines, Stands, setting_by}
-use Rattle.ctl_text.proofs.Written.{appends_more}
-use Rattle.ctl_sim.proofs.Served.{answers_by, begun_mode, consumed_more}
+use Rattle.ctl_sim.proofs.Served.{answers_by, begun_mode}
 
 -- ## By whatever answers
 
@@ -92,7 +92,7 @@ left_unanswered Holds s fault a b c x y now piece so_far read few begun = record
   part = [];
   entries = so_far.entries;
   now = now;
-  read = consumed_more a b c so_far.came piece so_far.read read;
+  read = Consumes-trans a b c so_far.came piece so_far.read read;
   few = few;
   stands = so_far.holds;
   begun = begun (NextBegins Holds s so_far.came so_far.went piece []);
@@ -112,7 +112,7 @@ left_unwritten Holds s fault a b c x y z old new piece before out more entries i
       part = begun.part;
       entries = so_far.entries;
       now = old;
-      read = consumed_more a b c so_far.came piece so_far.read read;
+      read = Consumes-trans a b c so_far.came piece so_far.read read;
       few = few;
       stands = so_far.holds;
       begun =
@@ -125,7 +125,7 @@ left_unwritten Holds s fault a b c x y z old new piece before out more entries i
               stands = subst (λ (l : List ℕ). Holds s (so_far.came ++ piece) (so_far.went ++ l) entries new []) same holds;
             },
           );
-      written = appends_more x y z so_far.went begun.part so_far.written begun.appended;
+      written = Appends-trans x y z so_far.went begun.part so_far.written begun.appended;
     }
 
 -- ## From plain lines on

@@ -7,3 +7,5 @@ pub mod Muxes
 pub mod Served
 pub mod Stepping
 pub mod Watched
+mod DataLines
+mod DataEnding

@@ -2,6 +2,7 @@
 use Rattle.std.specs.Prelude.{◌≡◌, ℕ, List, [], ◌∷◌, ◌++◌, fold, Option, Some, None, refl}
 use Rattle.std.proofs.Common.{ap, sym, ◌∙◌, append_assoc, append-nil, subst}
 use Rattle.std.proofs.lemmas.List.Sums.{fold-append}
+use Rattle.std.proofs.KnownBytes.{Consumes-kept, Consumes-nil, Consumes-trans}
 use Rattle.std.specs.Io.KnownBytes.{Consumes, Keeps}
 use Rattle.ctl_sim.specs.Plain.{Plain, plain_after, plain_by, plain_octet}
 use Rattle.modem_sim.specs.declared.state.ModemState.{ModemState}
@@ -19,16 +20,11 @@ use Rattle.ctl_sim.specs.declared.server.Setup.{Setup}
 
 -- a reader that keeps what it has gave nothing
 pub consumed_none : (a b : Option (List ℕ)) → Keeps a b → Consumes a b []
-consumed_none None b keeps = tt
-consumed_none (Some x) None keeps = absurd keeps
-consumed_none (Some x) (Some y) keeps = sym keeps
+consumed_none a b keeps = Consumes-kept a a b [] (Consumes-nil a) keeps
 
--- one that gives some octets, and then others, gives both
+-- one that gives some octets, and then others, gives both: a name for tactics
 pub consumed_more : (a b c : Option (List ℕ)) (xs ys : List ℕ) → Consumes a b xs → Consumes b c ys → Consumes a c (xs ++ ys)
-consumed_more None b c xs ys p q = tt
-consumed_more (Some x) None c xs ys p q = absurd p
-consumed_more (Some x) (Some y) None xs ys p q = absurd q
-consumed_more (Some x) (Some y) (Some z) xs ys p q = p ∙ ap (λ l. xs ++ l) q ∙ sym (append_assoc xs ys z)
+consumed_more a b c xs ys p q = Consumes-trans a b c xs ys p q
 
 -- ## Plain lines
 
@@ -49,7 +45,8 @@ unfolding plain_after
 goes_on p octets =
     ap (λ x. fold plain_octet (record p { said = x }) octets) (sym (append-nil p.said)) ∙ said_fold p.said (unsaid p) octets
 
-after_both : (p : Plain) (xs ys : List ℕ) → plain_after p (xs ++ ys) ≡ plain_after (plain_after p xs) ys
+-- octets taken in two pieces are as those taken at once
+pub after_both : (p : Plain) (xs ys : List ℕ) → plain_after p (xs ++ ys) ≡ plain_after (plain_after p xs) ys
 unfolding plain_after
 after_both p xs ys = fold-append plain_octet p xs ys
 
@@ -63,11 +60,6 @@ pub both_served : (p : Plain) (xs ys : List ℕ) → plain_after p (xs ++ ys) �
 both_served p xs ys = after_both p xs ys ∙ goes_on (plain_after p xs) ys
 
 -- ## All of the input
-
--- a reader to which nothing happens keeps what it has
-pub keeps_same : (a : Option (List ℕ)) → Keeps a a
-keeps_same None = tt
-keeps_same (Some x) = refl
 
 answered_all : (s : Setting) (came went : List ℕ) (entries : List Entry) → AnswersFrom s (stage.Lines s.modem) (came ++ []) (went ++ []) (with_more [] [] entries ++ []) → AnswersEntering s came went entries
 answered_all s came went entries answers =

@@ -1,8 +1,8 @@
 -- What a watcher sees of what passes.
 use Rattle.std.specs.Prelude.{◌≡◌, ℕ, false, List, [], ◌∷◌, ◌++◌, Option, Some, None, IfSome, refl}
 use Rattle.std.proofs.Common.{ap, sym, ◌∙◌, append-nil, append_assoc, subst}
+use Rattle.std.proofs.KnownBytes.{Appends-nil, Appends-trans, Consumes-nil, Consumes-trans}
 use Rattle.std.specs.Io.KnownBytes.{Appends, Consumes, IsAtEnd}
-use Rattle.ctl_text.proofs.Written.{appends_more, appends_none}
 use Rattle.mux_capture.specs.declared.packet.Direction.{Direction}
 use Rattle.mux_capture.specs.declared.packet.Direction.TheVariants.{ToModem, FromModem}
 use Rattle.mux_capture.specs.declared.packet.Stamp.{Stamp}
@@ -17,7 +17,7 @@ use Rattle.ctl_sim.specs.Standing.{IsAtLines, MayBeFrame, Stands, StepsOn, setti
 use Rattle.ctl_sim.specs.Watching.{BeginsAnew, CapturesAnswers, EndsCapture, Exchanges, History, HoldsNow, IsCaptured, IsWatched, Notes, Passing, PassesOn, SeesPart, SeesPassed, Turns, WatchedAnswers, WatchedSoFar, WatchedWhole, comes, enters, nothing, one_stretch, turn}
 use Rattle.ctl_sim.proofs.Entries.{none_more}
 use Rattle.ctl_sim.proofs.Leaving.{ServedSoFar}
-use Rattle.ctl_sim.proofs.Served.{answers_by, answers_entering, begun_mode, consumed_more, consumed_none, keeps_same}
+use Rattle.ctl_sim.proofs.Served.{answers_by, answers_entering, begun_mode}
 
 -- ## Part by part
 
@@ -118,8 +118,8 @@ pub watched_none : {X V : Type 0} (Holds : Setting → List ℕ → List ℕ →
 watched_none Holds Undecided Sees Begins s input before now first none holds = record {
   came = [];
   went = [];
-  read = consumed_none input input (keeps_same input);
-  written = appends_none before;
+  read = Consumes-nil input;
+  written = Appends-nil before;
   passing = passing_none Holds Undecided Sees Begins s now first none holds;
 }
 
@@ -133,8 +133,8 @@ watched_more Holds Undecided Sees Begins brings s a b c x y z old new first u w 
     record {
       came = watched.came ++ piece;
       went = watched.went ++ passes.more;
-      read = consumed_more a b c watched.came piece watched.read read;
-      written = subst (λ (l : List ℕ). Appends x z (watched.went ++ l)) says (appends_more x y z watched.went out watched.written written);
+      read = Consumes-trans a b c watched.came piece watched.read read;
+      written = subst (λ (l : List ℕ). Appends x z (watched.went ++ l)) says (Appends-trans x y z watched.went out watched.written written);
       passing = passes.passes first (watched.came ++ piece) watched.went (passing_more Holds Undecided Sees Begins brings s first watched.came watched.went old u piece watched.passing);
     }
 
@@ -153,7 +153,7 @@ watched_end Holds Undecided Sees Begins s a b c x y now first u w pending out wa
       last = now;
       rest = c;
       end = end;
-      read = subst (λ (l : List ℕ). Consumes a c l) (append-nil watched.came) (consumed_more a b c watched.came [] watched.read read);
+      read = subst (λ (l : List ℕ). Consumes a c l) (append-nil watched.came) (Consumes-trans a b c watched.came [] watched.read read);
       written = subst (λ (l : List ℕ). Appends x y l) (sym (append-nil watched.went)) watched.written;
       holds = holds;
       exchanges =

@@ -10,3 +10,5 @@ pub mod Saying
 pub mod Serving
 pub mod Standing
 pub mod Watching
+pub mod DataSaying
+pub mod DataEnds

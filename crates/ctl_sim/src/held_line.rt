@@ -4,6 +4,7 @@ ghost use Rattle.serial_line.specs.Counts.{one_more, counted_if_none};
 ghost use Rattle.ctl_sim.specs.HeldLine.{held_side, held_view, new_held};
 
 use crate::history::History;
+use data_files::HandedLine;
 use serial_line::{LineFault, SerialLine};
 use std::alloc::{AllocError, Global};
 use std::marker::Model;
@@ -93,6 +94,7 @@ impl HeldLine {
         ensures out { OnOk result (out.new.items ≡ out.old.items ++ self.old.going) }
         ensures line { OnOk result
             (self.new ≡ record self.old { taken = self.old.taken ++ self.old.going; going = [] }) }
+        ensures err { OnErr result ((self.new ≡ self.old) × (out.new.items ≡ out.old.items)) }
     {
         out.extend_from_slice(&self.going)?;
         self.taken.push(&self.going);
@@ -146,5 +148,20 @@ impl SerialLine for HeldLine {
         };
         count_if_none(&mut self.stalled_writes, octets.len(), count);
         Ok(count)
+    }
+}
+
+impl HandedLine for HeldLine {
+    fn put(&mut self, octets: &[u8]) -> Result<(), AllocError> {
+        HeldLine::put(self, octets)
+    }
+
+    fn is_read(&self) -> bool {
+        HeldLine::is_read(self)
+    }
+
+    #[tactic(auto, using(crate::proofs::DataLines::held_received, crate::proofs::DataLines::held_sent))]
+    fn take(&mut self, out: &mut Vec<u8>) -> Result<(), AllocError> {
+        HeldLine::take(self, out)
     }
 }

@@ -6,8 +6,14 @@
 //! - `serving`, `writing`, `fault`: a modem on a reader and a writer. `server`: the same, octets in and octets out.
 //! - `plain`, `entry`: plain lines. `mux`, `held_line`, `history`: in the multiplexer. `steps`: scripts.
 //! - `watching`, `parts`: captures.
+//! - `data_serving`, `data_client`, `data_line`, `data_saying`, `data_fault`: the same with files beside connections.
 #![tactic(auto)]
 
+mod data_client;
+mod data_fault;
+mod data_line;
+mod data_saying;
+mod data_serving;
 mod entry;
 mod fault;
 mod held_line;
@@ -21,6 +27,8 @@ mod steps;
 mod watching;
 mod writing;
 
+pub use data_fault::DataFault;
+pub use data_serving::sim_data_run;
 pub use entry::mux_entry;
 pub use fault::{BadOption, ServeFault};
 pub use plain::PlainMode;

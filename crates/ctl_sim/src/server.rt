@@ -21,7 +21,7 @@ use std::alloc::{AllocError, Global};
 use std::marker::Model;
 
 /// A flag: a frame begins and ends with it (27.010, 5.2.6.1).
-const FLAG: u8 = 0xF9;
+pub(crate) const FLAG: u8 = 0xF9;
 
 /// In the multiplexer.
 #[derive(Drop)]

@@ -101,7 +101,7 @@ fn serve<M: Answering, V: Watcher, I: Read, W: Write>(
 }
 
 /// A modem at plain lines.
-fn at_lines(setup: &Setup, modem: Modem) -> Mode
+pub(crate) fn at_lines(setup: &Setup, modem: Modem) -> Mode
     ensures { IsAtLines setup.now modem result }
 {
     Mode::Lines(PlainMode::new(setup.alloc, setup.n1, modem))
@@ -146,7 +146,7 @@ fn give_up<E: Write>(faults: &mut E, fault: ServeFault) -> u8
 }
 
 /// Says why it isn't begun, and gives the status.
-fn refuse<E: Write>(faults: &mut E, why: BadOption) -> u8
+pub(crate) fn refuse<E: Write>(faults: &mut E, why: BadOption) -> u8
     ensures status { result ≡ 2 }
     ensures said { IsBegun (E.contents faults.old) (E.contents faults.new) (option_line why) }
 {
@@ -155,7 +155,7 @@ fn refuse<E: Write>(faults: &mut E, why: BadOption) -> u8
 }
 
 /// What serves a client by these options.
-fn begin(alloc: Global, options: SimOptions) -> Result<(Setup, Modem), BadOption>
+pub(crate) fn begin(alloc: Global, options: SimOptions) -> Result<(Setup, Modem), BadOption>
     ensures { MatchResult result (λ r. (HasBadOption options → ⊥) × (setting_by r.0 r.1 ≡ setting_of options))
         (λ why. HasBadOption options × IsBadBy options why) }
 {

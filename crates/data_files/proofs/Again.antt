@@ -4,9 +4,13 @@ use Rattle.std.proofs.Common.{ap, arith, sym, ◌∙◌, subst, suc, zero}
 use Rattle.std.proofs.lemmas.List.{append_assoc, append-nil, drop_all, length-append, take_all}
 use Rattle.std.proofs.lemmas.List.Elements.{All-map, All-weaker}
 use Rattle.std.proofs.Math.Seq.{take-append_seam}
+use Rattle.mux_station.specs.declared.role.Role.{Role}
 use Rattle.serial_line.specs.LineViews.{LineView}
-use Rattle.modem_data.specs.Passing.{Pass}
-use Rattle.data_files.specs.Files.{FileFits, FileState, again, all_given}
+use Rattle.modem_data.specs.Hops.{BeginsAs, Hop, Passed, Relay}
+use Rattle.modem_data.specs.Passing.{Began, Pass}
+use Rattle.modem_data_line.specs.DataLines.{DataLineState, LineFits}
+use Rattle.data_files.specs.Files.{FileFits, FileState, again, all_given, begun, dlcis}
+use Rattle.data_files.specs.Moves.{HasBegunTo}
 
 -- what stands before the last ones
 front_is : (all front last : List ℕ) → all ≡ front ++ last → take (length all - length last) all ≡ front
@@ -62,3 +66,27 @@ pub again_all : {Y : Type 0} (look : Y → LineView) (n : ℕ) (files now : List
 again_all look n files now most e =
     e ∙ (ap (λ (xs : List (FileState _)). map (again look) xs ++ drop n files) (take_all n files most)
     ∙ (ap (λ (xs : List (FileState _)). map (again look) files ++ xs) (drop_all n files most) ∙ append-nil (map (again look) files)))
+
+-- ## Beside another line
+
+-- their connections are the same
+pub again_dlcis : {Y : Type 0} (look : Y → LineView) (files : List (FileState Y)) → dlcis (map (again look) files) ≡ dlcis files
+again_dlcis look [] = refl
+again_dlcis look (f ∷ files) = ap (λ (ds : List ℕ). f.dlci ∷ ds) (again_dlcis look files)
+
+again_begun : {Y : Type 0} (look : Y → LineView) (files : List (FileState Y)) (past : List Hop) → begun (map (again look) files) past ≡ begun files past
+again_begun look [] past = refl
+again_begun look (f ∷ files) past = again_begun look files (Passed (Began f.dlci f.how f.until) ∷ past)
+
+-- and so do their lanes begin
+pub again_begins : {X Y : Type 0} (line_look : X → LineView) (look : Y → LineView) (files : List (FileState Y)) (u v : DataLineState X) → HasBegunTo line_look files u v
+    → HasBegunTo line_look (map (again look) files) u v
+again_begins line_look look files u v h = record {
+  leads = λ role n1 ds b past x. subst (λ (hs : List Hop). LineFits line_look role n1 ds b v hs) (sym (again_begun look files past)) (h.leads role n1 ds b past x);
+  same = h.same;
+}
+
+-- a relay for their connections is one for those
+pub again_relay : {Y : Type 0} (look : Y → LineView) (role : Role) (n1 : ℕ) (files : List (FileState Y)) (relay : Relay) → BeginsAs role n1 (dlcis files) relay
+    → BeginsAs role n1 (dlcis (map (again look) files)) relay
+again_relay look role n1 files relay h = subst (λ (ds : List ℕ). BeginsAs role n1 ds relay) (sym (again_dlcis look files)) h

@@ -5,6 +5,6 @@ mod Growing
 mod Renewing
 mod Begins
 mod Keeping
-mod Again
+pub mod Again
 mod Lifts
 pub mod Turns

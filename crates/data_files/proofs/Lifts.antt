@@ -1,5 +1,5 @@
 -- What the line and one of its files do leads all of it on.
-use Rattle.std.specs.Prelude.{◌≡◌, ◌≢◌, ℕ, ◌==◌, ◌<◌, Bool, true, false, List, [], ◌∷◌, ◌++◌, All, length, take, IfOk, MatchResult, Result, Ok, Err, refl, slice_index_or, slice_set}
+use Rattle.std.specs.Prelude.{◌≡◌, ◌≢◌, ℕ, ◌==◌, ◌<◌, Bool, true, false, List, [], ◌∷◌, ◌++◌, All, length, take, IfOk, MatchResult, OnOk, Result, Ok, Err, refl, slice_index_or, slice_set}
 use Rattle.std.specs.List.{list_all}
 use Rattle.std.proofs.Common.{ap, sym, ◌∙◌, subst, suc, zero}
 use Rattle.std.proofs.lemmas.Bool.{eqb-true, eqb-false}
@@ -157,3 +157,8 @@ moves_at look file_look v x i f there m h = record {
   fits = subst (λ (ds : List ℕ). LineFits look v.role v.n1 ds v.before x (m.hops ++ h.past)) (sym (set_dlcis v.files i f m.dlci_is)) (m.leads v.role v.n1 (dlcis v.files) v.before h.past h.fits);
   files = each_on look file_look v.files v.line x i f v.role v.n1 v.before h.past h.fits there m h.files;
 }
+
+-- all that it took is handed out
+pub all_passed : {A E : Type 0} (r : Result A E) (passed before now : List ℕ) → OnOk r (passed ≡ before) → now ≡ before → OnOk r (passed ≡ now)
+all_passed (Ok x) passed before now h e = h ∙ sym e
+all_passed (Err x) passed before now h e = tt

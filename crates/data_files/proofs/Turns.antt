@@ -77,6 +77,7 @@ pub turns_then : {X Y : Type 0} (look : X → LineView) (file_look : Y → LineV
     → HadTurns look file_look u v.files → HadTurns look file_look v now → HadTurns look file_look u now
 turns_then look file_look u v now one two = record {
   count = two.count ∙ one.count;
+  dlcis_are = two.dlcis_are ∙ one.dlcis_are;
   each = λ i f there.
       turn_then look file_look u.role u.n1 (dlcis u.files) u.before u.line (slice_index_or u.files i f) (slice_index_or v.files i f) (slice_index_or now i f) (one.each i f there)
       (two.each i f (let same = one.count in omega (arith, there, same))).grows;
@@ -170,5 +171,6 @@ pub turns_all : {X Y : Type 0} (look : X → LineView) (file_look : Y → LineVi
     → length v.files ≤ n → HadTurns look file_look u v.files
 turns_all look file_look n u v h most = record {
   count = h.long;
+  dlcis_are = h.dlcis_are;
   each = λ i f there. let long = h.long in h.came i f (omega (arith, there, most, long)) there;
 }

@@ -148,6 +148,7 @@ pub record HadTurn {X Y : Type 0} (look : X → LineView) (file_look : Y → Lin
 pub record HadTurns {X Y : Type 0} (look : X → LineView) (file_look : Y → LineView)
     (v : FiledState X Y) (now : List (FileState Y)) : Type 0 where
   pub count : length now ≡ length v.files
+  pub dlcis_are : dlcis now ≡ dlcis v.files
   pub each : (i : ℕ) (f : FileState Y) → i < length v.files
       → HadTurn look file_look v.role v.n1 (dlcis v.files) v.before v.line
       (slice_index_or v.files i f) (slice_index_or now i f)

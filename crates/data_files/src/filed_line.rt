@@ -139,6 +139,31 @@ impl<L: SerialLine + Drop, P: SerialLine + Drop> FiledLine<L, P> {
             before,
         })
     }
+
+    /// The files go on beside this line, with this relay, which was made for this end of it and for their connections. The line before is
+    /// dropped, and what waits at each file goes on. Refused for memory: then all is as it was.
+    pub fn go_on_at(
+        &mut self,
+        alloc: Global,
+        role: Role,
+        line: L,
+        relay: Relay,
+        n1: u16,
+    ) -> Result<(), DataError>
+        requires { BeginsAs role n1 (dlcis self.old.files) relay }
+        ensures begins { OnOk result
+            (BeginsFiled L.seen line relay n1 (map (again P.seen) self.old.files) self.new) }
+        ensures err { OnErr result (self.new ≡ self.old) }
+    {
+        let before = Before::of(&line);
+        let line = begun_line(alloc, line, relay, self.files.as_slice())?;
+        begin_again(&mut self.files);
+        self.line = line;
+        self.role = role;
+        self.n1 = n1;
+        self.before = before;
+        Ok(())
+    }
 }
 
 impl<L: SerialLine, P: SerialLine> FiledLine<L, P> {
@@ -170,19 +195,6 @@ impl<L: SerialLine, P: SerialLine> FiledLine<L, P> {
         ensures moved { HasMoved L.seen P.seen self }
     {
         (self.line, self.files)
-    }
-
-    /// The files, for another line: what waits at each goes on there. What was read of the connections is what the files' own octets say.
-    pub fn into_files(self) -> Vec<DataFile<P>>
-    where
-        L: Drop,
-        ensures files { result.items ≡ map (again P.seen) self.files }
-        ensures fits { All (FileFits P.seen []) result.items }
-    {
-        let (_line, files) = self.into_parts();
-        let mut files = files;
-        begin_again(&mut files);
-        files
     }
 
     /// Moves octets of one file and its connection. Requires that there is this place.

@@ -1,9 +1,9 @@
 //! A line in memory, whose owner hands in what it gives and takes out what it took.
-ghost use Rattle.std.specs.Prelude.{◌≡◌, ◌++◌, true, OnErr, OnOk};
+ghost use Rattle.std.specs.Prelude.{◌≡◌, ◌≤◌, ◌++◌, length, true, IfOk, OnErr, OnOk};
 ghost use Rattle.data_files.specs.Handed.{HandsOut};
 
 use crate::filed_line::FiledLine;
-use serial_line::SerialLine;
+use serial_line::{LineFault, SerialLine};
 use std::alloc::AllocError;
 
 /// A line in memory, whose owner hands in what it gives and takes out what it took.
@@ -49,12 +49,21 @@ impl<L: HandedLine, P: SerialLine> FiledLine<L, P> {
     }
 
     /// Hands out what the line itself took, as `HandedLine::take` does.
-    #[tactic(auto, using(crate::proofs::Lifts::line_same))]
+    #[tactic(auto, using(crate::proofs::Lifts::line_same, crate::proofs::Lifts::all_passed))]
     pub fn take(&mut self, out: &mut Vec<u8>) -> Result<(), AllocError>
         ensures out { OnOk result (HandsOut (L.other_side self.old.line.line).passed_on (L.seen self.old.line.line).sent out.old.items out.new.items) }
+        ensures passed { OnOk result ((L.other_side self.new.line.line).passed_on ≡ (L.seen self.new.line.line).sent) }
         ensures err { OnErr result ((self.new ≡ self.old) × (out.new.items ≡ out.old.items)) }
         ensures same { self.new ≡ record self.old { line = record self.old.line { line = self.new.line.line } } }
     {
         self.line.line_mut().take(out)
+    }
+
+    /// Writes as `SerialLine` has it. No file moves.
+    pub fn write_line(&mut self, octets: &[u8]) -> Result<usize, LineFault>
+        ensures bound { IfOk result (λ count. count ≤ length octets.now) }
+        ensures beside { self.new ≡ record self.old { line = self.new.line } }
+    {
+        self.line.try_write(octets)
     }
 }

@@ -1,1 +1,2 @@
+pub mod DataPaths
 pub mod FileEnds

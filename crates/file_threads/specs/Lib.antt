@@ -1,2 +1,3 @@
+pub mod DataPaths
 pub mod Said
 pub mod FileEnds

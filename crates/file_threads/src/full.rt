@@ -2,10 +2,10 @@
 ghost use Rattle.std.specs.Prelude.{◌≡◌};
 ghost use Rattle.file_threads.specs.FileEnds.{SaysFull};
 
+use crate::data_path::DataPath;
 use crate::device::DeviceThreads;
 use crate::ending::{LOOKS, PAUSE};
 use crate::saying::say_of;
-use mux_frame::Dlci;
 use std::io::Write;
 use std::rt::Clock;
 use std::thread;
@@ -13,12 +13,6 @@ use std::time::Duration;
 
 /// What is said of a thread that has more to write: its ring has room for 65,536 octets, and it takes 512 of them at once.
 const FULL: &str = ": its file hasn't taken the last of what came, 66048 octets at most";
-
-/// What is beside a connection.
-pub trait OfConnection {
-    /// The connection.
-    fn connection(&self) -> Dlci;
-}
 
 /// Whether all these threads are through.
 fn are_through(threads: &[DeviceThreads]) -> bool {
@@ -42,10 +36,10 @@ fn wait_through<K: Clock>(clock: &K, threads: &[DeviceThreads]) {
 /// Waits until these threads are through, for ten seconds at most. Says of the connections of which of these they aren't, and whether all
 /// are.
 #[tactic(auto, using(crate::proofs::FileEnds::full_none))]
-pub fn say_full<K: Clock, E: Write, D: OfConnection>(
+pub fn say_full<K: Clock, E: Write>(
     clock: &K,
     faults: &mut E,
-    of: &[D],
+    of: &[DataPath<'_>],
     threads: &[DeviceThreads],
 ) -> bool
     ensures { SaysFull result (E.contents faults.old) (E.contents faults.new) }
@@ -55,7 +49,7 @@ pub fn say_full<K: Clock, E: Write, D: OfConnection>(
     let mut place = 0;
     while place < threads.len() && place < of.len() {
         if !threads[place].are_through() {
-            say_of(faults, of[place].connection(), FULL);
+            say_of(faults, of[place].dlci, FULL);
             all = false;
         }
         place += 1;

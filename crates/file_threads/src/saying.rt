@@ -1,5 +1,7 @@
 //! What is said of files beside connections that carry data, as far as the writer takes it.
-ghost use Rattle.std.specs.Prelude.{◌≡◌, ◌++◌, codes};
+ghost use Rattle.std.specs.Prelude.{◌≡◌, ◌++◌, IfOk, IfSome, codes};
+ghost use Rattle.std.specs.Fmt.{debug_str};
+ghost use Rattle.std.specs.String.{string_bytes};
 ghost use Rattle.ctl_text.specs.Writing.{IsBegun};
 ghost use Rattle.file_threads.specs.FileEnds.{SaysEnd, SaysEnds, count_texts, data_text, octets_text, texts_if};
 ghost use Rattle.file_threads.specs.Said.{AreSaid};
@@ -9,7 +11,19 @@ use data_files::{DataFile, FiledLine};
 use itoa::Buffer;
 use mux_frame::Dlci;
 use serial_line::SerialLine;
+use std::alloc::Global;
+use std::fmt;
+use std::fmt::Write as _;
 use std::io::Write;
+
+/// A path between quotation marks. Refused where memory is.
+pub fn quoted(alloc: Global, path: &str) -> Result<String, fmt::Error>
+    ensures { IfOk result (λ quoted. IfSome (debug_str path.now) (λ text. string_bytes quoted ≡ text)) }
+{
+    let mut text = String::new(alloc);
+    write!(text, "{path:?}")?;
+    Ok(text)
+}
 
 /// Says these words of a connection.
 pub fn say_of<E: Write>(faults: &mut E, dlci: Dlci, words: &str)

@@ -133,11 +133,6 @@ pub lists_through : (ws : List Worked) (vs : List (Vec Outcome Global)) → vs �
 lists_through [] vs e = ap (map vec_items) e
 lists_through (w ∷ ws) vs e = ap (map vec_items) e ∙ ap (λ (l : List (List Outcome)). w.outcomes.items ∷ l) (lists_through ws (map (λ (w : Worked). w.outcomes) ws) refl)
 
--- what follows from what is told of an Ok is told of it too
-pub on_ok : {A E P Q : Type 0} (r : Result A E) → (P → Q) → OnOk r P → OnOk r Q
-on_ok (Ok x) f h = f h
-on_ok (Err e) f h = tt
-
 -- caller 0, back in its place, opened the connections, and the others stay
 pub opens_first : (all : List Submission) (cs : List CallerView) (c d : CallerView) → 0 < length cs → c ≡ slice_index_or cs 0 c → OpensAll all 62 c d → OpensFirst all cs (slice_set cs 0 d)
 unfolding OpensFirst
@@ -150,16 +145,7 @@ unfolding StopsFirst
 stops_first [] w d lt e h = absurd (omega (arith, lt))
 stops_first (x ∷ ws) w d lt e h = (subst (λ (y : Worked). Stops y.caller d) e h, ap (λ (y : Worked). y.outcomes) e, refl)
 
--- what is told of the value of an Ok holds of that value
-pub known_ok : {A E : Type 0} (P : A → Type 0) (r : Result A E) (x : A) → r ≡ Ok x → IfOk r P → P x
-known_ok {A} {E} P r x e h = subst (λ (s : Result A E). IfOk s P) e h
-
--- what follows from what is told of that value is told of it too
-pub ok_on : {A E : Type 0} (P R : A → Type 0) (r : Result A E) → ((x : A) → P x → R x) → IfOk r P → IfOk r R
-ok_on P R (Ok x) f p = f x p
-ok_on P R (Err e) f p = tt
-
--- and so is what follows from two things that are told
+-- what follows from two things that are told of the value of an Ok is told of it too
 pub ok_both : {A E : Type 0} (P Q R : A → Type 0) (r : Result A E) → ((x : A) → P x → Q x → R x) → IfOk r P → IfOk r Q → IfOk r R
 ok_both P Q R (Ok x) f p q = f x p q
 ok_both P Q R (Err e) f p q = tt

@@ -10,10 +10,19 @@ use Rattle.modem_history.specs.Sessions.{LineView}
 use Rattle.modem_driver.specs.EndpointSteps.{with_received}
 use Rattle.modem_driver.specs.Entries.{SeesCode}
 use Rattle.modem_driver.specs.declared.entry.EntryStep.{EntryStep}
-use Rattle.modem_driver.specs.declared.entry.EntryStep.TheVariants.{Moved}
+use Rattle.modem_driver.specs.declared.entry.EntryStep.TheVariants.{Answered, Idle, Moved}
 use Rattle.modem_driver.specs.EntrySteps.{EntryView, IsAnswered, StepsTo, EntryStepsOn, step_by}
 use Rattle.modem_c.specs.Entries.{Ends, EntryState, Hears, HearsBy, HearsIn, IsTurnedDown}
 use Rattle.modem_driver.proofs.EntrySteps.{came_as, none_came}
+
+-- a step says nothing of a line but what was sent and received
+same_octets : (first old now : LineView) (e : EntryView) (said : EntryStep) → now.sent ≡ old.sent → now.received ≡ old.received → StepsTo first old e said → StepsTo first now e said
+same_octets first old now e Moved sent came h =
+    record { few = h.few; sent_are = sent ∙ h.sent_are; read = h.read; read_are = came ∙ h.read_are; in_turn = h.in_turn; kept = h.kept; none = h.none }
+same_octets first old now e Idle sent came h =
+    record { few = h.few; sent_are = sent ∙ h.sent_are; read = h.read; read_are = came ∙ h.read_are; in_turn = h.in_turn; kept = h.kept; none = h.none }
+same_octets first old now e (Answered code) sent came h =
+    record { sent_are = sent ∙ h.sent_are; read = h.read; read_are = came ∙ h.read_are; line = h.line; ended = h.ended; code_is = h.code_is }
 
 -- one octet came where the whole text was given
 pub hears_one : (seen was : EntryView) (kept : List ℕ) (octet : ℕ) (code : Option Final) → seen ≡ was → was.written ≡ length was.text
@@ -21,12 +30,13 @@ pub hears_one : (seen was : EntryView) (kept : List ℕ) (octet : ℕ) (code : O
     → Hears was (record { text = seen.text; written = seen.written; kept = kept }) (octet ∷ []) (step_by code)
 unfolding Hears EntryStepsOn
 hears_one seen was kept octet code same whole keeps sees first l asked =
-    came_as l (with_received l (octet ∷ [])) seen was kept (Some octet) octet code (step_by code) refl same refl whole refl refl keeps sees first asked
+    same_octets first _ (with_received l (octet ∷ [])) (record { text = seen.text; written = seen.written; kept = kept }) (step_by code) refl refl
+    (came_as l _ seen was kept (Some octet) octet code (step_by code) refl same refl whole refl keeps sees first asked)
 
 -- none came
 pub hears_none : (was : EntryView) → Hears was was [] Moved
 unfolding Hears EntryStepsOn
-hears_none was first l asked = none_came l (with_received l []) was None refl refl refl first asked
+hears_none was first l asked = same_octets first _ (with_received l []) was Moved refl refl (none_came l _ was None refl refl first asked)
 
 joined : (first l : LineView) (now : EntryView) (xs ys : List ℕ) (said : EntryStep) → StepsTo first (with_received (with_received l xs) ys) now said
     → StepsTo first (with_received l (xs ++ ys)) now said

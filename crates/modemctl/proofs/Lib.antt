@@ -2,3 +2,4 @@ pub mod FileFaults
 pub mod Stops
 pub mod TextFiles
 pub mod ShownFiles
+mod WordRows

@@ -1,19 +1,19 @@
 -- What is shown of the files that the words name.
-use Rattle.std.specs.Prelude.{◌≡◌, ◌⊎◌, ◌<◌, ◌≤◌, ℕ, Bool, List, [], ◌==◌, map, Option, None, Some, IfSome, codes, length, option_map, refl, true, if◌then◌else◌}
+use Rattle.std.specs.Prelude.{◌≡◌, ◌⊎◌, ◌<◌, ◌≤◌, ℕ, Bool, List, [], ◌==◌, map, Option, None, Some, IfSome, codes, length, refl, true, if◌then◌else◌}
 use Rattle.std.proofs.Common.{⊎_elim, ap, arith, sym, ◌∙◌, subst, inr}
+use Rattle.std.proofs.KnownBytes.{Appends-nil}
 use Rattle.std.specs.Fmt.{decimal}
 use Rattle.std.specs.Io.Buffered.{reader_buffer, reader_capacity, reader_inner, reader_remaining}
 use Rattle.std.specs.Io.KnownBytes.{prepend_known}
 use Rattle.std.specs.declared.io.buffered.BufReader.{BufReader}
 use Rattle.std.specs.declared.io.ErrorKind.{ErrorKind}
-use Rattle.clap.specs.Words.{Text, first_value, found_of, matched_of, one_text, raw_values}
+use Rattle.clap.specs.Words.{Text, first_value, found_of, one_text}
 use Rattle.clap.specs.declared.ArgMatches.{ArgMatches}
 use Rattle.mux_frame.specs.declared.dlci.Dlci.{Dlci}
 use Rattle.ctl_run.specs.Statuses.{stop_line}
 use Rattle.ctl_run.specs.declared.stop.Stop.TheVariants as Stop
 use Rattle.ctl_run.proofs.outputs.SaidLines.{begun_line}
 use Rattle.ctl_text.specs.Writing.{IsBegun}
-use Rattle.ctl_text.proofs.Written.{appends_none}
 use Rattle.show_texts.specs.Captures.{HasShown, SaysFault}
 use Rattle.show_texts.specs.Merging.{HasShownUntimed}
 use Rattle.show_texts.specs.Progress.{HasTold, ProgressState, TellsRead}
@@ -22,7 +22,7 @@ use Rattle.show_texts.specs.declared.run.ShowOptions.{ShowOptions}
 use Rattle.modemctl.specs.Benches.{IsFlag}
 use Rattle.modemctl.specs.Dialects.{IsGivenDialect}
 use Rattle.modemctl.specs.Files.{IsNoText, SaysWhy}
-use Rattle.modemctl.specs.Shows.{AreChannels, AreWantedBy, SaysUnread, SaysUnreadOf, SaysUnshown, ShowsFiles, ShowsWith, TellsFiles, TellsShow, closed, cut, no_memory}
+use Rattle.modemctl.specs.Shows.{AreChannels, AreWantedBy, SaysUnread, SaysUnreadOf, SaysUnshown, ShowsFiles, ShowsWith, TellsFiles, TellsShow, closed, cut, given_for, no_memory}
 use Rattle.modemctl.specs.declared.words.file_faults.FileFault.TheVariants as FileFault
 
 -- ## The connections of data
@@ -41,7 +41,7 @@ memory_said dialect before after status one said = inr (record { stop = Stop.NoM
 
 -- the N1, the dialect, the connections and the strictness are those that the words give
 pub wanted_so : (texts : Text → Option (List ℕ)) (n1 : ℕ) (m : ArgMatches) (o : ShowOptions) → o.n1 ≡ n1 → IsGivenDialect texts (first_value (found_of m) (codes "dialect")) o.dialect
-    → AreChannels (option_map raw_values (matched_of (found_of m) (codes "data"))) o.data_channels.items → IsFlag (one_text (found_of m) (codes "strict")) o.strict → AreWantedBy texts n1 m o
+    → AreChannels (given_for m (codes "data")) o.data_channels.items → IsFlag (one_text (found_of m) (codes "strict")) o.strict → AreWantedBy texts n1 m o
 wanted_so texts n1 m o is named data_given strict_given = record { n1_is = is; named = named; data_given = data_given; strict_given = strict_given }
 
 -- ## A reader
@@ -115,8 +115,8 @@ files_unread dialect raw raw_word file path before after status path_is raw_is s
 
 none_told : (p : ProgressState) → HasTold p.shown p 0
 none_told p = record {
-  whole = λ on. appends_none p.shown;
-  begun = record { part = []; left = []; split = refl; appended = appends_none p.shown };
+  whole = λ on. Appends-nil p.shown;
+  begun = record { part = []; left = []; split = refl; appended = Appends-nil p.shown };
 }
 
 none_within : (input : Option (List ℕ)) → IfSome input (λ all. 0 ≤ length all)

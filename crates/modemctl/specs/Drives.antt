@@ -1,18 +1,19 @@
 -- What the program prints at `drive`.
-use Rattle.std.specs.Prelude.{◌≡◌, ℕ, Bool, true, false, List, [], ◌∷◌, ◌++◌, All, Option, None, Some, codes, is_some, map, option_map}
+use Rattle.std.specs.Prelude.{◌≡◌, ℕ, Bool, true, false, List, [], ◌∷◌, ◌++◌, All, Option, None, Some, codes, is_some, map}
 use Rattle.std.specs.Fmt.{decimal}
-use Rattle.clap.specs.Words.{Row, Text, first_value, found_of, matched_of, raw_values}
+use Rattle.clap.specs.Words.{Row, Text, first_value, found_of}
 use Rattle.clap.specs.declared.ArgMatches.{ArgMatches}
 use Rattle.at_text.specs.Rules.{FinalRule, Rules, with_rule}
 use Rattle.at_text.specs.declared.rules.Form.TheVariants.{Prefix}
 use Rattle.modem_data.specs.declared.begin.Begin.{Begin}
 use Rattle.modem_data.specs.declared.begin.Begin.TheVariants.{AtOnce, ByConnect, ByPrompt}
-use Rattle.ctl_drive.specs.DataDevice.{RanFiles, opened_files}
+use Rattle.ctl_drive.specs.DataDevice.{RanFiles}
+use Rattle.file_threads.specs.DataPaths.{opened_files}
 use Rattle.ctl_drive.specs.Entry.{entry_for}
 use Rattle.ctl_drive.specs.OnDevice.{RanDevice}
-use Rattle.ctl_drive.specs.declared.settings.DataPath.{DataPath}
+use Rattle.file_threads.specs.declared.data_path.DataPath.{DataPath}
 use Rattle.modemctl.specs.Dialects.{IsGivenDialect}
-use Rattle.modemctl.specs.Shows.{all_in}
+use Rattle.modemctl.specs.Shows.{all_in, given_for}
 use Rattle.modemctl.specs.Words.{IsGiven, is_set, raw_in}
 
 -- a connection and the path of the file beside it: D=PATH
@@ -28,6 +29,11 @@ AreDataPaths (Some texts) begin data_paths = (texts ≡ map (λ p. data_path_tex
 abbrev pub begin_by : (by_connect : Bool) → Begin
 begin_by true = ByConnect
 begin_by false = AtOnce
+
+-- what these options take, which is said where their texts aren't such; `options` is their names and the verb
+abbrev pub paths_line : (options : List ℕ) → List ℕ
+paths_line options =
+    codes "error: " ++ options ++ codes " D=PATH, with a connection from 1 to 61, each once, and 8 of them at most" ++ 10 ∷ []
 
 -- the connections with files of `--data`, and behind them those of `--text`, which is sent behind a prompt
 pub record AreFiles (paths texts : Option (List Text)) (by_connect : Bool) (data_paths : List DataPath) : Type 0 where
@@ -53,7 +59,7 @@ abbrev pub RanBy : List DataPath → (captures : Bool) (rules : Rules) (text : L
     (was_bad : Bool) → Type 0
 RanBy [] captures rules text n1 before after silent said was_bad = RanDevice captures rules text n1 before after silent said was_bad
 RanBy (p ∷ more) captures rules text n1 before after silent said was_bad =
-    RanFiles captures rules text n1 (opened_files (p ∷ more)) before after silent said was_bad
+    RanFiles captures rules text n1 (opened_files false (p ∷ more)) before after silent said was_bad
 
 -- the same with the files that these texts give, of `--data` and of `--text`
 pub record RanGiven (paths texts : Option (List Text)) (by_connect : Bool) (captures : Bool) (rules : Rules) (text : List ℕ) (n1 : ℕ)
@@ -80,7 +86,7 @@ pub record PrintsDrive (texts : Text → Option (List ℕ)) (met : Option (Text 
 abbrev pub RanWith : (m : ArgMatches) (captures : Bool) (rules : Rules) (text : List ℕ) (n1 : ℕ)
     (before after silent said : Option (List ℕ)) (was_bad : Bool) → Type 0
 RanWith m captures rules text n1 before after silent said was_bad =
-    RanGiven (option_map raw_values (matched_of (found_of m) (codes "data"))) (option_map raw_values (matched_of (found_of m) (codes "text")))
+    RanGiven (given_for m (codes "data")) (given_for m (codes "text"))
     (is_set (first_value (found_of m) (codes "arm"))) captures rules text n1 before after silent said was_bad
 
 -- and with the other options that they have

@@ -6,3 +6,4 @@ pub mod Files
 pub mod Sims
 pub mod Words
 pub mod Shows
+pub mod SimData

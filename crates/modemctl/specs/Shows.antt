@@ -23,6 +23,10 @@ use Rattle.modemctl.specs.declared.words.file_faults.FileFault.TheVariants as Fi
 abbrev pub all_in : Option (Text × List Row) → (option : Text) → Option (List Text)
 all_in met option = option_and_then (λ p. all_of option p.1) met
 
+-- the same texts, as the matches of the subcommand have them
+abbrev pub given_for : ArgMatches → (option : Text) → Option (List Text)
+given_for m option = option_map raw_values (matched_of (found_of m) option)
+
 -- connections by their numbers in decimal; none where there are no texts
 abbrev pub AreChannels : Option (List Text) → List Dlci → Type 0
 AreChannels None channels = channels ≡ []
@@ -53,7 +57,7 @@ pub record PrintsShow (texts : Text → Option (List ℕ)) (met : Option (Text �
 pub record AreWantedBy (texts : Text → Option (List ℕ)) (n1 : ℕ) (m : ArgMatches) (options : ShowOptions) : Type 0 where
   pub n1_is : options.n1 ≡ n1
   pub named : IsGivenDialect texts (first_value (found_of m) (codes "dialect")) options.dialect
-  pub data_given : AreChannels (option_map raw_values (matched_of (found_of m) (codes "data"))) options.data_channels.items
+  pub data_given : AreChannels (given_for m (codes "data")) options.data_channels.items
   pub strict_given : IsFlag (one_text (found_of m) (codes "strict")) options.strict
 
 -- the files that the matches of the subcommand name were shown so

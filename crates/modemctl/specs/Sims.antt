@@ -143,6 +143,11 @@ pub record SaysBadAnswer (texts : Text → Option (List ℕ)) (answers : Option 
   pub bad : HasFirstNone (texts named) place part
   pub said : IsBegun told_before told_after (bad_line (decimal place) ++ answers_line part)
 
+-- a line of the script or of the answers is bad, and that is said
+abbrev pub SaysBadFile : (texts : Text → Option (List ℕ)) → SimFiles → (told_before told_after : Option (List ℕ)) → Type 0
+SaysBadFile texts files told_before told_after =
+    SaysBadStep texts files.script told_before told_after ⊎ SaysBadAnswer texts files.answers told_before told_after
+
 -- an option of the words is bad, which is said
 pub record HasBadGiven (texts : Text → Option (List ℕ)) (met : Option (Text × List Row)) (told_before told_after : Option (List ℕ)) : Type 0 where
   pub options : SimOptions
@@ -159,5 +164,9 @@ pub record HasBadMatched (texts : Text → Option (List ℕ)) (n1 : ℕ) (m : Ar
 abbrev pub RefusesClient : (texts : Text → Option (List ℕ)) → (met : Option (Text × List Row)) → (told_before told_after : Option (List ℕ)) → Type 0
 RefusesClient texts met told_before told_after =
     SaysNoNumber told_before told_after
-    ⊎ (SaysBadStep texts (raw_in met (codes "script")) told_before told_after
-    ⊎ (SaysBadAnswer texts (raw_in met (codes "answers")) told_before told_after ⊎ HasBadGiven texts met told_before told_after))
+    ⊎ (SaysBadFile texts (files_given met) told_before told_after ⊎ HasBadGiven texts met told_before told_after)
+
+-- a line of the script or of the answers is bad, or an option, as the matches of the subcommand have them, and that is said
+abbrev pub RefusesWith : (texts : Text → Option (List ℕ)) → (n1 : ℕ) → ArgMatches → (told_before told_after : Option (List ℕ)) → Type 0
+RefusesWith texts n1 m told_before told_after =
+    SaysBadFile texts (files_matched m) told_before told_after ⊎ HasBadMatched texts n1 m told_before told_after

@@ -1,7 +1,8 @@
 -- The words of the program.
-use Rattle.std.specs.Prelude.{◌≡◌, ◌⊎◌, ◌||◌, ℕ, pos, Bool, true, false, List, [], ◌∷◌, Option, None, Some, option_and_then, option_map, codes}
+use Rattle.std.specs.Prelude.{◌≡◌, ◌⊎◌, ◌||◌, ℕ, pos, Bool, true, false, List, [], ◌∷◌, Option, None, Some, String, map, option_and_then, option_map, string_bytes, codes}
 use Rattle.std.specs.Fmt.{decimal}
 use Rattle.std.specs.Str.{bytes_eq}
+use Rattle.std.specs.declared.alloc.Global.{Global}
 use Rattle.clap.specs.Words.{App, IsAmong, Kinds, Row, Rule, Text, first_of, one_of, fault_of, new_app, new_rule, subcommand_of, with_rule, with_subcommand}
 use Rattle.clap.specs.declared.builder.ArgAction.TheVariants.{Append, Set, SetTrue}
 use Rattle.clap.specs.declared.error.ErrorKind.TheVariants.{DisplayHelp, DisplayVersion}
@@ -99,12 +100,18 @@ answers_rule = record (new_rule (codes "answers")) { long = Some (codes "answers
 abbrev pub capture_rule : Rule
 capture_rule = record (new_rule (codes "capture")) { long = Some (codes "capture"); action = Some Set; value_names = 1 }
 
+-- the option `--data` of a modem for a client, and of a drive: a text, as often as is wanted
+abbrev pub data_path_rule : Rule
+data_path_rule = record (new_rule (codes "data")) { long = Some (codes "data"); action = Some Append; value_names = 1 }
+
 -- the subcommand with these options and `--n1`
 abbrev pub sim_app : App
 sim_app =
     with_rule
+    (with_rule
     (with_rule (with_rule (with_rule (with_rule (with_rule (new_app (codes "sim")) n1_rule) pin_rule) echo_rule) script_rule) answers_rule)
-    capture_rule
+    capture_rule)
+    data_path_rule
 
 -- the same with a modem
 abbrev pub with_four : App
@@ -132,10 +139,6 @@ quiet_rule = record (new_rule (codes "quiet-for")) {
 -- the option `--entry`: a text
 abbrev pub entry_rule : Rule
 entry_rule = record (new_rule (codes "entry")) { long = Some (codes "entry"); action = Some Set; value_names = 1 }
-
--- the option `--data` of a drive: a text, as often as is wanted
-abbrev pub data_path_rule : Rule
-data_path_rule = record (new_rule (codes "data")) { long = Some (codes "data"); action = Some Append; value_names = 1 }
 
 -- the option `--arm`, which has no value
 abbrev pub arm_rule : Rule
@@ -196,6 +199,10 @@ show_app =
 -- the program, with its six subcommands
 abbrev pub program_app : App
 program_app = with_subcommand with_five show_app.top
+
+-- the texts of the words
+abbrev pub texts_of : List (String Global) → List Text
+texts_of words = map string_bytes words
 
 -- what is wrong with words, or the help that they ask for; nothing where they name a subcommand to run
 abbrev pub fault_in : List Text → Kinds

@@ -1,6 +1,5 @@
 //! The words of the program.
-ghost use Rattle.std.specs.Prelude.{◌≡◌, ◌≢◌, ◌<◌, ◌≤◌, ◌⊎◌, Bool, [], map, Some, IfOk, false, codes, is_some, true};
-ghost use Rattle.std.specs.String.{string_bytes};
+ghost use Rattle.std.specs.Prelude.{◌≡◌, ◌≢◌, ◌<◌, ◌≤◌, ◌⊎◌, Bool, [], Some, IfOk, false, codes, is_some, true};
 ghost use Rattle.clap.specs.Words.{first_value, found_of, kind_of, subcommand_name_of, subcommand_rows_of};
 ghost use Rattle.ctl_run.specs.Printed.{IsBenched, IsPrinted};
 ghost use Rattle.ctl_run.specs.Statuses.{stop_line};
@@ -13,9 +12,10 @@ ghost use Rattle.modemctl.specs.Benches.{PrintsBench, PrintsFrames, PrintsReplay
 ghost use Rattle.modemctl.specs.Dialects.{IsShut};
 ghost use Rattle.modemctl.specs.Drives.{PrintsDrive};
 ghost use Rattle.modemctl.specs.Files.{NamesCause};
-ghost use Rattle.modemctl.specs.Sims.{FailsClient, HasBadMatched, HasNoCapture, IsNotBegun, LeavesClient, LeavesWith, RefusesClient, SaysBadAnswer, SaysBadStep, ServesClient, ServesWith, files_given, files_matched, number_line};
-ghost use Rattle.modemctl.specs.Shows.{IsShutFile, PrintsShow, SaysUnshown, TellsShow};
-ghost use Rattle.modemctl.specs.Words.{fault_in, met_in, raw_in, AreFor, AsksNoHelp, HasNoNumber, is_explained};
+ghost use Rattle.modemctl.specs.Sims.{FailsClient, HasNoCapture, IsNotBegun, LeavesClient, LeavesWith, RefusesClient, RefusesWith, ServesClient, ServesWith, files_given, files_matched, number_line};
+ghost use Rattle.modemctl.specs.SimData.{AreForSim, LeavesData, SaysNoPaths, ServesData, names_files};
+ghost use Rattle.modemctl.specs.Shows.{IsShutFile, PrintsShow, SaysUnshown, TellsShow, all_in};
+ghost use Rattle.modemctl.specs.Words.{fault_in, met_in, raw_in, AreFor, AsksNoHelp, HasNoNumber, is_explained, texts_of};
 
 mod answers;
 mod commands;
@@ -29,10 +29,10 @@ mod numbers;
 mod options;
 mod reasons;
 mod showing;
+mod sim_data;
 mod sims;
 mod text_files;
 
-use answers::answers_of;
 use clap::error::ErrorKind;
 use clap::{ArgMatches, Error};
 use commands::program;
@@ -41,13 +41,14 @@ use ctl_sim::{SimOptions, sim_captured, sim_run};
 use ctl_text::say_line;
 use dialects::replay_words;
 use driving::drive_words;
-use files::{capture_at, refuse_capture, steps_of};
+use files::{capture_at, refuse_capture};
 use modem_sim::{Script, Steps};
 use numbers::{Numbers, numbers_of};
 use reasons::wants_reason;
 use show_texts::Progress;
 use showing::show_words;
-use sims::{echo_of, pin_of};
+use sim_data::sim_any;
+use sims::sim_options_of;
 use std::alloc::{AllocGlobal, Global};
 use std::fs::File;
 use std::io::{Read, Write};
@@ -219,31 +220,12 @@ where
         (E.contents faults.old) (E.contents faults.new)
         ⊎ LeavesWith (R.text_of rt.now) n1 matches.now (I.remaining input.old) (I.remaining input.new) (W.contents output.old)
         (W.contents output.new) (E.contents faults.old) (E.contents faults.new) }
-    ensures told { result ≡ 2
-        → SaysBadStep (R.text_of rt.now) (first_value (found_of matches.now) (codes "script")) (E.contents faults.old) (E.contents faults.new)
-        ⊎ (SaysBadAnswer (R.text_of rt.now) (first_value (found_of matches.now) (codes "answers")) (E.contents faults.old)
-        (E.contents faults.new)
-        ⊎ HasBadMatched (R.text_of rt.now) n1 matches.now (E.contents faults.old) (E.contents faults.new)) }
+    ensures told { result ≡ 2 → RefusesWith (R.text_of rt.now) n1 matches.now (E.contents faults.old) (E.contents faults.new) }
 {
-    let Ok(pin) = pin_of(alloc, matches) else {
-        return give_up(faults, Stop::NoMemory);
-    };
-    let steps = match steps_of(rt, alloc, matches, faults) {
-        Ok(steps) => steps,
-        Err(status) => return status,
-    };
-    let answers = match answers_of(rt, alloc, matches, faults) {
-        Ok(answers) => answers,
-        Err(status) => return status,
-    };
-    let options = SimOptions {
-        n1,
-        pin,
-        echo: echo_of(matches),
-        steps,
-        answers,
-    };
-    sim_with(rt, alloc, matches, options, input, output, faults)
+    match sim_options_of(rt, alloc, matches, n1, faults) {
+        Ok(options) => sim_with(rt, alloc, matches, options, input, output, faults),
+        Err(status) => status,
+    }
 }
 
 /// Runs the subcommand that a parse met.
@@ -303,16 +285,35 @@ where
         → PrintsBench (subcommand_rows_of matches.now) (I.remaining input.old) (W.contents output.old)
         (W.contents output.new) }
     ensures sim { result ≡ 0 → subcommand_name_of matches.now ≡ Some (codes "sim")
+        → names_files (subcommand_rows_of matches.now) ≡ false
         → ServesClient (R.text_of rt.now) (subcommand_rows_of matches.now) (I.remaining input.old) (W.contents output.old)
         (W.contents output.new) }
-    ensures silent { result ≡ 0 → (subcommand_name_of matches.now ≡ Some (codes "drive") → ⊥) → faults.new ≡ faults.old }
+    ensures silent { result ≡ 0 → (subcommand_name_of matches.now ≡ Some (codes "drive") → ⊥)
+        → (subcommand_name_of matches.now ≡ Some (codes "sim") → names_files (subcommand_rows_of matches.now) ≡ false)
+        → faults.new ≡ faults.old }
     ensures sim_left { result ≡ 1 → subcommand_name_of matches.now ≡ Some (codes "sim")
+        → names_files (subcommand_rows_of matches.now) ≡ false
         → IsNotBegun (files_given (subcommand_rows_of matches.now)) input.old input.new output.old output.new
         (E.contents faults.old) (E.contents faults.new)
         ⊎ LeavesClient (R.text_of rt.now) (subcommand_rows_of matches.now) (I.remaining input.old) (I.remaining input.new)
         (W.contents output.old) (W.contents output.new) (E.contents faults.old) (E.contents faults.new) }
     ensures sim_bad { result ≡ 2 → subcommand_name_of matches.now ≡ Some (codes "sim")
+        → names_files (subcommand_rows_of matches.now) ≡ false
         → RefusesClient (R.text_of rt.now) (subcommand_rows_of matches.now) (E.contents faults.old) (E.contents faults.new) }
+    ensures sim_data { result ≡ 0 → subcommand_name_of matches.now ≡ Some (codes "sim")
+        → names_files (subcommand_rows_of matches.now) ≡ true
+        → ServesData (all_in (subcommand_rows_of matches.now) (codes "data")) (E.contents faults.old) (E.contents faults.new) }
+    ensures sim_data_left { result ≡ 1 → subcommand_name_of matches.now ≡ Some (codes "sim")
+        → names_files (subcommand_rows_of matches.now) ≡ true
+        → LeavesData (files_given (subcommand_rows_of matches.now)) (all_in (subcommand_rows_of matches.now) (codes "data")) output.old
+        output.new (E.contents faults.old) (E.contents faults.new) }
+    ensures sim_data_bad { result ≡ 2 → subcommand_name_of matches.now ≡ Some (codes "sim")
+        → names_files (subcommand_rows_of matches.now) ≡ true
+        → SaysNoPaths (E.contents faults.old) (E.contents faults.new)
+        ⊎ RefusesClient (R.text_of rt.now) (subcommand_rows_of matches.now) (E.contents faults.old) (E.contents faults.new) }
+    ensures sim_data_unread { subcommand_name_of matches.now ≡ Some (codes "sim")
+        → names_files (subcommand_rows_of matches.now) ≡ true
+        → input.new ≡ input.old }
     ensures drive { result ≡ 0 → subcommand_name_of matches.now ≡ Some (codes "drive")
         → PrintsDrive (R.text_of rt.now) (subcommand_rows_of matches.now) (W.contents output.old) (W.contents output.new)
         (E.contents faults.old) (E.contents faults.new) false }
@@ -351,7 +352,7 @@ where
             rt, alloc, given, numbers.n1, input, output, faults, explained,
         ),
         "bench" => bench_plain(rt, alloc, numbers, input, output, faults, explained),
-        "sim" => sim_words(rt, alloc, given, numbers.n1, input, output, faults),
+        "sim" => sim_any(rt, alloc, given, numbers.n1, input, lines, output, faults),
         "drive" => drive_words(rt, given, numbers.n1, lines, output, faults),
         "show" => show_words(rt, alloc, given, numbers.n1, output, faults, progress),
         _ => 2,
@@ -360,8 +361,8 @@ where
 
 /// Runs the subcommand that the words name; before them stands the program's own name. Gives the exit status: 0 where it is
 /// done, 1 at a fault, 2 at bad words or a bad line, 3 at a complaint of a strict `show`. `lines` reads the same input from the
-/// thread that `drive` starts. Where `terminal` says that `faults` writes to a terminal, the reason of a fault is said too. `show` tells
-/// on `progress` how much of a capture was read.
+/// thread that `drive` and `sim --data` start. Where `terminal` says that `faults` writes to a terminal, the reason of a fault is
+/// said too. `show` tells on `progress` how much of a capture was read.
 pub fn run<R, I: Read, J, W: Write, E: Write, P: Write>(
     rt: &R,
     alloc: Global,
@@ -387,75 +388,84 @@ where
         + 'static,
     J: Read + Send + Drop + 'static,
     ensures status { result ≤ 3 }
-    ensures three { result ≡ 3 → AreFor (codes "show") (map string_bytes words.now) }
-    ensures bad { result ≡ 2 → (AreFor (codes "drive") (map string_bytes words.now) → ⊥) → output.new ≡ output.old }
-    ensures wrong { fault_in (map string_bytes words.now) ≢ []
-        → AsksNoHelp (fault_in (map string_bytes words.now)) → 0 < result }
-    ensures unread { fault_in (map string_bytes words.now) ≢ [] → input.new ≡ input.old }
-    ensures no_number { fault_in (map string_bytes words.now) ≡ []
-        → HasNoNumber (met_in (map string_bytes words.now)) → input.new ≡ input.old }
-    ensures nothing { result ≡ 1 → (AreFor (codes "sim") (map string_bytes words.now) → ⊥)
-        → (AreFor (codes "drive") (map string_bytes words.now) → ⊥)
-        → (AreFor (codes "replay") (map string_bytes words.now) → ⊥)
-        → (AreFor (codes "show") (map string_bytes words.now) → ⊥)
-        → HasGivenUp (is_explained terminal (met_in (map string_bytes words.now))) output.old output.new (E.contents faults.old)
+    ensures three { result ≡ 3 → AreFor (codes "show") (texts_of words.now) }
+    ensures bad { result ≡ 2 → (AreFor (codes "drive") (texts_of words.now) → ⊥) → output.new ≡ output.old }
+    ensures wrong { fault_in (texts_of words.now) ≢ []
+        → AsksNoHelp (fault_in (texts_of words.now)) → 0 < result }
+    ensures unread { fault_in (texts_of words.now) ≢ [] → input.new ≡ input.old }
+    ensures no_number { fault_in (texts_of words.now) ≡ []
+        → HasNoNumber (met_in (texts_of words.now)) → input.new ≡ input.old }
+    ensures nothing { result ≡ 1 → (AreFor (codes "sim") (texts_of words.now) → ⊥)
+        → (AreFor (codes "drive") (texts_of words.now) → ⊥)
+        → (AreFor (codes "replay") (texts_of words.now) → ⊥)
+        → (AreFor (codes "show") (texts_of words.now) → ⊥)
+        → HasGivenUp (is_explained terminal (met_in (texts_of words.now))) output.old output.new (E.contents faults.old)
         (E.contents faults.new) result }
-    ensures unreplayed { result ≡ 1 → AreFor (codes "replay") (map string_bytes words.now)
-        → NamesCause (is_explained terminal (met_in (map string_bytes words.now)))
-        (raw_in (met_in (map string_bytes words.now)) (codes "dialect")) output.old output.new (E.contents faults.old)
+    ensures unreplayed { result ≡ 1 → AreFor (codes "replay") (texts_of words.now)
+        → NamesCause (is_explained terminal (met_in (texts_of words.now)))
+        (raw_in (met_in (texts_of words.now)) (codes "dialect")) output.old output.new (E.contents faults.old)
         (E.contents faults.new) result }
-    ensures undriven { result ≡ 1 → AreFor (codes "drive") (map string_bytes words.now)
-        → IsShut (R.is_shut rt.now) (raw_in (met_in (map string_bytes words.now)) (codes "dialect"))
-        → NamesCause true (raw_in (met_in (map string_bytes words.now)) (codes "dialect")) output.old output.new
+    ensures undriven { result ≡ 1 → AreFor (codes "drive") (texts_of words.now)
+        → IsShut (R.is_shut rt.now) (raw_in (met_in (texts_of words.now)) (codes "dialect"))
+        → NamesCause true (raw_in (met_in (texts_of words.now)) (codes "dialect")) output.old output.new
         (E.contents faults.old) (E.contents faults.new) result }
-    ensures replay_shut { AreFor (codes "replay") (map string_bytes words.now)
-        → IsShut (R.is_shut rt.now) (raw_in (met_in (map string_bytes words.now)) (codes "dialect")) → 0 < result }
-    ensures drive_shut { AreFor (codes "drive") (map string_bytes words.now)
-        → IsShut (R.is_shut rt.now) (raw_in (met_in (map string_bytes words.now)) (codes "dialect"))
+    ensures replay_shut { AreFor (codes "replay") (texts_of words.now)
+        → IsShut (R.is_shut rt.now) (raw_in (met_in (texts_of words.now)) (codes "dialect")) → 0 < result }
+    ensures drive_shut { AreFor (codes "drive") (texts_of words.now)
+        → IsShut (R.is_shut rt.now) (raw_in (met_in (texts_of words.now)) (codes "dialect"))
         → (0 < result) × (output.new ≡ output.old) }
-    ensures frames { result ≡ 0 → AreFor (codes "frames") (map string_bytes words.now)
-        → PrintsFrames (met_in (map string_bytes words.now)) (I.remaining input.old) (W.contents output.old)
+    ensures frames { result ≡ 0 → AreFor (codes "frames") (texts_of words.now)
+        → PrintsFrames (met_in (texts_of words.now)) (I.remaining input.old) (W.contents output.old)
         (W.contents output.new) }
-    ensures replay { result ≡ 0 → AreFor (codes "replay") (map string_bytes words.now)
-        → PrintsReplay (R.text_of rt.now) (met_in (map string_bytes words.now)) (I.remaining input.old) (W.contents output.old)
+    ensures replay { result ≡ 0 → AreFor (codes "replay") (texts_of words.now)
+        → PrintsReplay (R.text_of rt.now) (met_in (texts_of words.now)) (I.remaining input.old) (W.contents output.old)
         (W.contents output.new) }
-    ensures bench { result ≡ 0 → AreFor (codes "bench") (map string_bytes words.now)
-        → PrintsBench (met_in (map string_bytes words.now)) (I.remaining input.old) (W.contents output.old)
+    ensures bench { result ≡ 0 → AreFor (codes "bench") (texts_of words.now)
+        → PrintsBench (met_in (texts_of words.now)) (I.remaining input.old) (W.contents output.old)
         (W.contents output.new) }
-    ensures sim { result ≡ 0 → AreFor (codes "sim") (map string_bytes words.now)
-        → ServesClient (R.text_of rt.now) (met_in (map string_bytes words.now)) (I.remaining input.old) (W.contents output.old)
+    ensures sim { result ≡ 0 → AreForSim false (texts_of words.now)
+        → ServesClient (R.text_of rt.now) (met_in (texts_of words.now)) (I.remaining input.old) (W.contents output.old)
         (W.contents output.new) }
-    ensures silent { result ≡ 0 → (AreFor (codes "drive") (map string_bytes words.now) → ⊥) → faults.new ≡ faults.old }
-    ensures sim_left { result ≡ 1 → AreFor (codes "sim") (map string_bytes words.now)
-        → IsNotBegun (files_given (met_in (map string_bytes words.now))) input.old input.new output.old output.new
-        (E.contents faults.old) (E.contents faults.new)
-        ⊎ LeavesClient (R.text_of rt.now) (met_in (map string_bytes words.now)) (I.remaining input.old) (I.remaining input.new)
-        (W.contents output.old) (W.contents output.new) (E.contents faults.old) (E.contents faults.new) }
-    ensures sim_bad { result ≡ 2 → AreFor (codes "sim") (map string_bytes words.now)
-        → RefusesClient (R.text_of rt.now) (met_in (map string_bytes words.now)) (E.contents faults.old) (E.contents faults.new) }
-    ensures drive { result ≡ 0 → AreFor (codes "drive") (map string_bytes words.now)
-        → PrintsDrive (R.text_of rt.now) (met_in (map string_bytes words.now)) (W.contents output.old) (W.contents output.new)
-        (E.contents faults.old) (E.contents faults.new) false }
-    ensures drive_bad { result ≡ 2 → AreFor (codes "drive") (map string_bytes words.now) → (output.new ≡ output.old)
-        ⊎ PrintsDrive (R.text_of rt.now) (met_in (map string_bytes words.now)) (W.contents output.old) (W.contents output.new)
-        (E.contents faults.old) (E.contents faults.new) true }
-    ensures show { (result ≡ 0) ⊎ (result ≡ 3) → AreFor (codes "show") (map string_bytes words.now)
-        → PrintsShow (R.text_of rt.now) (met_in (map string_bytes words.now)) (W.contents output.old) (W.contents output.new) result }
-    ensures show_silent { (result ≡ 0) ⊎ (result ≡ 3) → AreFor (codes "show") (map string_bytes words.now)
+    ensures silent { result ≡ 0 → (AreFor (codes "drive") (texts_of words.now) → ⊥) → (AreForSim true (texts_of words.now) → ⊥)
         → faults.new ≡ faults.old }
-    ensures unshown { result ≡ 1 → AreFor (codes "show") (map string_bytes words.now)
-        → SaysUnshown (raw_in (met_in (map string_bytes words.now)) (codes "dialect")) (raw_in (met_in (map string_bytes words.now)) (codes "raw"))
-        (raw_in (met_in (map string_bytes words.now)) (codes "file")) (E.contents faults.old) (E.contents faults.new) result }
-    ensures show_shut { AreFor (codes "show") (map string_bytes words.now)
-        → IsShut (R.is_shut rt.now) (raw_in (met_in (map string_bytes words.now)) (codes "dialect"))
-        ⊎ (IsShutFile (R.is_shut rt.now) (raw_in (met_in (map string_bytes words.now)) (codes "file"))
-        ⊎ IsShutFile (R.is_shut rt.now) (raw_in (met_in (map string_bytes words.now)) (codes "raw")))
+    ensures sim_left { result ≡ 1 → AreForSim false (texts_of words.now)
+        → IsNotBegun (files_given (met_in (texts_of words.now))) input.old input.new output.old output.new
+        (E.contents faults.old) (E.contents faults.new)
+        ⊎ LeavesClient (R.text_of rt.now) (met_in (texts_of words.now)) (I.remaining input.old) (I.remaining input.new)
+        (W.contents output.old) (W.contents output.new) (E.contents faults.old) (E.contents faults.new) }
+    ensures sim_bad { result ≡ 2 → AreForSim false (texts_of words.now)
+        → RefusesClient (R.text_of rt.now) (met_in (texts_of words.now)) (E.contents faults.old) (E.contents faults.new) }
+    ensures sim_data { result ≡ 0 → AreForSim true (texts_of words.now)
+        → ServesData (all_in (met_in (texts_of words.now)) (codes "data")) (E.contents faults.old) (E.contents faults.new) }
+    ensures sim_data_left { result ≡ 1 → AreForSim true (texts_of words.now)
+        → LeavesData (files_given (met_in (texts_of words.now))) (all_in (met_in (texts_of words.now)) (codes "data")) output.old output.new
+        (E.contents faults.old) (E.contents faults.new) }
+    ensures sim_data_bad { result ≡ 2 → AreForSim true (texts_of words.now) → SaysNoPaths (E.contents faults.old) (E.contents faults.new)
+        ⊎ RefusesClient (R.text_of rt.now) (met_in (texts_of words.now)) (E.contents faults.old) (E.contents faults.new) }
+    ensures sim_data_unread { AreForSim true (texts_of words.now) → input.new ≡ input.old }
+    ensures drive { result ≡ 0 → AreFor (codes "drive") (texts_of words.now)
+        → PrintsDrive (R.text_of rt.now) (met_in (texts_of words.now)) (W.contents output.old) (W.contents output.new)
+        (E.contents faults.old) (E.contents faults.new) false }
+    ensures drive_bad { result ≡ 2 → AreFor (codes "drive") (texts_of words.now) → (output.new ≡ output.old)
+        ⊎ PrintsDrive (R.text_of rt.now) (met_in (texts_of words.now)) (W.contents output.old) (W.contents output.new)
+        (E.contents faults.old) (E.contents faults.new) true }
+    ensures show { (result ≡ 0) ⊎ (result ≡ 3) → AreFor (codes "show") (texts_of words.now)
+        → PrintsShow (R.text_of rt.now) (met_in (texts_of words.now)) (W.contents output.old) (W.contents output.new) result }
+    ensures show_silent { (result ≡ 0) ⊎ (result ≡ 3) → AreFor (codes "show") (texts_of words.now)
+        → faults.new ≡ faults.old }
+    ensures unshown { result ≡ 1 → AreFor (codes "show") (texts_of words.now)
+        → SaysUnshown (raw_in (met_in (texts_of words.now)) (codes "dialect")) (raw_in (met_in (texts_of words.now)) (codes "raw"))
+        (raw_in (met_in (texts_of words.now)) (codes "file")) (E.contents faults.old) (E.contents faults.new) result }
+    ensures show_shut { AreFor (codes "show") (texts_of words.now)
+        → IsShut (R.is_shut rt.now) (raw_in (met_in (texts_of words.now)) (codes "dialect"))
+        ⊎ (IsShutFile (R.is_shut rt.now) (raw_in (met_in (texts_of words.now)) (codes "file"))
+        ⊎ IsShutFile (R.is_shut rt.now) (raw_in (met_in (texts_of words.now)) (codes "raw")))
         → (0 < result) × ((result ≤ 2) × (output.new ≡ output.old)) }
-    ensures show_read { AreFor (codes "show") (map string_bytes words.now)
-        → TellsShow (R.text_of rt.now) (raw_in (met_in (map string_bytes words.now)) (codes "raw"))
-        (raw_in (met_in (map string_bytes words.now)) (codes "file")) progress.old.shown progress.new result }
+    ensures show_read { AreFor (codes "show") (texts_of words.now)
+        → TellsShow (R.text_of rt.now) (raw_in (met_in (texts_of words.now)) (codes "raw"))
+        (raw_in (met_in (texts_of words.now)) (codes "file")) progress.old.shown progress.new result }
     ensures untold { progress.old.is_on ≡ false → progress.new ≡ progress.old }
-    ensures others { (AreFor (codes "show") (map string_bytes words.now) → ⊥) → progress.new ≡ progress.old }
+    ensures others { (AreFor (codes "show") (texts_of words.now) → ⊥) → progress.new ≡ progress.old }
 {
     let command = match program(alloc) {
         Ok(command) => command,

@@ -1,14 +1,14 @@
 -- What is told of how much of a capture was read.
 use Rattle.std.specs.Prelude.{◌≡◌, ℕ, ◌+◌, ◌-◌, ◌/◌, ◌<◌, ◌≤◌, ◌⊎◌, zero, suc, Bool, true, false, length, List, [], ◌++◌, Option, Some, None, IfSome, refl}
 use Rattle.std.proofs.Common.{⊎_elim, ap, arith, sym, ◌∙◌, subst, append_assoc, append-nil, length-append, add_assoc}
+use Rattle.std.proofs.KnownBytes.{Appends-nil, Appends-trans, Consumes-nil, Consumes-trans}
 use Rattle.std.specs.Io.KnownBytes.{Appends, Consumes, IsAtEnd}
 use Rattle.ctl_text.specs.Writing.{IsBegun}
-use Rattle.ctl_text.proofs.Written.{appends_more, appends_none, begun_after, begun_first}
+use Rattle.ctl_text.proofs.Written.{begun_after, begun_first}
 use Rattle.show_texts.specs.Progress.{Counts, CountsAll, CountsPart, CountsRead, HasTold, IsTold, ProgressState, TellsRead, TellsSteps, clear_text, progress_text, step, step_text, steps_text}
 use Rattle.show_texts.specs.Captures.{fault_status}
 use Rattle.show_texts.specs.declared.fault.ShowFault.{ShowFault as ShowFaultOf}
 use Rattle.show_texts.specs.declared.fault.ShowFault.TheVariants as ShowFault
-use Rattle.show_texts.proofs.Shown.{consumed_more, consumed_none}
 
 -- ## Steps
 
@@ -39,21 +39,21 @@ steps_up_to told steps le =
     ap steps_text e ∙ steps_are told (steps - told)
 
 begun_none : (a : Option (List ℕ)) → IsBegun a a []
-begun_none a = record { part = []; left = []; split = refl; appended = appends_none a }
+begun_none a = record { part = []; left = []; split = refl; appended = Appends-nil a }
 
 -- behind the steps that are told no text stands yet
 pub steps_none : (told : ℕ) (a : Option (List ℕ)) → TellsSteps told told a a true
 steps_none told a = record {
   text = [];
   are = sym (append-nil (steps_text told));
-  whole = λ _. appends_none a;
+  whole = λ _. Appends-nil a;
   begun = begun_none a;
 }
 
 -- and then that of the next step
 pub steps_more : (told now : ℕ) (a b c : Option (List ℕ)) → TellsSteps told now a b true → Appends b c (step_text (now + 1)) → TellsSteps told (now + 1) a c true
 steps_more told now a b c h p =
-    let all : Appends a c (h.text ++ step_text (now + 1)) = appends_more a b c h.text (step_text (now + 1)) (h.whole refl) p in
+    let all : Appends a c (h.text ++ step_text (now + 1)) = Appends-trans a b c h.text (step_text (now + 1)) (h.whole refl) p in
     record {
       text = h.text ++ step_text (now + 1);
       are = steps_next now ∙ (ap (λ (l : List ℕ). l ++ step_text (now + 1)) h.are ∙ append_assoc (steps_text told) h.text (step_text (now + 1)));
@@ -114,7 +114,7 @@ counts_on old new count on read tells before n h =
       whole =
           λ e.
           subst (λ (l : List ℕ). Appends before new.shown l) (sym are)
-          (appends_more before old.shown new.shown (steps_text (n / step)) tells.text (h.whole on) (tells.whole e));
+          (Appends-trans before old.shown new.shown (steps_text (n / step)) tells.text (h.whole on) (tells.whole e));
       begun =
           subst (λ (l : List ℕ). IsBegun before new.shown l) (sym are)
           (begun_after before old.shown new.shown (steps_text (n / step)) tells.text (h.whole on) tells.begun);
@@ -134,7 +134,7 @@ counts_more a b c m n p q before k h = subst (λ (i : ℕ). IsTold before c i) (
 pub begins : (p : ProgressState) (a : Option (List ℕ)) → p.shown ≡ a → (p.is_on ≡ true → p.read ≡ 0) → IsTold a p 0
 begins p a same none = record {
   read = none;
-  whole = λ _. subst (λ (o : Option (List ℕ)). Appends a o []) (sym same) (appends_none a);
+  whole = λ _. subst (λ (o : Option (List ℕ)). Appends a o []) (sym same) (Appends-nil a);
   begun = subst (λ (o : Option (List ℕ)). IsBegun a o []) (sym same) (begun_none a);
 }
 
@@ -168,7 +168,7 @@ ends_clear old new before n on much whole begun h =
       whole =
           λ e.
           subst (λ (l : List ℕ). Appends before new.shown l) (sym are)
-          (appends_more before old.shown new.shown (steps_text (n / step)) (clear_text 1) (h.whole on) (whole e));
+          (Appends-trans before old.shown new.shown (steps_text (n / step)) (clear_text 1) (h.whole on) (whole e));
       begun =
           subst (λ (l : List ℕ). IsBegun before new.shown l) (sym are)
           (begun_after before old.shown new.shown (steps_text (n / step)) (clear_text 1) (h.whole on) begun);
@@ -191,13 +191,13 @@ at_end (Some all) (Some left) (Some last) octets p q e =
 
 -- no octets were read yet
 pub read_none_counted : (input : Option (List ℕ)) (p : ProgressState) → CountsRead input input p p
-read_none_counted input p = record { octets = []; read = consumed_none input; counts = counts_none p }
+read_none_counted input p = record { octets = []; read = Consumes-nil input; counts = counts_none p }
 
 -- and then some, which are counted
 pub read_counted : (a b c : Option (List ℕ)) (old mid new : ProgressState) (octets : List ℕ) → CountsRead a b old mid → Consumes b c octets → Counts mid new (length octets) → CountsRead a c old new
 read_counted a b c old mid new octets h r k = record {
   octets = h.octets ++ octets;
-  read = consumed_more a b c h.octets octets h.read r;
+  read = Consumes-trans a b c h.octets octets h.read r;
   counts =
       subst (λ (i : ℕ). Counts old new i) (sym (length-append h.octets octets))
       (counts_more old mid new (length h.octets) (length octets) h.counts k);

@@ -1,6 +1,7 @@
 -- Packets are read, told and written, one after the other.
 use Rattle.std.specs.Prelude.{◌≡◌, ℕ, ◌==◌, Bool, true, false, length, List, [], ◌∷◌, ◌++◌, Option, Some, None, IfSome, refl, map}
 use Rattle.std.proofs.Common.{ap, sym, ◌∙◌, subst, append_assoc, append-nil}
+use Rattle.std.proofs.KnownBytes.{Appends-nil, Appends-trans, Consumes-kept, Consumes-nil, Consumes-trans}
 use Rattle.std.specs.Io.KnownBytes.{Appends, Consumes, IsAtEnd, Keeps}
 use Rattle.mux_frame.specs.Frames.{Frame, kept_frame}
 use Rattle.mux_frame.specs.declared.frame.FrameBuf.{FrameBuf}
@@ -16,17 +17,9 @@ use Rattle.show_texts.specs.Telling.{Closes, Damage, Framed, Item, Setting, Tell
 
 -- ## Octets read and written
 
--- no octets were read
+-- no octets were read: a name for tactics
 pub consumed_none : (a : Option (List ℕ)) → Consumes a a []
-consumed_none None = tt
-consumed_none (Some x) = refl
-
--- some were read, and then others
-pub consumed_more : (a b c : Option (List ℕ)) (xs ys : List ℕ) → Consumes a b xs → Consumes b c ys → Consumes a c (xs ++ ys)
-consumed_more None b c xs ys p q = tt
-consumed_more (Some x) None c xs ys p q = absurd p
-consumed_more (Some x) (Some y) None xs ys p q = absurd q
-consumed_more (Some x) (Some y) (Some z) xs ys p q = p ∙ ap (λ l. xs ++ l) q ∙ sym (append_assoc xs ys z)
+consumed_none a = Consumes-nil a
 
 consumed_all : (a b c : Option (List ℕ)) (xs ys : List ℕ) → Consumes a b xs → Consumes b c ys → IsAtEnd c → IfSome a (λ all. all ≡ xs ++ ys)
 consumed_all None b c xs ys p q e = tt
@@ -39,28 +32,13 @@ kept_same a None c xs p q e = tt
 kept_same a (Some y) None xs p q e = absurd q
 kept_same a (Some y) (Some z) xs p q e = q ∙ e
 
--- no octets were written
-pub appended_none : (a : Option (List ℕ)) → Appends a a []
-appended_none None = tt
-appended_none (Some x) = sym (append-nil x)
-
--- some were written, and then others
-pub appended_more : (a b c : Option (List ℕ)) (xs ys : List ℕ) → Appends a b xs → Appends b c ys → Appends a c (xs ++ ys)
-appended_more None b c xs ys p q = tt
-appended_more (Some x) None c xs ys p q = absurd p
-appended_more (Some x) (Some y) None xs ys p q = absurd q
-appended_more (Some x) (Some y) (Some z) xs ys p q = q ∙ (ap (λ l. l ++ ys) p ∙ append_assoc x xs ys)
-
 -- no octets were read behind these
 pub read_none : (a : Option (List ℕ)) (octets : List ℕ) → ReadsMore a a octets octets
-read_none a octets = record { more = []; read = consumed_none a; kept = sym (append-nil octets) }
+read_none a octets = record { more = []; read = Consumes-nil a; kept = sym (append-nil octets) }
 
 -- none were read where a reader keeps its octets, behind a read of none
 pub consumed_keeps : (a b c : Option (List ℕ)) → Consumes a b [] → Keeps b c → Consumes a c []
-consumed_keeps None b c p q = tt
-consumed_keeps (Some x) None c p q = absurd p
-consumed_keeps (Some x) (Some y) None p q = absurd q
-consumed_keeps (Some x) (Some y) (Some z) p q = p ∙ sym q
+consumed_keeps a b c p q = Consumes-kept a b c [] p q
 
 -- a piece was read that stands behind the others
 pub read_at_once : (a b : Option (List ℕ)) (x y piece : List ℕ) → Consumes a b piece → y ≡ x ++ piece → ReadsMore a b x y
@@ -68,7 +46,7 @@ read_at_once a b x y piece p e = record { more = piece; read = p; kept = e }
 
 -- so it was where none were read before it
 pub read_piece_on : (a b c : Option (List ℕ)) (x y piece : List ℕ) → Consumes a b [] → Consumes b c piece → y ≡ x ++ piece → ReadsMore a c x y
-read_piece_on a b c x y piece p q e = record { more = piece; read = consumed_more a b c [] piece p q; kept = e }
+read_piece_on a b c x y piece p q e = record { more = piece; read = Consumes-trans a b c [] piece p q; kept = e }
 
 -- a packet is told, and a part of the text, or none, is written
 pub octets_shown : (old mid new : Teller) (octets : List ℕ) (a b : Option (List ℕ)) → TellsOctets old mid octets → Writes mid new a b
@@ -79,7 +57,7 @@ octets_shown old mid new octets a b t w = record { mid = mid; tells = t; writes 
 pub read_on : (a b c : Option (List ℕ)) (x y z : List ℕ) → ReadsMore a b x y → ReadsMore b c y z → ReadsMore a c x z
 read_on a b c x y z p q = record {
   more = p.more ++ q.more;
-  read = consumed_more a b c p.more q.more p.read q.read;
+  read = Consumes-trans a b c p.more q.more p.read q.read;
   kept = q.kept ∙ (ap (λ l. l ++ q.more) p.kept ∙ append_assoc x p.more q.more);
 }
 
@@ -154,9 +132,9 @@ none_so_far t a x = record {
   items = [];
   written = [];
   setting = refl;
-  read = consumed_none a;
+  read = Consumes-nil a;
   are = none;
-  appended = appended_none x;
+  appended = Appends-nil x;
   fits = λ h. h;
 }
 
@@ -172,9 +150,9 @@ more_so_far old now new a b c x y z octets h r s =
       setting = s.writes.setting ∙ (t.setting ∙ h.setting);
       read =
           subst (λ l. Consumes a c (packets_octets h.packets ++ l)) s.tells.is
-          (consumed_more a b c (packets_octets h.packets) octets h.read r);
+          (Consumes-trans a b c (packets_octets h.packets) octets h.read r);
       are = more h.packets h.items (record { kind = s.tells.k; passed = s.tells.p }) t.frames h.are t.reads;
-      appended = appended_more x y z h.written s.writes.part h.appended s.writes.appended;
+      appended = Appends-trans x y z h.written s.writes.part h.appended s.writes.appended;
       fits = λ k. s.writes.fits h.written (with_packet s.tells.p t.frames h.items) (t.fits h.written h.items (h.fits k));
     }
 
@@ -199,6 +177,6 @@ shown_whole first last closed wrong a b x y z head k r headed w c e q =
       are = h.are;
       printed =
           subst (λ (s : Setting). Appends x z (shown_text s h.items)) h.setting
-          (subst (λ l. Appends x z l) (sym (c.text h.written h.items fits)) (appended_more x y z h.written closed.text h.appended e));
+          (subst (λ l. Appends x z l) (sym (c.text h.written h.items fits)) (Appends-trans x y z h.written closed.text h.appended e));
       is_wrong = q ∙ (c.is_wrong h.written h.items fits ∙ ap (λ (s : Setting). has_complaint s h.items) h.setting);
     }

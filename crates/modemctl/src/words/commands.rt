@@ -4,6 +4,7 @@ ghost use Rattle.clap.specs.Words.{app_of, with_subcommand, AddsSubcommand};
 ghost use Rattle.modemctl.specs.Words.{bench_app, drive_app, frames_app, program_app, replay_app, sim_app, with_five, with_four, with_one, with_three, with_two};
 
 use crate::words::answers::answers_option;
+use crate::words::data_paths::data_path_option;
 use crate::words::dialects::dialect_option;
 use crate::words::driving::drive_command;
 use crate::words::files::{capture_option, script_option};
@@ -66,7 +67,8 @@ fn sim_command<'a>(alloc: Global) -> Result<Command<'a>, AllocError>
         .arg(echo_option(alloc))?
         .arg(script_option(alloc))?
         .arg(answers_option(alloc))?
-        .arg(capture_option(alloc))
+        .arg(capture_option(alloc))?
+        .arg(data_path_option(alloc, help::SIM_DATA))
 }
 
 /// The program with the subcommand that reads octets.

@@ -1,18 +1,19 @@
 //! The files that the words name beside connections that carry data.
-ghost use Rattle.std.specs.Prelude.{◌≡◌, ◌<◌, ◌≤◌, ◌++◌, All, IfErr, IfOk, IfSome, OnOk, codes, false, map, option_map, true};
-ghost use Rattle.clap.specs.Words.{first_value, found_of, matched_of, raw_values, rule_of};
+ghost use Rattle.std.specs.Prelude.{◌≡◌, ◌<◌, ◌≤◌, ◌++◌, All, IfErr, IfOk, IfSome, OnOk, codes, false, map, true};
+ghost use Rattle.clap.specs.Words.{first_value, found_of, rule_of};
 ghost use Rattle.ctl_run.specs.Statuses.{stop_line};
 ghost use Rattle.ctl_run.specs.declared.stop.Stop.TheVariants as StopOf;
 ghost use Rattle.ctl_text.specs.Writing.{IsBegun};
-ghost use Rattle.modemctl.specs.Drives.{AreDataPaths, AreFiles, begin_by, data_path_text, drive_rules};
+ghost use Rattle.modemctl.specs.Drives.{AreDataPaths, AreFiles, begin_by, data_path_text, drive_rules, paths_line};
+ghost use Rattle.modemctl.specs.Shows.{given_for};
 ghost use Rattle.modemctl.specs.Words.{arm_rule, data_path_rule, is_set, text_path_rule};
 
 use crate::words::showing::{NoChannels, channel_of};
 use at_text::{Dialect, DialectError, Form};
 use clap::{Arg, ArgAction, ArgMatches};
-use ctl_drive::DataPath;
 use ctl_run::{Stop, give_up};
 use ctl_text::say_line;
+use file_threads::DataPath;
 use modem_data::Begin;
 use std::alloc::Global;
 use std::io::Write;
@@ -20,17 +21,15 @@ use std::io::Write;
 /// So many connections carry data at most.
 const MOST: usize = 8;
 
-/// The option `--data`.
-pub fn data_path_option<'a>(alloc: Global) -> Arg<'a>
+/// The option `--data` with a path, with this help.
+pub fn data_path_option<'a>(alloc: Global, help: &'a str) -> Arg<'a>
     ensures rule { rule_of result ≡ data_path_rule }
     ensures own { result.global ≡ false }
 {
     Arg::new(alloc, "data")
         .long("data")
         .value_name("D=PATH")
-        .help(
-            "Connection D, 1 to 61, carries the data of the terminal PATH; may be given again, 8 times in all",
-        )
+        .help(help)
         .action(ArgAction::Append)
 }
 
@@ -117,13 +116,13 @@ fn data_paths_by<'a>(
 }
 
 /// The connections and paths that an option gives.
-fn paths_of<'a>(
+pub fn paths_of<'a>(
     alloc: Global,
     matches: &ArgMatches<'a>,
     option: &str,
     begin: Begin,
 ) -> Result<Vec<DataPath<'a>>, NoChannels>
-    ensures { IfOk result (λ found. AreDataPaths (option_map raw_values (matched_of (found_of matches.now) option.now)) begin found.items) }
+    ensures { IfOk result (λ found. AreDataPaths (given_for matches.now option.now) begin found.items) }
 {
     match matches.get_strs(option) {
         Some(texts) => data_paths_by(alloc, texts, begin),
@@ -153,8 +152,7 @@ pub fn data_paths_of<'a>(
     alloc: Global,
     matches: &ArgMatches<'a>,
 ) -> Result<Vec<DataPath<'a>>, NoChannels>
-    ensures { IfOk result (λ found. AreFiles (option_map raw_values (matched_of (found_of matches.now) (codes "data")))
-        (option_map raw_values (matched_of (found_of matches.now) (codes "text")))
+    ensures { IfOk result (λ found. AreFiles (given_for matches.now (codes "data")) (given_for matches.now (codes "text"))
         (is_set (first_value (found_of matches.now) (codes "arm"))) found.items) }
 {
     let of_data = paths_of(alloc, matches, "data", begin_of(matches))?;
@@ -162,20 +160,21 @@ pub fn data_paths_of<'a>(
     join(of_data, of_text.as_slice())
 }
 
-/// Says why the words give no connections and paths, and gives the status.
-pub fn refuse_data<E: Write>(faults: &mut E, fault: NoChannels) -> u8
+/// Says why the words give no connections and paths to these options, as "--data takes", and gives the status.
+pub fn refuse_data<E: Write>(faults: &mut E, options: &str, fault: NoChannels) -> u8
     ensures some { 0 < result }
     ensures status { result ≤ 2 }
     ensures said { result ≡ 1 → IsBegun (E.contents faults.old) (E.contents faults.new) (stop_line StopOf.NoMemory) }
+    ensures told { result ≡ 2 → IsBegun (E.contents faults.old) (E.contents faults.new) (paths_line options.now) }
 {
     match fault {
         NoChannels::NoMemory => give_up(faults, Stop::NoMemory),
         NoChannels::NotDecimal => {
             say_line(
                 faults,
-                "error: --data and --text take ",
-                "D=PATH",
-                ", with a connection from 1 to 61, each once, and 8 of them at most",
+                "error: ",
+                options,
+                " D=PATH, with a connection from 1 to 61, each once, and 8 of them at most",
             );
             2
         }

@@ -98,7 +98,7 @@ pub fn drive_command<'a>(alloc: Global) -> Result<Command<'a>, AllocError>
         .arg(entry_option(alloc))?
         .arg(dialect_option(alloc))?
         .arg(capture_option(alloc))?
-        .arg(data_path_option(alloc))?
+        .arg(data_path_option(alloc, help::DRIVE_DATA))?
         .arg(arm_option(alloc))?
         .arg(text_path_option(alloc))?
         .arg(device_word(alloc))
@@ -177,7 +177,7 @@ where
 {
     let data = match data_paths_of(rt.alloc(), matches) {
         Ok(data) => data,
-        Err(fault) => return refuse_data(faults, fault),
+        Err(fault) => return refuse_data(faults, "--data and --text take", fault),
     };
     if data.is_empty() {
         return drive_run(rt, path, input, output, faults, settings);

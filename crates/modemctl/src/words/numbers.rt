@@ -4,11 +4,9 @@ ghost use Rattle.clap.specs.Words.{found_of, one_text};
 ghost use Rattle.modemctl.specs.Words.{IsNumberOf};
 
 use clap::ArgMatches;
+use ctl_drive::DEFAULT_N1;
 use itoa::Buffer;
 use std::str::FromStr;
-
-/// N1 where no word gives it.
-const DEFAULT_N1: u16 = 31;
 
 /// The callers of a bench where no word gives them.
 const DEFAULT_CALLERS: u16 = 2;

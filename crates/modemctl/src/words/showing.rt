@@ -1,7 +1,7 @@
 //! The words of a capture that is shown.
 ghost use Rattle.std.specs.Prelude.{◌≡◌, ℕ, ◌<◌, ◌≤◌, ◌⊎◌, IfErr, IfOk, IfSome, IsErr, List, OnOk, Some, codes, false, map, option_map, true};
 ghost use Rattle.std.specs.Fmt.{decimal};
-ghost use Rattle.clap.specs.Words.{app_of, first_value, found_of, matched_of, one_text, raw_values, rule_of, with_subcommand, AddsSubcommand};
+ghost use Rattle.clap.specs.Words.{app_of, first_value, found_of, one_text, rule_of, with_subcommand, AddsSubcommand};
 ghost use Rattle.ctl_run.specs.Statuses.{stop_line};
 ghost use Rattle.ctl_run.specs.declared.stop.Stop.TheVariants as StopOf;
 ghost use Rattle.ctl_text.specs.Writing.{IsBegun};
@@ -12,7 +12,7 @@ ghost use Rattle.show_texts.specs.Progress.{TellsRead};
 ghost use Rattle.modemctl.specs.Benches.{IsFlag};
 ghost use Rattle.modemctl.specs.Dialects.{IsShut};
 ghost use Rattle.modemctl.specs.Files.{IsNoText};
-ghost use Rattle.modemctl.specs.Shows.{AreChannels, AreWantedBy, IsShutFile, SaysUnread, SaysUnreadOf, SaysUnshown, ShowsFiles, ShowsWith, TellsFiles, TellsShow};
+ghost use Rattle.modemctl.specs.Shows.{AreChannels, AreWantedBy, IsShutFile, SaysUnread, SaysUnreadOf, SaysUnshown, ShowsFiles, ShowsWith, TellsFiles, TellsShow, given_for};
 ghost use Rattle.modemctl.specs.Words.{data_rule, file_rule, raw_rule, show_app, strict_rule};
 
 use crate::words::dialects::{dialect_option, given_dialect};
@@ -134,7 +134,7 @@ fn channels_of(alloc: Global, texts: &[&str]) -> Result<Vec<Dlci>, NoChannels>
 /// The connections of data that the words give.
 fn data_channels_of(alloc: Global, matches: &ArgMatches<'_>) -> Result<Vec<Dlci>, NoChannels>
     ensures { IfOk result
-        (λ channels. AreChannels (option_map raw_values (matched_of (found_of matches.now) (codes "data"))) channels.items) }
+        (λ channels. AreChannels (given_for matches.now (codes "data")) channels.items) }
 {
     match matches.get_strs("data") {
         Some(texts) => channels_of(alloc, texts),

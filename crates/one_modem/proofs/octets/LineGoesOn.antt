@@ -8,7 +8,8 @@ use Rattle.modem_history.specs.Acts.{Took, Got, Sent, Told, Heard, Tick, Lost, H
 use Rattle.modem_history.specs.TwoEnds.{ComesInOrder, frames_got, frames_sent}
 use Rattle.modem_sim.specs.Acts as modem
 use Rattle.modem_sim.specs.Acts.{Did, Wire}
-use Rattle.one_modem.specs.OneModem.{AtDriver, AtModem, ComesBothWays, EndAct, IsOneLine, driver_past, driver_wire, modem_past, modem_wire}
+use Rattle.one_modem.specs.OneModem.{AtDriver, AtModem, EndAct, IsOneLine, driver_past, driver_wire, modem_past, modem_wire}
+use Rattle.one_modem.proofs.two_ends.LinePoints.{both_ways}
 
 -- the later list of frames has the earlier one behind it
 record IsBehind (now before : List Frame) : Type 0 where
@@ -77,11 +78,6 @@ sends_more sender newer receiver k c =
 got_fewer : (sender receiver newer : List station.Act) → IsBehind (frames_got newer) (frames_got receiver) → ComesInOrder sender newer → ComesInOrder sender receiver
 got_fewer sender receiver newer k c =
     record { later = c.later ++ k.newer; sent_are = c.sent_are ∙ (ap (λ (fs : List Frame). c.later ++ fs) k.joins ∙ sym (append_assoc c.later k.newer (frames_got receiver))) }
-
--- what came at each end of one line are the first frames that the other sent
-pub both_ways : (line : List EndAct) → IsOneLine line → ComesBothWays line
-both_ways [] one = record { at_modem = record { later = []; sent_are = refl }; at_driver = record { later = []; sent_are = refl } }
-both_ways (a ∷ line) one = one.0
 
 -- ## The acts of one end
 

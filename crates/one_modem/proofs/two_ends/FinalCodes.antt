@@ -160,7 +160,8 @@ short_none (y ∷ s) (x ∷ front) next code rest is none =
     let off : is_final y ≡ false = ap is_final same ∙ split.0 in
     ap (λ (b : Bool). length (if b then y ∷ filter is_final s else filter is_final s)) off ∙ short_none s front next code rest more split.1
 
-nothing_left : (s later : List (List ℕ)) → s ++ later ≡ [] → s ≡ []
+-- where lists joined are empty, the first is
+pub nothing_left : (s later : List (List ℕ)) → s ++ later ≡ [] → s ≡ []
 nothing_left [] later is = refl
 nothing_left (x ∷ s) later is = cc
 

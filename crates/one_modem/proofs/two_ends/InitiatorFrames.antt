@@ -145,7 +145,8 @@ record Comes (d : ℕ) (past : List Act) : Type 0 where
   first : IsPrefixOf (information_got Initiator d past) (info_in d (frames_got past))
   all : is_open Initiator d past ≡ true → information_got Initiator d past ≡ info_in d (frames_got past)
 
-was_open : (o i e : Bool) → o ≡ false → (o || (i && not e)) ≡ true → i ≡ true
+-- what is open was so before, where nothing opens it
+pub was_open : (o i e : Bool) → o ≡ false → (o || (i && not e)) ≡ true → i ≡ true
 was_open true i e g h = cc
 was_open false true e g h = refl
 was_open false false e g h = cc

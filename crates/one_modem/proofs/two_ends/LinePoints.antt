@@ -131,7 +131,8 @@ along s e line p = record {
   once = p.once;
 }
 
-fewer_lines : (a : driver.Act) (past : List driver.Act) → TakesCommandLines (a ∷ past) → TakesCommandLines past
+-- a driver given command lines alone was given such alone before
+pub fewer_lines : (a : driver.Act) (past : List driver.Act) → TakesCommandLines (a ∷ past) → TakesCommandLines past
 fewer_lines (Took q) past h = h.1
 fewer_lines (Got f) past h = h
 fewer_lines (Sent f) past h = h

@@ -33,7 +33,7 @@ use Rattle.modem_sim.specs.LineSteps.{step}
 use Rattle.modem_sim.proofs.connections.OctetReplies.{after_lines-append}
 use Rattle.modem_sim.proofs.replies.ReplyOrder.{all-append, replied_on-append}
 use Rattle.one_modem.specs.OneModem.{AtDriver, AtModem, EndAct, IsAnswerAt, driver_past, modem_past}
-use Rattle.one_modem.proofs.two_ends.FinalCodes.{AllEnd, all_finals, answer_whole, answered_few, finals, some_answered, whole_by_count}
+use Rattle.one_modem.proofs.two_ends.FinalCodes.{AllEnd, all_finals, answer_whole, answered_few, finals, nothing_left, some_answered, whole_by_count}
 use Rattle.one_modem.proofs.two_ends.LinePoints.{Along, driver_earlier, first_same, first_then, marks_at, modem_earlier, read_first, replied_first, replies_at}
 use Rattle.one_modem.proofs.two_ends.ReplyPlaces.{AllAt, RepliesAt, all_end, all_solicited_in, at_of, last_at, line_on, replied_count, replies_at_place, reply_answer, reply_ends, solicited_in}
 
@@ -186,7 +186,8 @@ before_begun s e d (AtDriver Given ∷ line) p ms rest c joins = same_before s e
 
 -- ## The command at its place
 
-at_all : (texts : List (List ℕ)) → AreCommandLines texts → AllAt texts
+-- command lines each begin with AT
+pub at_all : (texts : List (List ℕ)) → AreCommandLines texts → AllAt texts
 at_all [] h = tt
 at_all (text ∷ texts) h = (at_of text h.0, at_all texts h.1)
 
@@ -264,10 +265,6 @@ ended_by ms c behind more w ans all joins last ended is =
     ap (λ z. z ++ map Line more) joins ∙ (append_assoc ms (Begun c ∷ map Line behind) (map Line more) ∙ ap (λ z. ms ++ Begun c ∷ z) (sym (map-append Line behind more))) in
     let same : w ≡ record { command = c; after = behind ++ more } = some_same w _ (sym last ∙ (ap last_window whole ∙ last_at ms c (behind ++ more))) in
     record { has = ap (is_answered standard) (sym same) ∙ ended; is = is ∙ ap (λ v. answer_lines (answer_of standard v)) same }
-
-none_left : (xs ys : List (List ℕ)) → xs ++ ys ≡ [] → xs ≡ []
-none_left [] ys e = refl
-none_left (x ∷ xs) ys e = cc
 
 -- what came behind the command is the beginning of its own reply
 answered_by : (s : Setting) (e : End) (d : ℕ) (line : List EndAct) → Along s e line → (before : List Request) (c : List ℕ) (after : List (List ℕ)) (ans : List AnswerLine)
@@ -365,6 +362,6 @@ finishes s e d line p before c ms after rest ans begun earlier whole turns h fir
         by_reply : (rs : List (List (List ℕ))) → h.replies ++ rs ≡ replies_at e d line → IsFirstOf (filter (is_solicited standard) after) (all_of (solicited_in rs)) → IsAnswerAt e X d (length before) c ans
         by_reply [] joined came =
             let some = some_answered c after ended.has in
-            let none : finals (filter (is_solicited standard) after) ≡ 0 = ap finals (none_left (filter (is_solicited standard) after) came.later came.joins) in
+            let none : finals (filter (is_solicited standard) after) ≡ 0 = ap finals (nothing_left (filter (is_solicited standard) after) came.later came.joins) in
             absurd (omega (arith, some, none))
         by_reply (r ∷ rs) joined came = answered_by s e d line p before c after ans begun ended (length h.replies) count r rs (replies_at_place e.echo d e.modem X h.replies r rs (sym joined)) (sym (length-append h.replies (r ∷ rs)) ∙ ap length joined) came

@@ -146,7 +146,8 @@ pub record Stands (n1 d : ℕ) (past : List Act) : Type 0 where
   pub owed_none : sabms d (frames_got past) ≡ false → uas d (owed_frames (answering n1) past) ≡ false
   pub unopened : uas d (frames_sent past) ≡ false → uas d (owed_frames (answering n1) past) ≡ false → is_open Responder d past ≡ false
 
-still_shut : (o i e : Bool) → o ≡ false → i ≡ false → (o || (i && not e)) ≡ false
+-- what is shut stays so, where nothing opens it
+pub still_shut : (o i e : Bool) → o ≡ false → i ≡ false → (o || (i && not e)) ≡ false
 still_shut true i e g h = cc
 still_shut false true e g h = cc
 still_shut false false e g h = refl
@@ -154,7 +155,8 @@ still_shut false false e g h = refl
 abbrev zero_open : ℕ → List Act → Bool
 zero_open d past = (standings Responder d past).zero.is_open
 
-not_opening : (d : ℕ) (past : List Act) (a : Act) → is_got a ≡ false → is_open Responder d past ≡ false → is_open Responder d (a ∷ past) ≡ false
+-- where d is shut at a responder, an act but a frame that comes leaves it so
+pub not_opening : (d : ℕ) (past : List Act) (a : Act) → is_got a ≡ false → is_open Responder d past ≡ false → is_open Responder d (a ∷ past) ≡ false
 not_opening d past a other was = still_shut (opens_now Responder d past a) (is_open Responder d past) (ends (zero_open d past) d a) (opens_none Responder (zero_open d past) (standings Responder d past).own.is_asked d a other) was
 
 -- an act that brings and sends nothing, and calls for nothing that is UA

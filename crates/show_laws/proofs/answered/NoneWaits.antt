@@ -33,17 +33,13 @@ use Rattle.show_laws.proofs.counts.DriverCounts.{sends}
 use Rattle.show_laws.proofs.lines.CapturedFrames.{shows}
 use Rattle.show_laws.proofs.openings.FreshAsks.{mode_answers}
 use Rattle.show_laws.proofs.openings.QuietFrames.{cld_asks}
-use Rattle.show_laws.proofs.openings.ResponderCalls.{down_answers}
+use Rattle.show_laws.proofs.openings.ResponderCalls.{down_answers, every}
 use Rattle.show_laws.proofs.talks.TalkingLines.{down_is_answer}
 
 -- ## Three kinds of asks, and their answers
 
--- each frame passes
-abbrev pub any : Frame → Bool
-any f = true
-
 -- all asks and all answers are such a triple
-pub all_asks : IsTriple any is_ask is_answer
+pub all_asks : IsTriple every is_ask is_answer
 all_asks = record {
   asked = λ f e. let u : unit (is_ask f) ≡ 1 = ap unit e in omega (arith, u);
   answer = λ g e. e;
@@ -117,7 +113,7 @@ all_called r (station.Given ∷ past) h got sent = all_called r past h got sent
 -- ## At the end
 
 -- where none is counted no ask is left
-pub none_left : (asks : List Ask) → many_asks any asks ≤ 0 → asks ≡ []
+pub none_left : (asks : List Ask) → many_asks every asks ≤ 0 → asks ≡ []
 none_left [] h = refl
 none_left (a ∷ asks) h = absurd (omega (arith, h))
 
@@ -132,7 +128,7 @@ record HasAnswered (r : Role) (line : List Caught) (asking_sent answering_sent :
   came : frames_to r line ≡ answering_sent
   few_modes : many_asks is_mode_command (waiting r line) + many is_mode_answer (frames_to r line) ≤ many is_mode_command (frames_of r line)
   few_downs : many_asks (brings_command cld) (waiting r line) + many (brings_response cld) (frames_to r line) ≤ many (brings_command cld) (frames_of r line)
-  few : many_asks any (waiting r line) + many is_answer (frames_to r line) ≤ many is_ask (frames_of r line)
+  few : many_asks every (waiting r line) + many is_answer (frames_to r line) ≤ many is_ask (frames_of r line)
   modes_done : many is_mode_command asking_sent ≤ many is_mode_answer answering_sent
   downs_done : many (brings_command cld) asking_sent ≤ many (brings_response cld) answering_sent
   downs_back : many (brings_command cld) answering_sent ≤ many (brings_response cld) asking_sent
@@ -195,7 +191,7 @@ answers_all s n1 line h done once at_driver at_modem by_modem stamps =
     let seen = shows stamps line in
     let d = frames_sent (wire (driver_past line)) in
     let m = frames_sent (modem_past line) in
-    let few = few_wait s n1 stamps any is_ask is_answer all_asks line h in
+    let few = few_wait s n1 stamps every is_ask is_answer all_asks line h in
     let few_modes = few_wait s n1 stamps is_mode_command is_mode_command is_mode_answer modes line h in
     let few_downs = few_wait s n1 stamps (brings_command cld) (brings_command cld) (brings_response cld) downs line h in
     let modes_d = driver_done s n1 line is_mode_command is_mode_answer h done (modes_called Initiator (wire (driver_past line))) in

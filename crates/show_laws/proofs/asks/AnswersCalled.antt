@@ -160,7 +160,8 @@ command_apart g m (Some n) answer e is = by_octet (m.octet == n.octet) refl
         let on : is_command n ≡ true = subst (λ (x : ℕ). is_command_octet x ≡ true) (eqb-true m.octet n.octet h) is in
         absurd (let x : true ≡ false = sym on ∙ off in cc)
 
-test_false : (b : Bool) → (b ≡ true → true ≡ false) → b ≡ false
+-- a test that can't be true is false
+pub test_false : (b : Bool) → (b ≡ true → true ≡ false) → b ≡ false
 test_false true h = let x : true ≡ false = h refl in cc
 test_false false h = refl
 

@@ -24,13 +24,13 @@ use Rattle.show_laws.proofs.asks.AnswersCalled.{AnyProbe}
 use Rattle.show_laws.proofs.asks.NoneUnasked.{any_probes}
 use Rattle.show_laws.proofs.counts.BalancedTables.{tick_none}
 use Rattle.show_laws.proofs.counts.DriverCounts.{driver_sends}
-use Rattle.show_laws.proofs.counts.ManyFrames.{many, many_both, many_fewer, none_many, unit}
+use Rattle.show_laws.proofs.counts.ManyFrames.{many, many_both, none_many, unit}
 use Rattle.show_laws.proofs.counts.StationCounts.{called, station_sends}
 use Rattle.show_laws.proofs.intime.Behind.{Behind, behind_before, stops_before}
 use Rattle.show_laws.proofs.intime.CalmLines.{calm_before, calm_once}
 use Rattle.show_laws.proofs.intime.FirstCommands.{behind_sabm}
 use Rattle.show_laws.proofs.intime.ModemStops.{ModemSoFar, call_alone, call_bare, calls_more, got_alone, got_bare, sent_more}
-use Rattle.show_laws.proofs.intime.OpenZero.{driver_stopping, driver_up, modem_stopping, modem_up, ua_asked}
+use Rattle.show_laws.proofs.intime.OpenZero.{closes_sent, driver_stopping, driver_up, modem_stopping, modem_up, ua_asked}
 use Rattle.show_laws.proofs.lines.CapturedFrames.{both_ways, came_few}
 use Rattle.show_laws.proofs.openings.ClosersBehindSabm.{modem_unclosed}
 use Rattle.show_laws.proofs.openings.DiscBehindUa.{once_many}
@@ -128,9 +128,6 @@ in_time r f past open_yet stopping = by_sent (list_any (brings_command cld) (fra
 responses_none : (fs : List Frame) → many (brings_command cld) fs ≤ 0 → many (brings_response cld) fs ≤ 0 → many closes fs ≤ 0
 responses_none fs c r = let parts = many_or (brings_command cld) (brings_response cld) fs in omega (arith, c, r, parts)
 
-fewer_clds : (fs : List Frame) → many (brings_command cld) fs ≤ many closes fs
-fewer_clds fs = many_fewer (brings_command cld) closes fs (λ f e. or_left (brings_command cld f) (brings_response cld f) e)
-
 at_driver : (s : Setting) (n1 : ℕ) (line : List LineAct) → IsCalmLine s n1 line → ReadsInTime Initiator (wire (driver_past line))
 at_driver s n1 [] h = tt
 at_driver s n1 (AtModem a ∷ line) h = at_driver s n1 line (calm_before s n1 (AtModem a) line h)
@@ -142,7 +139,7 @@ at_driver s n1 (AtDriver (driver.Got f) ∷ line) h =
     let behind = behind_before (is_on Ua 0) ways.later (f ∷ frames_got (wire past)) (subst (λ (fs : List Frame). Behind (is_on Ua 0) fs) ways.sent_are m.behind) in
     let stops = stops_before ways.later (f ∷ frames_got (wire past)) (subst (λ (fs : List Frame). StopsAsking fs) ways.sent_are m.stops) in
     let responses = driver_sends AnyProbe s (brings_response cld) (brings_command cld) (down_by_cld s.n1 s.role) past older.lawful.driver_lawful (any_probes past) in
-    let clds = fewer_clds (frames_got (wire past)) in (
+    let clds = closes_sent (frames_got (wire past)) in (
       λ ask.
           let ua = behind.0 ask in
           let none = none_many closes (frames_got (wire past)) (stops.0 ask) in

@@ -177,7 +177,8 @@ driver_up s n1 (AtDriver (driver.Heard u e l) ∷ line) h some sent got = driver
 driver_up s n1 (AtDriver (driver.Held e) ∷ line) h some sent got = driver_up s n1 line (calm_before s n1 (AtDriver (driver.Held e)) line h) some sent got
 driver_up s n1 (AtDriver (driver.Freed e) ∷ line) h some sent got = driver_up s n1 line (calm_before s n1 (AtDriver (driver.Freed e)) line h) some sent got
 
-closes_sent : (fs : List Frame) → many (brings_command cld) fs ≤ many closes fs
+-- each CLD closes
+pub closes_sent : (fs : List Frame) → many (brings_command cld) fs ≤ many closes fs
 closes_sent fs = many_fewer (brings_command cld) closes fs (λ f e. or_left (brings_command cld f) (brings_response cld f) e)
 
 -- once it sent a CLD, and while no CLD and no response to one came, its stop is under way

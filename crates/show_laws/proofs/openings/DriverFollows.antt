@@ -12,6 +12,7 @@ use Rattle.mux_station.specs.Written.{is_kind, is_on}
 use Rattle.modem_show.specs.Asking.{is_mode_command, message_asks}
 use Rattle.modem_show.specs.Ends.{come}
 use Rattle.show_laws.proofs.asks.AnswerShapes.{message_no_mode, or_elim}
+use Rattle.show_laws.proofs.asks.AnswersCalled.{test_false}
 use Rattle.show_laws.proofs.counts.ManyFrames.{unit}
 use Rattle.show_laws.proofs.openings.QuietFrames.{EndsNone, asked_at, cld_asks, ends_none, open_at, zero_at}
 
@@ -33,10 +34,6 @@ never e = cc
 
 -- ## Less is so
 
-not_true : (b : Bool) → (b ≡ true → true ≡ false) → b ≡ false
-not_true true h = never (h refl)
-not_true false h = refl
-
 -- it stays so where less is open or asked for by p, fewer such answers are owed, and no more SABM while one is
 pub fewer_step : (d : ℕ) (p p2 q : List Act) (endings endings2 sabms sabms2 sent got : ℕ) → Follows d p q endings sabms sent got
     → (open_at d p2 ≡ true → open_at d p ≡ true) → (asked_at d p2 ≡ true → asked_at d p ≡ true) → (1 ≤ endings2 → 1 ≤ endings) → (1 ≤ endings2 → sabms2 ≤ sabms)
@@ -44,7 +41,7 @@ pub fewer_step : (d : ℕ) (p p2 q : List Act) (endings endings2 sabms sabms2 se
 fewer_step d p p2 q endings endings2 sabms sabms2 sent got h o a e s = record {
   opens = λ k. h.opens (o k);
   asks = λ k. h.asks (a k);
-  owes = λ k. (not_true (open_at d p2) (λ x. sym (o x) ∙ (h.owes (e k)).0), not_true (asked_at d p2) (λ x. sym (a x) ∙ (h.owes (e k)).1));
+  owes = λ k. (test_false (open_at d p2) (λ x. sym (o x) ∙ (h.owes (e k)).0), test_false (asked_at d p2) (λ x. sym (a x) ∙ (h.owes (e k)).1));
   free = λ k. let x = h.free (e k) in let y = s k in omega (arith, x, y);
 }
 
@@ -90,7 +87,7 @@ sent_closed d f p o a s = (
     both false false w e g = refl
 
 no_sabm : (d : ℕ) (f : Frame) (sabms sabms2 : ℕ) → sabms2 + unit (is_on Sabm d f) ≤ sabms → sabms ≤ 0 → is_on Sabm d f ≡ false
-no_sabm d f sabms sabms2 h k = not_true (is_on Sabm d f) (λ e. let x : unit (is_on Sabm d f) ≡ 1 = ap unit e in absurd (omega (arith, x, h, k)))
+no_sabm d f sabms sabms2 h k = test_false (is_on Sabm d f) (λ e. let x : unit (is_on Sabm d f) ≡ 1 = ap unit e in absurd (omega (arith, x, h, k)))
 
 not_second : (m e : Bool) → not (m || e) ≡ true → not e ≡ true
 not_second true e h = cc

@@ -120,7 +120,8 @@ ending_modes d = record {
     either r e true = omega arith
     either r e false = omega arith
 
-no_answer : (k : Kind) (b : Bool) → is_kind k Uih ≡ true → ((is_kind k Ua || is_kind k Dm) && b) ≡ false
+-- a UIH is neither UA nor DM
+pub no_answer : (k : Kind) (b : Bool) → is_kind k Uih ≡ true → ((is_kind k Ua || is_kind k Dm) && b) ≡ false
 no_answer Uih b h = refl
 no_answer Sabm b h = cc
 no_answer Ua b h = cc

@@ -16,7 +16,7 @@ use Rattle.show_laws.proofs.asks.AnswerShapes.{is_shaped, message_no_mode, one_r
 use Rattle.show_laws.proofs.asks.AnswersCalled.{AnyProbe, IsRead, as_it_is, is_read, unread}
 use Rattle.show_laws.proofs.counts.ManyFrames.{few_if, many, none_one, unit}
 use Rattle.show_laws.proofs.counts.BalancedTables.{Balanced, is_command_octet}
-use Rattle.show_laws.proofs.openings.ModeAnswers.{OfModes, modes_balanced}
+use Rattle.show_laws.proofs.openings.ModeAnswers.{OfModes, modes_balanced, no_answer}
 use Rattle.show_laws.proofs.openings.OpenBelowZero.{none_when}
 use Rattle.show_laws.proofs.openings.ModemAnswers.{answer_on, ask_on}
 
@@ -28,13 +28,6 @@ answer_modes d = record { uih = λ r e info. refl; answer = λ r e b. either r e
     either : (r : Role) (e : ℕ) (b : Bool) → unit (answer_on d (ua_or_dm r e b)) ≤ unit (e == d)
     either r e true = omega arith
     either r e false = omega arith
-
-no_answer : (k : Kind) (b : Bool) → is_kind k Uih ≡ true → ((is_kind k Ua || is_kind k Dm) && b) ≡ false
-no_answer Uih b h = refl
-no_answer Sabm b h = cc
-no_answer Ua b h = cc
-no_answer Dm b h = cc
-no_answer Disc b h = cc
 
 -- no more UA and DM on d are called for than SABM and DISC come on it
 pub answer_balanced : (most : ℕ) (r : Role) (d : ℕ) → Balanced AnyProbe most r (answer_on d) (ask_on d)
@@ -54,7 +47,8 @@ opening_table d e channel own Dm h o = cc
 opening_table d e channel own Disc h o = cc
 opening_table d e channel own Uih h o = cc
 
-sabm_bare : (k : Kind) (x y : Bool) → (is_kind k Sabm && x) ≡ true → (is_kind k Uih && y) ≡ false
+-- a SABM is no UIH
+pub sabm_bare : (k : Kind) (x y : Bool) → (is_kind k Sabm && x) ≡ true → (is_kind k Uih && y) ≡ false
 sabm_bare Sabm x y h = refl
 sabm_bare Ua x y h = cc
 sabm_bare Dm x y h = cc

@@ -1,12 +1,12 @@
 -- A responder sends no UA on a connection before a SABM on it came.
-use Rattle.std.specs.Prelude.{◌≡◌, ℕ, ◌+◌, ◌==◌, ◌≤◌, ◌&&◌, ◌||◌, not, Bool, true, false, List, [], ◌∷◌, ◌++◌, drop, is_none, refl, if◌then◌else◌}
+use Rattle.std.specs.Prelude.{◌≡◌, ℕ, ◌+◌, ◌==◌, ◌≤◌, ◌&&◌, ◌||◌, Bool, true, false, List, [], ◌∷◌, ◌++◌, drop, is_none, refl, if◌then◌else◌}
 use Rattle.std.proofs.Common.{ap, arith, sym, ◌∙◌, eqb-true}
 use Rattle.mux_frame.specs.Frames.{Frame}
 use Rattle.mux_frame.specs.declared.frame.Kind.{Kind}
 use Rattle.mux_frame.specs.declared.frame.Kind.TheVariants.{Sabm, Ua, Dm, Disc, Uih}
 use Rattle.mux_station.specs.declared.role.Role.TheVariants.{Responder}
 use Rattle.mux_station.specs.Acts.{Act, Called, Got, Sent, Tick, Lost, Given}
-use Rattle.mux_station.specs.Opening.{ends, is_open, opens_now, standings}
+use Rattle.mux_station.specs.Opening.{ends, is_open, standings}
 use Rattle.mux_station.specs.Sending.{Sends, StationLawful, called_frames, owed_frames, refused, station_view}
 use Rattle.mux_station.specs.States.{State, is_opened}
 use Rattle.mux_station.specs.Tables.{by_frame, by_message, by_table, ua_or_dm}
@@ -14,7 +14,8 @@ use Rattle.mux_station.specs.Written.{is_data_frame, is_kind, is_on}
 use Rattle.mux_station.proofs.states.OpenedStates.{opened_is_open}
 use Rattle.modem_show.specs.Asking.{is_mode_command}
 use Rattle.modem_history.specs.TwoEnds.{frames_got, frames_sent}
-use Rattle.modem_history.proofs.connections.InformationGrowth.{is_got, opens_none}
+use Rattle.modem_history.proofs.connections.InformationGrowth.{is_got}
+use Rattle.one_modem.proofs.two_ends.ResponderFrames.{not_opening, still_shut}
 use Rattle.show_laws.specs.Lines.{responding}
 use Rattle.show_laws.proofs.counts.ManyFrames.{few_if, many, many_both, unit}
 use Rattle.show_laws.proofs.counts.BalancedTables.{none_of_tick}
@@ -27,17 +28,6 @@ pub record Shut (n1 d : ℕ) (past : List Act) : Type 0 where
   pub open_not : is_open Responder d past ≡ false
   pub sent_none : many (is_on Ua d) (frames_sent past) ≤ 0
   pub owed_none : many (is_on Ua d) (owed_frames (responding n1) past) ≤ 0
-
-still_shut : (o i e : Bool) → o ≡ false → i ≡ false → (o || (i && not e)) ≡ false
-still_shut true i e g h = cc
-still_shut false true e g h = cc
-still_shut false false e g h = refl
-
--- where d is shut at a responder, an act but a frame that comes leaves it so
-pub not_opening : (d : ℕ) (past : List Act) (a : Act) → is_got a ≡ false → is_open Responder d past ≡ false → is_open Responder d (a ∷ past) ≡ false
-not_opening d past a other was =
-    let s = standings Responder d past in
-    still_shut (opens_now Responder d past a) (is_open Responder d past) (ends s.zero.is_open d a) (opens_none Responder s.zero.is_open s.own.is_asked d a other) was
 
 -- where none is counted the first doesn't pass
 pub none_of : (t : Frame → Bool) (f : Frame) (n : ℕ) → unit (t f) + n ≤ 0 → t f ≡ false

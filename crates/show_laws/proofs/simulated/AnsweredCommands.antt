@@ -28,7 +28,8 @@ use Rattle.modem_sim.proofs.replies.ReplyOrder.{sends_replies, since_are}
 use Rattle.one_modem.specs.OneModem.{AtDriver, AtModem, EndAct, driver_past, modem_past, modem_wire}
 use Rattle.one_modem.proofs.two_ends.FinalCodes.{all_finals, finals, finals-append}
 use Rattle.one_modem.proofs.two_ends.LinePoints.{Along, behind_there, driver_earlier, lines_heard, marks_at, modem_earlier, once_there, read_first, replies_at}
-use Rattle.one_modem.proofs.two_ends.ReplyPlaces.{AllAt, all_end, all_solicited_in, at_of, plain_command, replied_count, solicited_in}
+use Rattle.one_modem.proofs.two_ends.ModemAnswers.{at_all}
+use Rattle.one_modem.proofs.two_ends.ReplyPlaces.{all_end, all_solicited_in, at_of, plain_command, replied_count, solicited_in}
 use Rattle.show_laws.specs.Simulated.{HasSaidAll}
 use Rattle.show_laws.specs.Talks.{AnswersCommands, AnswersNoMore, TellsApart, commands_in, finals_in}
 use Rattle.show_laws.proofs.counts.ManyFrames.{unit}
@@ -44,10 +45,6 @@ first_taken (suc n) (q ∷ qs) h = (h.0, first_taken n qs h.1)
 first_commands : (xs ys : List (List ℕ)) → AreCommandLines (xs ++ ys) → AreCommandLines xs
 first_commands [] ys h = tt
 first_commands (x ∷ xs) ys h = (h.0, first_commands xs ys h.1)
-
-all_at : (ls : List (List ℕ)) → AreCommandLines ls → AllAt ls
-all_at [] h = tt
-all_at (l ∷ ls) h = (at_of l h.0, all_at ls h.1)
 
 all_commands : (ls : List (List ℕ)) → AreCommandLines ls → commands_in ls ≡ length ls
 all_commands [] h = refl
@@ -80,7 +77,7 @@ no_more s e line p d =
     let left = filter (is_solicited standard) (lines (data_out Responder d (modem_wire line))) in
     let rs = replies_at e d line in
     let commands = heard_commands s e d line p in
-    let ends = all_end p.modem_is.start p.modem_is.is_start e.echo d p.modem_is.before e.modem (heard past) p.modem_is.is (all_at (lines_on d (heard past)) commands) in
+    let ends = all_end p.modem_is.start p.modem_is.is_start e.echo d p.modem_is.before e.modem (heard past) p.modem_is.is (at_all (lines_on d (heard past)) commands) in
     let parts = finals-append left first.later in
     let joined : finals (left ++ first.later) ≡ finals (filter (is_solicited standard) (all_of rs)) = ap finals first.joins in
     let all : finals (filter (is_solicited standard) (all_of rs)) ≡ finals (all_of (solicited_in rs)) = ap finals (all_solicited_in rs) in
@@ -115,7 +112,7 @@ all_answered s e d line p h =
     ∙ (ap (filter (is_solicited standard)) (lines_said said sound)
     ∙ (asked_lines said sound ∙ ap (filter (is_solicited standard)) (ap (map text_of) told ∙ since_are e d past one))) in
     let commands = heard_commands s e d line p in
-    let ends = all_end p.modem_is.start p.modem_is.is_start e.echo d p.modem_is.before e.modem (heard past) p.modem_is.is (all_at (lines_on d (heard past)) commands) in
+    let ends = all_end p.modem_is.start p.modem_is.is_start e.echo d p.modem_is.before e.modem (heard past) p.modem_is.is (at_all (lines_on d (heard past)) commands) in
     let gone : finals_in standard (lines (data_out Responder d (modem_wire line))) ≡ finals (filter (is_solicited standard) (all_of rs)) = ap finals left in
     let all : finals (filter (is_solicited standard) (all_of rs)) ≡ finals (all_of (solicited_in rs)) = ap finals (all_solicited_in rs) in
     let ones = all_finals (solicited_in rs) ends in

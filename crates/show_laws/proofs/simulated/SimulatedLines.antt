@@ -32,6 +32,7 @@ use Rattle.modem_sim.specs.Doing.{call_of, call_owed}
 use Rattle.modem_sim.specs.Histories.{EachAllowed}
 use Rattle.one_modem.specs.OneModem as ends
 use Rattle.one_modem.specs.OneModem.{EndAct}
+use Rattle.one_modem.proofs.two_ends.InitiatorFrames.{given_is}
 use Rattle.one_modem.proofs.two_ends.LinePoints.{along, behind_there, once_there}
 use Rattle.modem_show.specs.Asking.{is_mode_command}
 use Rattle.show_laws.specs.Laws.{AllSound}
@@ -46,7 +47,7 @@ use Rattle.show_laws.proofs.openings.UaBehindSabm.{none_of}
 use Rattle.show_laws.proofs.simulated.AnsweredCommands.{all_answered, answers_commands, tells_apart}
 use Rattle.show_laws.proofs.sound.AllFrames.{all_sound}
 use Rattle.show_laws.proofs.talks.InTurn.{acts_got, acts_sent, finishes_talk, talks_in_turn}
-use Rattle.show_laws.proofs.talks.SentText.{given_is, modem_sent_all}
+use Rattle.show_laws.proofs.talks.SentText.{modem_sent_all}
 
 same_driver : (line : List EndAct) → driver_past (as_line line) ≡ ends.driver_past line
 same_driver [] = refl

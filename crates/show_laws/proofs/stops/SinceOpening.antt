@@ -1,5 +1,5 @@
 -- What was said of a stop since a connection opened, beside all that was said.
-use Rattle.std.specs.Prelude.{◌≡◌, ℕ, ◌==◌, ◌&&◌, ◌||◌, not, Bool, true, false, List, [], ◌∷◌, Option, Some, None, refl, unwrap_or, if◌then◌else◌}
+use Rattle.std.specs.Prelude.{◌≡◌, ℕ, ◌==◌, ◌&&◌, ◌||◌, Bool, true, false, List, [], ◌∷◌, Option, Some, None, refl, unwrap_or, if◌then◌else◌}
 use Rattle.std.proofs.Common.{ap, sym, ◌∙◌}
 use Rattle.std.proofs.lemmas.Bool.{and_parts}
 use Rattle.mux_frame.specs.Frames.{Frame}
@@ -15,13 +15,10 @@ use Rattle.mux_station.specs.Written.{is_kind, is_on}
 use Rattle.mux_station.proofs.states.StatesAfterActs.{since_goes_on, since_opens}
 use Rattle.modem_show.specs.Ends.{says_at}
 use Rattle.modem_history.proofs.connections.InformationGrowth.{is_got, opens_none}
+use Rattle.one_modem.proofs.two_ends.InitiatorFrames.{was_open}
+use Rattle.show_laws.proofs.openings.ResponderCalls.{sabm_bare}
 use Rattle.show_laws.proofs.stops.KeptStops.{kept_stop}
 use Rattle.show_laws.proofs.stops.StopWords.{says_on}
-
-was_open : (o i e : Bool) → o ≡ false → (o || (i && not e)) ≡ true → i ≡ true
-was_open true i e g h = cc
-was_open false true e g h = refl
-was_open false false e g h = cc
 
 -- d was open before an act that doesn't open it, where it is so behind it
 pub open_before : (r : Role) (d : ℕ) (past : List Act) (a : Act) → opens_now r d past a ≡ false → is_open r d (a ∷ past) ≡ true → is_open r d past ≡ true
@@ -60,13 +57,6 @@ mode_bare Sabm x y h = cc
 mode_bare Dm x y h = cc
 mode_bare Disc x y h = cc
 mode_bare Uih x y h = cc
-
-sabm_bare : (k : Kind) (x y : Bool) → (is_kind k Sabm && x) ≡ true → (is_kind k Uih && y) ≡ false
-sabm_bare Sabm x y h = refl
-sabm_bare Ua x y h = cc
-sabm_bare Dm x y h = cc
-sabm_bare Disc x y h = cc
-sabm_bare Uih x y h = cc
 
 -- what opens brings no message
 opening_bare : (r : Role) (z k : Bool) (d : ℕ) (f : Frame) → opens r z k d (Got f) ≡ true → is_on Uih 0 f ≡ false

@@ -22,13 +22,14 @@ use Rattle.mux_station.proofs.states.OpenedStates.{opened_is_open}
 use Rattle.modem_show.specs.Ends.{says_at}
 use Rattle.modem_history.specs.TwoEnds.{frames_sent}
 use Rattle.modem_history.proofs.connections.InformationGrowth.{is_got}
+use Rattle.one_modem.proofs.two_ends.ResponderFrames.{not_opening}
 use Rattle.show_laws.specs.Lines.{responding}
 use Rattle.show_laws.proofs.asks.AnswerShapes.{or_elim}
 use Rattle.show_laws.proofs.asks.AnswersCalled.{data_no_message}
 use Rattle.show_laws.proofs.counts.ManyFrames.{many, many_both, none_one, unit}
 use Rattle.show_laws.proofs.counts.BalancedTables.{tick_none}
-use Rattle.show_laws.proofs.openings.ResponderCalls.{opening_answered}
-use Rattle.show_laws.proofs.openings.UaBehindSabm.{none_of, not_opening}
+use Rattle.show_laws.proofs.openings.ResponderCalls.{opening_answered, sabm_bare}
+use Rattle.show_laws.proofs.openings.UaBehindSabm.{none_of}
 use Rattle.show_laws.proofs.stops.StopWords.{flow_quiet, message_quiet, responder_quiet, speaks, status_quiet}
 
 -- no message about the stop of d stands before a UA on d
@@ -137,13 +138,6 @@ table_led d e channel own Ua h = cc
 table_led d e channel own Dm h = cc
 table_led d e channel own Disc h = cc
 table_led d e channel own Uih h = cc
-
-sabm_bare : (k : Kind) (x y : Bool) → (is_kind k Sabm && x) ≡ true → (is_kind k Uih && y) ≡ false
-sabm_bare Sabm x y h = refl
-sabm_bare Ua x y h = cc
-sabm_bare Dm x y h = cc
-sabm_bare Disc x y h = cc
-sabm_bare Uih x y h = cc
 
 frame_led : (d : ℕ) (state : ℕ → State) (f : Frame) → led d (by_frame Responder state f) ≡ true
 frame_led d state f = by_sabm (is_on Sabm d f) refl

@@ -1,19 +1,18 @@
 -- While a connection is open that was asked for once, what came on it and what was sent since it opened is all that did.
-use Rattle.std.specs.Prelude.{◌≡◌, ℕ, ◌==◌, ◌≤◌, ◌&&◌, ◌||◌, not, Bool, true, false, List, [], ◌∷◌, ◌++◌, refl, if◌then◌else◌}
-use Rattle.std.proofs.Common.{ap, append-nil, arith, sym, ◌∙◌, eqb-true}
+use Rattle.std.specs.Prelude.{◌≡◌, ℕ, ◌==◌, ◌≤◌, ◌&&◌, ◌||◌, Bool, true, false, List, [], ◌∷◌, ◌++◌, refl, if◌then◌else◌}
+use Rattle.std.proofs.Common.{ap, arith, sym, ◌∙◌}
 use Rattle.std.proofs.lemmas.Bool.{and_parts}
 use Rattle.mux_frame.specs.Frames.{Frame}
-use Rattle.mux_frame.specs.declared.frame.Kind.TheVariants.{Sabm, Ua, Uih}
+use Rattle.mux_frame.specs.declared.frame.Kind.TheVariants.{Sabm, Ua}
 use Rattle.mux_station.specs.declared.role.Role.TheVariants.{Initiator, Responder}
 use Rattle.mux_station.specs.Acts as station
-use Rattle.mux_station.specs.Offering.{data_out, joined_octets, octets_sent}
-use Rattle.mux_station.specs.Opening.{is_open, opens_now, since, standings}
+use Rattle.mux_station.specs.Opening.{is_open, opens_now, standings}
 use Rattle.mux_station.specs.Sending.{StationLawful}
-use Rattle.mux_station.specs.Written.{is_data_frame, is_kind, is_on}
+use Rattle.mux_station.specs.Written.{is_on}
 use Rattle.modem_history.specs.Acts as driver
 use Rattle.modem_history.specs.Acts.{wire}
 use Rattle.modem_history.specs.Calls.{Setting}
-use Rattle.modem_history.specs.Connections.{carries, info_sent, information_got, information_sent}
+use Rattle.modem_history.specs.Connections.{carries, information_got, information_sent}
 use Rattle.modem_history.specs.TwoEnds.{frames_got, frames_sent}
 use Rattle.modem_history.proofs.commands.FramesOnLine.{info_in, info_some}
 use Rattle.modem_history.proofs.connections.InformationGrowth.{got_grows, got_same, sent_grows, sent_same, sent_still}
@@ -60,50 +59,6 @@ modem_sent_all n1 d (station.Called c ∷ past) l once o = sent_still Responder 
 modem_sent_all n1 d (station.Tick ∷ past) l once o = sent_still Responder d past station.Tick refl refl ∙ modem_sent_all n1 d past l once (open_before Responder d past station.Tick refl o)
 modem_sent_all n1 d (station.Lost ∷ past) l once o = sent_still Responder d past station.Lost refl refl ∙ modem_sent_all n1 d past l once (open_before Responder d past station.Lost refl o)
 modem_sent_all n1 d (station.Given ∷ past) l once o = sent_still Responder d past station.Given refl refl ∙ modem_sent_all n1 d past l once (open_before Responder d past station.Given refl o)
-
-as_data : (d : ℕ) (f : Frame) → (is_data_frame f && (f.dlci == d)) ≡ carries d f
-as_data d f = by_place (f.dlci == d) refl (is_kind f.kind Uih)
-  where
-    off : (x y : Bool) → ((x && y) && false) ≡ (not (d == 0) && (x && false))
-    off true true = last (d == 0)
-      where
-        last : (z : Bool) → false ≡ (not z && false)
-        last true = refl
-        last false = refl
-    off true false = last (d == 0)
-      where
-        last : (z : Bool) → false ≡ (not z && false)
-        last true = refl
-        last false = refl
-    off false y = last (d == 0)
-      where
-        last : (z : Bool) → false ≡ (not z && false)
-        last true = refl
-        last false = refl
-
-    on : (x z : Bool) → ((x && not z) && true) ≡ (not z && (x && true))
-    on true true = refl
-    on true false = refl
-    on false true = refl
-    on false false = refl
-
-    by_place : (b : Bool) → (f.dlci == d) ≡ b → (x : Bool) → ((x && not (f.dlci == 0)) && b) ≡ (not (d == 0) && (x && b))
-    by_place false e x = off x (not (f.dlci == 0))
-    by_place true e x = ap (λ n. (x && not (n == 0)) && true) (eqb-true f.dlci d e) ∙ on x (d == 0)
-
-given_acts : (d : ℕ) (acts : List station.Act) → joined_octets (octets_sent d) acts ≡ info_sent d acts
-given_acts d [] = refl
-given_acts d (station.Sent f ∷ acts) =
-    ap (λ z. z ++ (if is_data_frame f && (f.dlci == d) then f.info else [])) (given_acts d acts) ∙ ap (λ (b : Bool). info_sent d acts ++ (if b then f.info else [])) (as_data d f)
-given_acts d (station.Got f ∷ acts) = append-nil (joined_octets (octets_sent d) acts) ∙ given_acts d acts
-given_acts d (station.Called c ∷ acts) = append-nil (joined_octets (octets_sent d) acts) ∙ given_acts d acts
-given_acts d (station.Tick ∷ acts) = append-nil (joined_octets (octets_sent d) acts) ∙ given_acts d acts
-given_acts d (station.Lost ∷ acts) = append-nil (joined_octets (octets_sent d) acts) ∙ given_acts d acts
-given_acts d (station.Given ∷ acts) = append-nil (joined_octets (octets_sent d) acts) ∙ given_acts d acts
-
--- what left is the information sent
-pub given_is : (d : ℕ) (past : List station.Act) → data_out Responder d past ≡ information_sent Responder d past
-given_is d past = given_acts d (since Responder d past)
 
 -- ## The driver
 

@@ -19,6 +19,7 @@ use Rattle.modem_history.specs.TwoEnds.{frames_got, frames_sent}
 use Rattle.modem_history.proofs.commands.FramesOnLine.{asked_first, info_in}
 use Rattle.modem_show.specs.Asking.{answers, is_answer, is_mode_answer, message_answers}
 use Rattle.modem_show.specs.Talking.{closes_all, is_close, is_turn_on, starts_afresh}
+use Rattle.one_modem.proofs.two_ends.LinePoints.{fewer_lines}
 use Rattle.show_laws.specs.Lines.{AtDriver, AtModem, LineAct, driver_past, modem_past, responding}
 use Rattle.show_laws.specs.Talks.{IsTalkingLine}
 use Rattle.show_laws.proofs.asks.AnswerShapes.{is_alike, is_shaped, or_elim}
@@ -38,7 +39,6 @@ use Rattle.show_laws.proofs.openings.ModeAnswers.{is_ending}
 use Rattle.show_laws.proofs.openings.ModemCloses.{clds_closed, discs_closed}
 use Rattle.show_laws.proofs.talks.EndedLines.{IsEnded, driver_ended, modem_ended, no_sabms, opens_before}
 use Rattle.show_laws.proofs.talks.SilentChannels.{Under, UnderM, before_sabm, before_sabm_m, before_ua, before_ua_m}
-use Rattle.show_laws.proofs.texts.NoneAstray.{commands_before}
 
 -- ## Each point
 
@@ -48,7 +48,7 @@ talking_before s n1 (AtDriver a) line h = record {
   lawful = lawful_before s n1 (AtDriver a) line h.lawful;
   once = once_before a (driver_past line) h.once;
   opens_none = h.opens_none;
-  commands = commands_before a (driver_past line) h.commands;
+  commands = fewer_lines a (driver_past line) h.commands;
   apart = h.apart;
   answers = h.answers;
 }

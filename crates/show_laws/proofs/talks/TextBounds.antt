@@ -1,6 +1,6 @@
 -- How many commands the driver has sent with a frame, and how many final codes the modem, by what the other end did.
 use Rattle.std.specs.Prelude.{◌≡◌, ℕ, ◌+◌, ◌≤◌, ◌&&◌, Bool, true, List, [], ◌∷◌, ◌++◌, length, map, take, min, refl, if◌then◌else◌}
-use Rattle.std.proofs.Common.{ap, append_assoc, append-nil, arith, length-take, sym, ◌∙◌, subst}
+use Rattle.std.proofs.Common.{ap, arith, length-take, sym, ◌∙◌, subst}
 use Rattle.std.proofs.lemmas.Bool.{leb-true}
 use Rattle.mux_frame.specs.Frames.{Frame}
 use Rattle.mux_frame.specs.declared.frame.Kind.TheVariants.{Sabm}
@@ -16,7 +16,7 @@ use Rattle.modem_desk.specs.declared.request.Request.{Request}
 use Rattle.modem_history.specs.Acts as driver
 use Rattle.modem_history.specs.Acts.{wire}
 use Rattle.modem_history.specs.Calls.{Setting}
-use Rattle.modem_history.specs.Connections.{carries, info_of, information_got, information_sent, reached_in, whole_in}
+use Rattle.modem_history.specs.Connections.{carries, information_got, information_sent, reached_in, whole_in}
 use Rattle.modem_history.specs.Information.{accepted, information_out, line_of, texts}
 use Rattle.modem_history.specs.Lawful.{Lawful}
 use Rattle.modem_history.specs.Placements.{AreCommandLines, ReadsAccepted}
@@ -33,25 +33,15 @@ use Rattle.modem_history.proofs.commands.WholeTexts.{whole_reached}
 use Rattle.modem_history.proofs.connections.InformationGrowth.{got_same, sent_grows}
 use Rattle.modem_history.proofs.lines.LinePlaces.{placed_lines}
 use Rattle.modem_history.proofs.lines.MarkPlaces.{are_placed}
+use Rattle.one_modem.proofs.two_ends.InitiatorFrames.{given_is, info_later}
 use Rattle.show_laws.specs.Lines.{AtDriver, AtModem, LineAct, driver_past, modem_past}
 use Rattle.show_laws.specs.Talks.{IsTalkingLine, commands_in, finals_in}
 use Rattle.show_laws.proofs.lines.CapturedFrames.{both_ways, came_few}
-use Rattle.show_laws.proofs.openings.DriverOpen.{IsOnceLine}
 use Rattle.show_laws.proofs.openings.BothOpen as modem_data
 use Rattle.show_laws.proofs.openings.DiscBehindUa.{once_many}
 use Rattle.show_laws.proofs.talks.CountedLines.{answered_few, commands_few, commands_first, finals_first}
-use Rattle.show_laws.proofs.talks.SentText.{driver_got_all, given_is, modem_sent_all}
-use Rattle.show_laws.proofs.talks.TalkingLines.{talking_before}
-
-asked_line : (s : Setting) (n1 : ℕ) (line : List LineAct) → IsTalkingLine s n1 line → IsOnceLine s n1 line
-asked_line s n1 line h = record { lawful = h.lawful; once = h.once }
-
--- the information of the first frames is the beginning of that of all
-first_info : (d : ℕ) (later older : List Frame) → IsPrefixOf (info_in d older) (info_in d (later ++ older))
-first_info d [] older = record { rest = []; joins = append-nil (info_in d older) }
-first_info d (f ∷ later) older =
-    let h = first_info d later older in
-    record { rest = h.rest ++ info_of d f; joins = sym (append_assoc (info_in d older) h.rest (info_of d f)) ∙ ap (λ z. z ++ info_of d f) h.joins }
+use Rattle.show_laws.proofs.talks.SentText.{driver_got_all, modem_sent_all}
+use Rattle.show_laws.proofs.talks.TalkingLines.{talking_asked, talking_before}
 
 same_first : (x y z : List ℕ) → y ≡ z → IsPrefixOf x y → IsPrefixOf x z
 same_first x y z e h = record { rest = h.rest; joins = h.joins ∙ e }
@@ -125,10 +115,10 @@ driver_bound s n1 f line h is carry =
     let same : commands_in (lines (information_out s.role d now)) ≡ commands_in (lines (info_in d (frames_sent p) ++ f.info)) = ap (λ z. commands_in (lines z)) out in
     let came = came_finals s past d k.lawful.driver_lawful in
     let got : finals_in s.dialect (lines (information_got s.role d p)) ≡ finals_in s.dialect (lines (info_in d (frames_got p))) =
-    ap (λ z. finals_in s.dialect (lines z)) (ap (λ (r : Role). information_got r d p) role ∙ driver_got_all s n1 d line (asked_line s n1 line k) o) in
+    ap (λ z. finals_in s.dialect (lines z)) (ap (λ (r : Role). information_got r d p) role ∙ driver_got_all s n1 d line (talking_asked s n1 line k) o) in
     let back = (both_ways line k.lawful.one_line).at_driver in
     let first = finals_first s.dialect (info_in d (frames_got p)) (info_in d (frames_sent (modem_past line)))
-    (same_first (info_in d (frames_got p)) (info_in d (back.later ++ frames_got p)) (info_in d (frames_sent (modem_past line))) (sym (ap (info_in d) back.sent_are)) (first_info d back.later (frames_got p))) in
+    (same_first (info_in d (frames_got p)) (info_in d (back.later ++ frames_got p)) (info_in d (frames_sent (modem_past line))) (sym (ap (info_in d) back.sent_are)) (info_later d back.later (frames_got p))) in
     omega (arith, few, same, came, got, first)
 
 -- ## The modem
@@ -161,5 +151,5 @@ modem_bound s n1 f line h is carry =
     let behind = behind_older d there.later (frames_got past) (subst (λ fs. ComesBehind d fs) there.sent_are (sent_behind d p (h.once d) (while_open s (driver_past line) k.lawful.is_initiator k.lawful.driver_lawful))) in
     let got : commands_in (lines (information_got Responder d past)) ≡ commands_in (lines (info_in d (frames_got past))) = ap (λ z. commands_in (lines z)) ((hears d past one behind).all gated.is_open) in
     let first = commands_first (info_in d (frames_got past)) (info_in d (frames_sent p))
-    (same_first (info_in d (frames_got past)) (info_in d (there.later ++ frames_got past)) (info_in d (frames_sent p)) (sym (ap (info_in d) there.sent_are)) (first_info d there.later (frames_got past))) in
+    (same_first (info_in d (frames_got past)) (info_in d (there.later ++ frames_got past)) (info_in d (frames_sent p)) (sym (ap (info_in d) there.sent_are)) (info_later d there.later (frames_got past))) in
     omega (arith, out, answers, still, got, first)

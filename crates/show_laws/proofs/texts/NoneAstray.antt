@@ -15,6 +15,7 @@ use Rattle.modem_history.specs.Lawful.{Lawful, Once, When}
 use Rattle.modem_history.specs.TwoEnds.{TakesCommandLines}
 use Rattle.modem_show.specs.declared.rule.Rule.TheVariants.{Astray}
 use Rattle.modem_show.specs.Judging.{is_astray, is_message, is_text}
+use Rattle.one_modem.proofs.two_ends.LinePoints.{fewer_lines}
 use Rattle.show_laws.specs.Lines.{AtDriver, AtModem, IsLawfulLine, LineAct, driver_past, modem_past, responding}
 use Rattle.show_laws.specs.Laws.{CarriesText, OffersText}
 use Rattle.show_laws.proofs.lines.EveryFrame.{every, lawful_before}
@@ -36,19 +37,6 @@ record IsTextLine (s : Setting) (n1 : ℕ) (line : List LineAct) : Type 0 where
   commands : TakesCommandLines (driver_past line)
   offers : OffersText (modem_past line)
 
--- a driver given command lines alone was given such alone before
-pub commands_before : (a : driver.Act) (past : List driver.Act) → TakesCommandLines (a ∷ past) → TakesCommandLines past
-commands_before (driver.Took q) past h = h.1
-commands_before (driver.Got f) past h = h
-commands_before (driver.Sent f) past h = h
-commands_before (driver.Told o) past h = h
-commands_before (driver.Heard k d l) past h = h
-commands_before driver.Tick past h = h
-commands_before driver.Lost past h = h
-commands_before (driver.Held d) past h = h
-commands_before (driver.Freed d) past h = h
-commands_before driver.Given past h = h
-
 offers_before : (a : station.Act) (past : List station.Act) → OffersText (a ∷ past) → OffersText past
 offers_before (station.Called (station.Offer d octets)) past h = h.1
 offers_before (station.Called (station.Open d)) past h = h
@@ -63,7 +51,7 @@ offers_before station.Lost past h = h
 offers_before station.Given past h = h
 
 text_before : (s : Setting) (n1 : ℕ) (x : LineAct) (line : List LineAct) → IsTextLine s n1 (x ∷ line) → IsTextLine s n1 line
-text_before s n1 (AtDriver a) line h = record { lawful = lawful_before s n1 (AtDriver a) line h.lawful; commands = commands_before a (driver_past line) h.commands; offers = h.offers }
+text_before s n1 (AtDriver a) line h = record { lawful = lawful_before s n1 (AtDriver a) line h.lawful; commands = fewer_lines a (driver_past line) h.commands; offers = h.offers }
 text_before s n1 (AtModem a) line h = record { lawful = lawful_before s n1 (AtModem a) line h.lawful; commands = h.commands; offers = offers_before a (modem_past line) h.offers }
 
 is_once : (s : Setting) (past : List driver.Act) (f : Frame) → Lawful s (driver.Sent f ∷ past) → is_data_frame f ≡ true → Once s past f

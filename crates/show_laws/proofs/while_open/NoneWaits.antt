@@ -13,17 +13,18 @@ use Rattle.show_laws.specs.Lines.{LineAct, ReadsWhileOpen, captured, driver_past
 use Rattle.show_laws.specs.Laws.{AnswersWhileOpen}
 use Rattle.show_laws.proofs.while_open.EnoughSent.{driver_enough, station_enough}
 use Rattle.show_laws.proofs.answered.FewWait.{few_wait}
-use Rattle.show_laws.proofs.answered.NoneWaits.{all_asks, any, none_left, open_asks}
+use Rattle.show_laws.proofs.answered.NoneWaits.{all_asks, none_left, open_asks}
 use Rattle.show_laws.proofs.asks.WaitingAsks.{frames_of, frames_to}
 use Rattle.show_laws.proofs.counts.ManyFrames.{many}
 use Rattle.show_laws.proofs.counts.DriverCounts.{sends}
 use Rattle.show_laws.proofs.lines.CapturedFrames.{shows}
+use Rattle.show_laws.proofs.openings.ResponderCalls.{every}
 
 -- where nothing is under way, and commands came while 0 was open, each ask was answered or needn't be
 pub answers_while_open : (s : Setting) (n1 : ℕ) (line : List LineAct) → AnswersWhileOpen s n1 line
 unfolding AnswersWhileOpen Complete StationComplete
 answers_while_open s n1 line h done at_driver at_modem stamps =
-    let few = few_wait s n1 stamps any is_ask is_answer all_asks line h in
+    let few = few_wait s n1 stamps every is_ask is_answer all_asks line h in
     let seen = shows stamps line in
     let past = driver_past line in
     let reads : ReadsWhileOpen s.role (wire past) = subst (λ (r : Role). ReadsWhileOpen r (wire past)) (sym h.is_initiator) at_driver in

@@ -1,10 +1,11 @@
 -- The desk is the same one, with the same users.
 use Rattle.std.specs.Prelude.{refl, IsOk}
 use Rattle.std.proofs.Common.{ap, ◌∙◌}
+use Rattle.std.proofs.lemmas.Result.{IfOk-at_ok}
 use Rattle.modem_desk.specs.Ends.{DriverView}
 use Rattle.modem_driver.specs.SessionStates.{end_of}
 use Rattle.ctl_drive.specs.Ending.{AllHeard}
-use Rattle.ctl_drive.proofs.Ends.{done_ok, ends_drive, known_done, known_ok, on_both, still_subscribed, still_whole}
+use Rattle.ctl_drive.proofs.Ends.{done_ok, ends_drive, known_done, on_both, still_subscribed, still_whole}
 use Rattle.ctl_drive.proofs.ending.end_drive.Goals as goal
 
 pub settle_turned-settled-requires-clause-whole : goal.settle_turned-settled-requires-clause-whole
@@ -38,5 +39,5 @@ returns-clause-ends g c =
     (done_ok _ turned.result done turned.ensures.goes)
     (done_ok _ turned.result done turned.ensures.none)
     (done_ok _ turned.result done turned.ensures.submits_none)
-    (known_ok AllHeard c.settle_turned-settled.result c.in_ok-settled.settled c.in_ok-settled.ensures.made c.settle_turned-settled.ensures.heard)
-    (known_ok _ c.settle_turned-settled.result c.in_ok-settled.settled c.in_ok-settled.ensures.made c.settle_turned-settled.ensures.books)
+    (IfOk-at_ok AllHeard c.in_ok-settled.ensures.made c.settle_turned-settled.ensures.heard)
+    (IfOk-at_ok _ c.in_ok-settled.ensures.made c.settle_turned-settled.ensures.books)

@@ -1,12 +1,13 @@
 -- The input was driven to its end.
 use Rattle.std.specs.Prelude.{replicate}
 use Rattle.std.proofs.Common.{◌≡◌, ◌∙◌, [], false, ap, subst}
+use Rattle.std.proofs.lemmas.Result.{IfOk-at_ok}
 use Rattle.ctl_drive.specs.Asking.{PlanView, StopsOn}
 use Rattle.ctl_drive.specs.Ending.{HasDriven}
 use Rattle.ctl_drive.specs.Input.{LinesView}
 use Rattle.ctl_drive.specs.Running.{plan_begun}
 use Rattle.ctl_drive.proofs.Asks.{stops_if}
-use Rattle.ctl_drive.proofs.Ends.{known_err, known_ok}
+use Rattle.ctl_drive.proofs.Ends.{known_err}
 use Rattle.ctl_drive.proofs.running.drive_begun.Goals as goal
 
 abbrev planned : LinesView → PlanView
@@ -15,7 +16,7 @@ planned l = record { input = l; count = 0; was_bad = false; waiting = replicate 
 pub returns-clause-driven : goal.returns-clause-driven
 returns-clause-driven g c =
     let begun : c.new-plan.result ≡ plan_begun (g.I.Read.remaining c.args.input) = c.new-plan.ensures ∙ ap planned c.new.ensures in
-    let driven = known_ok _ c.run_session-ran.result _ c.in_ok-last.ensures.made c.run_session-ran.ensures.driven in
+    let driven = IfOk-at_ok _ c.in_ok-last.ensures.made c.run_session-ran.ensures.driven in
     record {
       through = c.run_session-ran.new.plan;
       driven = subst (λ (p : PlanView). HasDriven g.L.SerialLine.seen c.args.session c.args.users p c.run_session-ran.new.plan (g.W.Write.contents c.args.output.now) (g.W.Write.contents c.run_session-ran.new.output) (g.E.Write.contents c.args.faults.now) (g.E.Write.contents c.run_session-ran.new.faults) c.in_ok-last.fault c.in_ok-last.left c.in_ok-last.last) begun driven;

@@ -1,9 +1,9 @@
 use Rattle.std.proofs.Common.{List, ℕ, [], None, refl, subst, sym, take, rules, ◌∙◌}
+use Rattle.std.proofs.KnownBytes.{Consumes-nil}
 use Rattle.std.specs.Io.KnownBytes.{Appends, Consumes}
 use Rattle.ctl_text.specs.Writing.{IsBegun}
 use Rattle.ctl_sim.specs.Standing.{setting_by}
 use Rattle.ctl_sim.specs.Watching.{SeesPart}
-use Rattle.ctl_sim.proofs.Served.{consumed_none, keeps_same}
 use Rattle.ctl_sim.proofs.Leaving.{few_taken, given_no_capture, left_given, left_unanswered, left_unwritten, modem_leaves, modem_no_capture, reader_leaves, reader_no_capture, some_taken}
 use Rattle.ctl_sim.proofs.Watched.{passing_more, served_so_far, watched_end, watched_more, watched_none}
 use Rattle.ctl_sim.proofs.serving.serve.Goals as goal
@@ -83,7 +83,7 @@ pub returns-clause-left : goal.returns-clause-left
 returns-clause-left g c = λ m holds.
     left_unanswered g.M.Answering.holds (setting_by c.args.setup.now m) _ (g.I.Read.remaining c.args.input.now) (g.I.Read.remaining c.loop.input)
     (g.I.Read.remaining c.loop.input) (g.W.Write.contents c.args.output.now) (g.W.Write.contents c.loop.output) c.loop.now []
-    (served_so_far g.M.Answering.holds g.M.Answering.undecided g.V.Watcher.sees g.V.Watcher.begins (setting_by c.args.setup.now m) _ _ _ _ _ _ _ (c.loop.invariant.so_far m holds)) (consumed_none _ _ (keeps_same (g.I.Read.remaining c.loop.input))) (search rules) (λ Begun. (refl, refl))
+    (served_so_far g.M.Answering.holds g.M.Answering.undecided g.V.Watcher.sees g.V.Watcher.begins (setting_by c.args.setup.now m) _ _ _ _ _ _ _ (c.loop.invariant.so_far m holds)) (Consumes-nil (g.I.Read.remaining c.loop.input)) (search rules) (λ Begun. (refl, refl))
 
 pub returns-in_err-count-clause-fault : goal.returns-in_err-count-clause-fault
 returns-in_err-count-clause-fault g c = given_no_capture _ _ c.from_residual.ensures.1 (reader_no_capture _ c.in_err-count.ensures.fault)

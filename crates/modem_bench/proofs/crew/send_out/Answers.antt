@@ -1,4 +1,5 @@
 use Rattle.std.proofs.Common.{◌≡◌, ◌+◌, ◌∙◌, List, [], ◌∷◌, ◌++◌, length, ap, append_assoc, arith, subst, sym}
+use Rattle.std.proofs.lemmas.Result.{IfOk-at_ok}
 use Rattle.std.proofs.lemmas.List.{length_push}
 use Rattle.std.specs.declared.alloc.Global.{Global}
 use Rattle.std.specs.declared.vec.Vec.{Vec}
@@ -8,7 +9,7 @@ use Rattle.modem_desk.specs.Ends.{CallerView}
 use Rattle.modem_bench.specs.Asks.{asks_for}
 use Rattle.modem_bench.specs.Running.{GoesOut}
 use Rattle.modem_bench.specs.declared.signals.Signals.{Signals}
-use Rattle.modem_bench.proofs.CallerThreads.{known_ok, out_next}
+use Rattle.modem_bench.proofs.CallerThreads.{out_next}
 use Rattle.modem_bench.proofs.crew.send_out.Goals as goal
 
 pub loop-caller-preserved : goal.loop-caller-preserved
@@ -19,7 +20,7 @@ loop-caller-preserved g c =
     let counted = i.counted in
     let number : c.loop-caller.number ≡ 0 + length c.loop-caller.yielded = omega (arith, counted) in
     let theirs : c.in_ok-asks.asks.items ≡ asks_for c.loop-caller.number all =
-    known_ok (λ (r : Vec Ask Global × Signals). r.0.items ≡ asks_for c.loop-caller.number all) c.share_of-share.result (c.in_ok-asks.asks, c.in_ok-asks.theirs) c.in_ok-asks.ensures.made c.share_of-share.ensures in
+    IfOk-at_ok (λ (r : Vec Ask Global × Signals). r.0.items ≡ asks_for c.loop-caller.number all) c.in_ok-asks.ensures.made c.share_of-share.ensures in
     let goes = subst (λ (x : CallerView). GoesOut x c.in_ok-asks.asks.items c.loop-caller.out.items c.send_next.new.out.items) c.in_ok-asks.ensures.kept c.in_ok-send_next.ensures in
     record {
       can_next = tt;

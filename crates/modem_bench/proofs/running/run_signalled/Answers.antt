@@ -1,5 +1,6 @@
 -- The line, and what stands at its two ends.
 use Rattle.std.proofs.Common.{map, subst}
+use Rattle.std.proofs.lemmas.Result.{IfOk-at_ok, IfOk-weaker}
 use Rattle.std.specs.Prelude.{vec_items}
 use Rattle.std.specs.declared.alloc.Global.{Global}
 use Rattle.std.specs.declared.vec.Vec.{Vec}
@@ -8,19 +9,18 @@ use Rattle.modem_desk.specs.declared.request.Outcome.{Outcome}
 use Rattle.modem_sim.specs.declared.script.Script.{Script}
 use Rattle.modem_bench.specs.Running.{IsLine, Ran, RanFor}
 use Rattle.modem_bench.specs.Simulating.{IsStarted}
-use Rattle.modem_bench.proofs.CallerThreads.{known_ok, ok_on}
 use Rattle.modem_bench.proofs.running.run_signalled.Goals as goal
 
 pub returns : goal.returns
 returns g c =
     let ends = c.in_ok-ends.ends in
-    ok_on (λ (os : Vec (Vec Outcome Global) Global). RanFor thread_view c.args.submissions.now ends.callers.items ends.session ends.sim (map vec_items os.items))
+    IfOk-weaker c.run_threads.result
+    (λ (os : Vec (Vec Outcome Global) Global). RanFor thread_view c.args.submissions.now ends.callers.items ends.session ends.sim (map vec_items os.items))
     (λ (os : Vec (Vec Outcome Global) Global). Ran c.args.submissions.now c.args.callers c.args.cut c.args.script (map vec_items os.items))
-    c.run_threads.result
     (λ os ran. record {
       near = c.in_ok-line.line.0;
       far = c.in_ok-line.line.1;
-      line = known_ok (λ (r : EndState × EndState). IsLine c.args.cut r.0 r.1) c.make_line.result c.in_ok-line.line c.in_ok-line.ensures.made c.make_line.ensures;
+      line = IfOk-at_ok (λ (r : EndState × EndState). IsLine c.args.cut r.0 r.1) c.in_ok-line.ensures.made c.make_line.ensures;
       session = ends.session;
       at_line = c.in_ok-ends.ensures.at_line;
       sim = ends.sim;

@@ -1,5 +1,6 @@
 -- The callers that have worked are those that the desk is settled with.
 use Rattle.std.proofs.Common.{◌≡◌, List, ap, map, subst, sym}
+use Rattle.std.proofs.lemmas.Result.{IfOk-at_ok}
 use Rattle.std.specs.declared.alloc.Global.{Global}
 use Rattle.std.specs.declared.vec.Vec.{Vec}
 use Rattle.modem_desk.specs.Ends.{AreSubscribed, CallerView, DeskId, IsWhole, subscription_of, place_of}
@@ -7,7 +8,6 @@ use Rattle.modem_desk.specs.declared.request.Outcome.{Outcome}
 use Rattle.modem_driver.specs.SessionStates.{SessionState}
 use Rattle.modem_bench.specs.Driving.{IsOver}
 use Rattle.modem_bench.specs.declared.calling.Worked.{Worked}
-use Rattle.modem_bench.proofs.CallerThreads.{known_ok}
 use Rattle.modem_bench.proofs.settling.settle_run.Goals as goal
 
 abbrev Parts : Type 0
@@ -17,7 +17,7 @@ pub end_run-requires-clause-callers : goal.end_run-requires-clause-callers
 end_run-requires-clause-callers g c =
     let desk : c.in_ok-callers.session.driver.desk ≡ c.args.session.driver.desk = ap (λ (s : SessionState g.row.L.Denot). s.driver.desk) c.in_ok-callers.ensures.kept in
     let callers : c.in_ok-callers.callers.items ≡ map (λ (w : Worked). w.caller) c.args.back.items =
-    known_ok (λ (r : Parts). r.0.items ≡ map (λ (w : Worked). w.caller) c.args.back.items) c.parted.result (c.in_ok-callers.callers, c.in_ok-callers.outcomes) c.in_ok-callers.ensures.made c.parted.ensures.callers in
+    IfOk-at_ok (λ (r : Parts). r.0.items ≡ map (λ (w : Worked). w.caller) c.args.back.items) c.in_ok-callers.ensures.made c.parted.ensures.callers in
     subst (λ (x : DeskId × List CallerView). IsWhole x.0 (map place_of x.1)) (λ i. (sym desk i, sym callers i)) c.requires.callers
 
 pub end_run-requires-clause-listeners : goal.end_run-requires-clause-listeners
@@ -27,13 +27,13 @@ end_run-requires-clause-listeners g c =
 
 pub returns-clause-outcomes : goal.returns-clause-outcomes
 returns-clause-outcomes g c =
-    known_ok (λ (r : Parts). r.1.items ≡ map (λ (w : Worked). w.outcomes) c.args.back.items) c.parted.result (c.in_ok-callers.callers, c.in_ok-callers.outcomes) c.in_ok-callers.ensures.made c.parted.ensures.outcomes
+    IfOk-at_ok (λ (r : Parts). r.1.items ≡ map (λ (w : Worked). w.outcomes) c.args.back.items) c.in_ok-callers.ensures.made c.parted.ensures.outcomes
 
 pub returns-clause-over : goal.returns-clause-over
 returns-clause-over g c =
     let look = g.L.SerialLine.seen in
     let callers : c.in_ok-callers.callers.items ≡ map (λ (w : Worked). w.caller) c.args.back.items =
-    known_ok (λ (r : Parts). r.0.items ≡ map (λ (w : Worked). w.caller) c.args.back.items) c.parted.result (c.in_ok-callers.callers, c.in_ok-callers.outcomes) c.in_ok-callers.ensures.made c.parted.ensures.callers in
+    IfOk-at_ok (λ (r : Parts). r.0.items ≡ map (λ (w : Worked). w.caller) c.args.back.items) c.in_ok-callers.ensures.made c.parted.ensures.callers in
     let kept = c.in_ok-callers.ensures.kept in
     record {
       settled = c.in_ok-settled.settled;

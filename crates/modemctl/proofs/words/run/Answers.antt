@@ -1,4 +1,5 @@
 use Rattle.std.proofs.Common.{◌≡◌, ◌≢◌, ◌∙◌, ◌<◌, ◌⊎◌, ℕ, Bool, ⊎_elim, inl, inr, ap, arith, refl, subst, sym, true, List, [], ◌∷◌, Option, None, Some, option_map, codes, false}
+use Rattle.std.proofs.lemmas.Bool.{false_from_ne_true}
 use Rattle.clap.specs.Words.{App, HasKind, IsAmong, Kinds, Row, Text, fault_of, is_simple, is_simple_and_free, subcommand_of, subcommand_name_of, subcommand_rows_of}
 use Rattle.clap.specs.declared.ArgMatches.{ArgMatches}
 use Rattle.clap.specs.declared.error.ErrorKind.{ErrorKind}
@@ -14,6 +15,7 @@ use Rattle.modemctl.specs.Dialects.{IsShut}
 use Rattle.modemctl.specs.Drives.{PrintsDrive}
 use Rattle.modemctl.specs.Files.{NamesCause}
 use Rattle.modemctl.specs.Sims.{IsNotBegun, LeavesClient, RefusesClient, ServesClient, files_given}
+use Rattle.modemctl.specs.SimData.{AreForSim, LeavesData, SaysNoPaths, ServesData, names_files}
 use Rattle.modemctl.specs.Shows.{IsShutFile, PrintsShow, SaysUnshown, TellsShow, all_in}
 use Rattle.modemctl.proofs.ShownFiles.{not_shown}
 use Rattle.modemctl.proofs.words.run.Goals as goal
@@ -57,7 +59,7 @@ pub returns-in-Ok-try_get_matches_from-clause-sim :
     goal.returns-in-Ok-try_get_matches_from-clause-sim
 returns-in-Ok-try_get_matches_from-clause-sim g c zero for =
     subst (λ (m : Option (Text × List Row)). ServesClient (g.R.TextFiles.text_of c.args.rt.now) m (g.I.Read.remaining c.args.input.now) (g.W.Write.contents c.args.output.now) (g.W.Write.contents c.run_named.new.output)) (met c.in-Ok-try_get_matches_from.matches _ _ c.in-Ok.ensures (λ e. (c.in-Ok-try_get_matches_from.ensures.matches e).1))
-    (c.run_named.ensures.sim zero (named c.in-Ok-try_get_matches_from.matches _ _ c.in-Ok.ensures (λ e. (c.in-Ok-try_get_matches_from.ensures.matches e).1) ∙ for.1))
+    (c.run_named.ensures.sim zero (named c.in-Ok-try_get_matches_from.matches _ _ c.in-Ok.ensures (λ e. (c.in-Ok-try_get_matches_from.ensures.matches e).1) ∙ for.0.1) (ap names_files (met c.in-Ok-try_get_matches_from.matches _ _ c.in-Ok.ensures (λ e. (c.in-Ok-try_get_matches_from.ensures.matches e).1)) ∙ for.1))
 
 leaves : {I O : Type 0} (texts : Text → Option (List ℕ)) (a b : Option (Text × List Row)) (input rest before after told_before told_after : Option (List ℕ)) (was is : I) (old new : O) → a ≡ b
     → IsNotBegun (files_given a) was is old new told_before told_after ⊎ LeavesClient texts a input rest before after told_before told_after
@@ -71,17 +73,17 @@ pub returns-in-Ok-try_get_matches_from-clause-sim_left :
     goal.returns-in-Ok-try_get_matches_from-clause-sim_left
 returns-in-Ok-try_get_matches_from-clause-sim_left g c one for =
     leaves _ _ _ _ _ _ _ _ _ _ _ _ _ (met c.in-Ok-try_get_matches_from.matches _ _ c.in-Ok.ensures (λ e. (c.in-Ok-try_get_matches_from.ensures.matches e).1))
-    (c.run_named.ensures.sim_left one (named c.in-Ok-try_get_matches_from.matches _ _ c.in-Ok.ensures (λ e. (c.in-Ok-try_get_matches_from.ensures.matches e).1) ∙ for.1))
+    (c.run_named.ensures.sim_left one (named c.in-Ok-try_get_matches_from.matches _ _ c.in-Ok.ensures (λ e. (c.in-Ok-try_get_matches_from.ensures.matches e).1) ∙ for.0.1) (ap names_files (met c.in-Ok-try_get_matches_from.matches _ _ c.in-Ok.ensures (λ e. (c.in-Ok-try_get_matches_from.ensures.matches e).1)) ∙ for.1))
 
 pub returns-in-Ok-try_get_matches_from-clause-sim_bad :
     goal.returns-in-Ok-try_get_matches_from-clause-sim_bad
 returns-in-Ok-try_get_matches_from-clause-sim_bad g c two for =
     subst (λ (m : Option (Text × List Row)). RefusesClient (g.R.TextFiles.text_of c.args.rt.now) m (g.E.Write.contents c.args.faults.now) (g.E.Write.contents c.run_named.new.faults)) (met c.in-Ok-try_get_matches_from.matches _ _ c.in-Ok.ensures (λ e. (c.in-Ok-try_get_matches_from.ensures.matches e).1))
-    (c.run_named.ensures.sim_bad two (named c.in-Ok-try_get_matches_from.matches _ _ c.in-Ok.ensures (λ e. (c.in-Ok-try_get_matches_from.ensures.matches e).1) ∙ for.1))
+    (c.run_named.ensures.sim_bad two (named c.in-Ok-try_get_matches_from.matches _ _ c.in-Ok.ensures (λ e. (c.in-Ok-try_get_matches_from.ensures.matches e).1) ∙ for.0.1) (ap names_files (met c.in-Ok-try_get_matches_from.matches _ _ c.in-Ok.ensures (λ e. (c.in-Ok-try_get_matches_from.ensures.matches e).1)) ∙ for.1))
 
 pub returns-in-Err-try_get_matches_from-clause-silent :
     goal.returns-in-Err-try_get_matches_from-clause-silent
-returns-in-Err-try_get_matches_from-clause-silent g c zero other = c.explain.ensures.quiet zero
+returns-in-Err-try_get_matches_from-clause-silent g c zero no_drive no_files = c.explain.ensures.quiet zero
 
 pub returns-in-Ok-try_get_matches_from-clause-drive :
     goal.returns-in-Ok-try_get_matches_from-clause-drive
@@ -124,19 +126,72 @@ is_memory k kinds status has memory zero none =
 by_memory : (k : ErrorKind) (kinds : Kinds) → (k ≡ OutOfMemory) ⊎ IsAmong k kinds → kinds ≡ [] → k ≡ OutOfMemory
 by_memory k kinds has none = ⊎_elim (λ (m : k ≡ OutOfMemory). m) (λ (a : IsAmong k kinds). absurd (subst (IsAmong k) none a)) has
 
+-- without files where these would refute something
+without_files : (a b : Option (Text × List Row)) → a ≡ b → (names_files b ≡ true → ⊥) → names_files a ≡ false
+without_files a b same no_files = false_from_ne_true (names_files a) (λ names. no_files (sym (ap names_files same) ∙ names))
+
+pub returns-in-Ok-try_get_matches_from-clause-silent :
+    goal.returns-in-Ok-try_get_matches_from-clause-silent
+returns-in-Ok-try_get_matches_from-clause-silent g c zero no_drive no_files =
+    let right = at_program (λ kinds. kinds ≡ []) _ _ c.in-Ok.ensures c.in-Ok-try_get_matches_from.ensures.kinds in
+    let name = sym (named c.in-Ok-try_get_matches_from.matches _ _ c.in-Ok.ensures (λ e. (c.in-Ok-try_get_matches_from.ensures.matches e).1)) in
+    c.run_named.ensures.silent zero (λ is. no_drive (right, name ∙ is)) (λ is. without_files _ _ (met c.in-Ok-try_get_matches_from.matches _ _ c.in-Ok.ensures (λ e. (c.in-Ok-try_get_matches_from.ensures.matches e).1)) (λ names. no_files ((right, name ∙ is), names)))
+
 pub returns-in-Err-try_get_matches_from-clause-sim_left :
     goal.returns-in-Err-try_get_matches_from-clause-sim_left
 returns-in-Err-try_get_matches_from-clause-sim_left g c one for =
-    let memory = by_memory _ _ (at_program (λ kinds. HasKind kinds c.in-Err-try_get_matches_from.error) _ _ c.in-Ok.ensures c.in-Err-try_get_matches_from.ensures.kinds) for.0 in
+    let memory = by_memory _ _ (at_program (λ kinds. HasKind kinds c.in-Err-try_get_matches_from.error) _ _ c.in-Ok.ensures c.in-Err-try_get_matches_from.ensures.kinds) for.0.0 in
     inl (record { unread = refl; nothing = c.explain.ensures.silent memory; said = inl (c.explain.ensures.cause memory) })
 
 pub returns-in-Err-clause-sim_left : goal.returns-in-Err-clause-sim_left
 returns-in-Err-clause-sim_left g c one for = inl (record { unread = refl; nothing = refl; said = inl c.give_up.ensures.said })
 
+pub returns-in-Ok-try_get_matches_from-clause-sim_data :
+    goal.returns-in-Ok-try_get_matches_from-clause-sim_data
+returns-in-Ok-try_get_matches_from-clause-sim_data g c zero for =
+    subst (λ (m : Option (Text × List Row)). ServesData (all_in m (codes "data")) (g.E.Write.contents c.args.faults.now) (g.E.Write.contents c.run_named.new.faults)) (met c.in-Ok-try_get_matches_from.matches _ _ c.in-Ok.ensures (λ e. (c.in-Ok-try_get_matches_from.ensures.matches e).1))
+    (c.run_named.ensures.sim_data zero (named c.in-Ok-try_get_matches_from.matches _ _ c.in-Ok.ensures (λ e. (c.in-Ok-try_get_matches_from.ensures.matches e).1) ∙ for.0.1) (ap names_files (met c.in-Ok-try_get_matches_from.matches _ _ c.in-Ok.ensures (λ e. (c.in-Ok-try_get_matches_from.ensures.matches e).1)) ∙ for.1))
+
+pub returns-in-Ok-try_get_matches_from-clause-sim_data_left :
+    goal.returns-in-Ok-try_get_matches_from-clause-sim_data_left
+returns-in-Ok-try_get_matches_from-clause-sim_data_left g c one for =
+    subst (λ (m : Option (Text × List Row)). LeavesData (files_given m) (all_in m (codes "data")) c.args.output.now c.run_named.new.output (g.E.Write.contents c.args.faults.now) (g.E.Write.contents c.run_named.new.faults)) (met c.in-Ok-try_get_matches_from.matches _ _ c.in-Ok.ensures (λ e. (c.in-Ok-try_get_matches_from.ensures.matches e).1))
+    (c.run_named.ensures.sim_data_left one (named c.in-Ok-try_get_matches_from.matches _ _ c.in-Ok.ensures (λ e. (c.in-Ok-try_get_matches_from.ensures.matches e).1) ∙ for.0.1) (ap names_files (met c.in-Ok-try_get_matches_from.matches _ _ c.in-Ok.ensures (λ e. (c.in-Ok-try_get_matches_from.ensures.matches e).1)) ∙ for.1))
+
+pub returns-in-Ok-try_get_matches_from-clause-sim_data_bad :
+    goal.returns-in-Ok-try_get_matches_from-clause-sim_data_bad
+returns-in-Ok-try_get_matches_from-clause-sim_data_bad g c two for =
+    subst (λ (m : Option (Text × List Row)). SaysNoPaths (g.E.Write.contents c.args.faults.now) (g.E.Write.contents c.run_named.new.faults) ⊎ RefusesClient (g.R.TextFiles.text_of c.args.rt.now) m (g.E.Write.contents c.args.faults.now) (g.E.Write.contents c.run_named.new.faults)) (met c.in-Ok-try_get_matches_from.matches _ _ c.in-Ok.ensures (λ e. (c.in-Ok-try_get_matches_from.ensures.matches e).1))
+    (c.run_named.ensures.sim_data_bad two (named c.in-Ok-try_get_matches_from.matches _ _ c.in-Ok.ensures (λ e. (c.in-Ok-try_get_matches_from.ensures.matches e).1) ∙ for.0.1) (ap names_files (met c.in-Ok-try_get_matches_from.matches _ _ c.in-Ok.ensures (λ e. (c.in-Ok-try_get_matches_from.ensures.matches e).1)) ∙ for.1))
+
+pub returns-in-Ok-try_get_matches_from-clause-sim_data_unread :
+    goal.returns-in-Ok-try_get_matches_from-clause-sim_data_unread
+returns-in-Ok-try_get_matches_from-clause-sim_data_unread g c for = c.run_named.ensures.sim_data_unread (named c.in-Ok-try_get_matches_from.matches _ _ c.in-Ok.ensures (λ e. (c.in-Ok-try_get_matches_from.ensures.matches e).1) ∙ for.0.1) (ap names_files (met c.in-Ok-try_get_matches_from.matches _ _ c.in-Ok.ensures (λ e. (c.in-Ok-try_get_matches_from.ensures.matches e).1)) ∙ for.1)
+
+pub returns-in-Err-try_get_matches_from-clause-sim_data :
+    goal.returns-in-Err-try_get_matches_from-clause-sim_data
+returns-in-Err-try_get_matches_from-clause-sim_data g c zero for =
+    absurd (is_memory _ _ _ (at_program (λ kinds. HasKind kinds c.in-Err-try_get_matches_from.error) _ _ c.in-Ok.ensures c.in-Err-try_get_matches_from.ensures.kinds) c.explain.ensures.memory zero for.0.0)
+
+pub returns-in-Err-try_get_matches_from-clause-sim_data_left :
+    goal.returns-in-Err-try_get_matches_from-clause-sim_data_left
+returns-in-Err-try_get_matches_from-clause-sim_data_left g c one for =
+    let memory = by_memory _ _ (at_program (λ kinds. HasKind kinds c.in-Err-try_get_matches_from.error) _ _ c.in-Ok.ensures c.in-Err-try_get_matches_from.ensures.kinds) for.0.0 in
+    inl (c.explain.ensures.silent memory, inl (c.explain.ensures.cause memory))
+
+pub returns-in-Err-try_get_matches_from-clause-sim_data_bad :
+    goal.returns-in-Err-try_get_matches_from-clause-sim_data_bad
+returns-in-Err-try_get_matches_from-clause-sim_data_bad g c two for =
+    let one = c.explain.ensures.memory (by_memory _ _ (at_program (λ kinds. HasKind kinds c.in-Err-try_get_matches_from.error) _ _ c.in-Ok.ensures c.in-Err-try_get_matches_from.ensures.kinds) for.0.0) in
+    absurd (omega (arith, one, two))
+
+pub returns-in-Err-clause-sim_data_left : goal.returns-in-Err-clause-sim_data_left
+returns-in-Err-clause-sim_data_left g c one for = inl (refl, inl c.give_up.ensures.said)
+
 pub returns-in-Err-try_get_matches_from-clause-sim_bad :
     goal.returns-in-Err-try_get_matches_from-clause-sim_bad
 returns-in-Err-try_get_matches_from-clause-sim_bad g c two for =
-    let memory = by_memory _ _ (at_program (λ kinds. HasKind kinds c.in-Err-try_get_matches_from.error) _ _ c.in-Ok.ensures c.in-Err-try_get_matches_from.ensures.kinds) for.0 in
+    let memory = by_memory _ _ (at_program (λ kinds. HasKind kinds c.in-Err-try_get_matches_from.error) _ _ c.in-Ok.ensures c.in-Err-try_get_matches_from.ensures.kinds) for.0.0 in
     let one = c.explain.ensures.memory memory in
     absurd (omega (arith, one, two))
 
@@ -157,7 +212,7 @@ returns-in-Err-try_get_matches_from-clause-bad g c two other = c.explain.ensures
 pub returns-in-Err-try_get_matches_from-clause-sim :
     goal.returns-in-Err-try_get_matches_from-clause-sim
 returns-in-Err-try_get_matches_from-clause-sim g c zero for =
-    absurd (is_memory _ _ _ (at_program (λ kinds. HasKind kinds c.in-Err-try_get_matches_from.error) _ _ c.in-Ok.ensures c.in-Err-try_get_matches_from.ensures.kinds) c.explain.ensures.memory zero for.0)
+    absurd (is_memory _ _ _ (at_program (λ kinds. HasKind kinds c.in-Err-try_get_matches_from.error) _ _ c.in-Ok.ensures c.in-Err-try_get_matches_from.ensures.kinds) c.explain.ensures.memory zero for.0.0)
 
 pub returns-in-Err-try_get_matches_from-clause-drive :
     goal.returns-in-Err-try_get_matches_from-clause-drive
@@ -368,102 +423,3 @@ pub returns-in-Ok-try_get_matches_from-clause-others :
     goal.returns-in-Ok-try_get_matches_from-clause-others
 returns-in-Ok-try_get_matches_from-clause-others g c other =
     c.run_named.ensures.others (λ is. other (at_program (λ kinds. kinds ≡ []) _ _ c.in-Ok.ensures c.in-Ok-try_get_matches_from.ensures.kinds, sym (named c.in-Ok-try_get_matches_from.matches _ _ c.in-Ok.ensures (λ e. (c.in-Ok-try_get_matches_from.ensures.matches e).1)) ∙ is))
-
--- ## Rows
-
-bench_alone : fault_in (codes "modemctl" ∷ codes "bench" ∷ []) ≡ []
-unfolding clap_on_literals
-bench_alone = refl
-
-bench_with_most : fault_in (codes "modemctl" ∷ codes "bench" ∷ codes "--callers" ∷ codes "8" ∷ codes "--cut" ∷ codes "4096" ∷ []) ≡ []
-unfolding clap_on_literals
-bench_with_most = refl
-
-bench_with_nine : fault_in (codes "modemctl" ∷ codes "bench" ∷ codes "--callers" ∷ codes "9" ∷ []) ≢ []
-unfolding clap_on_literals
-bench_with_nine e = cc
-
-frames_alone : fault_in (codes "modemctl" ∷ codes "frames" ∷ []) ≡ []
-unfolding clap_on_literals
-frames_alone = refl
-
-frames_named : named_in (codes "modemctl" ∷ codes "frames" ∷ []) ≡ Some (codes "frames")
-unfolding clap_on_literals
-frames_named = refl
-
-replay_with_most : fault_in (codes "modemctl" ∷ codes "replay" ∷ codes "--n1" ∷ codes "32767" ∷ []) ≡ []
-unfolding clap_on_literals
-replay_with_most = refl
-
-replay_with_less : fault_in (codes "modemctl" ∷ codes "replay" ∷ codes "--n1" ∷ codes "30" ∷ []) ≢ []
-unfolding clap_on_literals
-replay_with_less e = cc
-
-no_word : fault_in (codes "modemctl" ∷ []) ≢ []
-unfolding clap_on_literals
-no_word e = cc
-
-n1_of_words : text_in (met_in (codes "modemctl" ∷ codes "replay" ∷ codes "--n1" ∷ codes "2000" ∷ [])) (codes "n1") ≡ Some (codes "2000")
-unfolding clap_on_literals
-n1_of_words = refl
-
-n1_by_default : text_in (met_in (codes "modemctl" ∷ codes "frames" ∷ [])) (codes "n1") ≡ Some (codes "31")
-unfolding clap_on_literals
-n1_by_default = refl
-
-with_a_plus : fault_in (codes "modemctl" ∷ codes "replay" ∷ codes "--n1" ∷ codes "+31" ∷ []) ≡ []
-unfolding clap_on_literals
-with_a_plus = refl
-
-text_with_a_plus : text_in (met_in (codes "modemctl" ∷ codes "replay" ∷ codes "--n1" ∷ codes "+31" ∷ [])) (codes "n1") ≡ Some (codes "+31")
-unfolding clap_on_literals
-text_with_a_plus = refl
-
-drive_with_device : fault_in (codes "modemctl" ∷ codes "drive" ∷ codes "/dev/ttyUSB2" ∷ []) ≡ []
-unfolding clap_on_literals
-drive_with_device = refl
-
-drive_alone : fault_in (codes "modemctl" ∷ codes "drive" ∷ []) ≢ []
-unfolding clap_on_literals
-drive_alone e = cc
-
-entry_of_words : raw_in (met_in (codes "modemctl" ∷ codes "drive" ∷ codes "--entry" ∷ codes "AT+CMUX=0,0,5" ∷ codes "/dev/ttyUSB2" ∷ [])) (codes "entry") ≡ Some (codes "AT+CMUX=0,0,5")
-unfolding clap_on_literals
-entry_of_words = refl
-
-explained_by_words : is_explained false (met_in (codes "modemctl" ∷ codes "bench" ∷ codes "--explain" ∷ [])) ≡ true
-unfolding clap_on_literals
-explained_by_words = refl
-
-explained_nowhere : is_explained false (met_in (codes "modemctl" ∷ codes "bench" ∷ [])) ≡ false
-unfolding clap_on_literals
-explained_nowhere = refl
-
-show_with_file : fault_in (codes "modemctl" ∷ codes "show" ∷ codes "--strict" ∷ codes "--data" ∷ codes "3" ∷ codes "--data" ∷ codes "5" ∷ codes "a.pcap" ∷ []) ≡ []
-unfolding clap_on_literals
-show_with_file = refl
-
-show_alone : fault_in (codes "modemctl" ∷ codes "show" ∷ []) ≢ []
-unfolding clap_on_literals
-show_alone e = cc
-
-show_with_0 : fault_in (codes "modemctl" ∷ codes "show" ∷ codes "--data" ∷ codes "0" ∷ codes "a.pcap" ∷ []) ≢ []
-unfolding clap_on_literals
-show_with_0 e = cc
-
-data_of_words : all_in (met_in (codes "modemctl" ∷ codes "show" ∷ codes "--data" ∷ codes "3" ∷ codes "--data" ∷ codes "5" ∷ codes "a.pcap" ∷ [])) (codes "data") ≡ Some (codes "3" ∷ codes "5" ∷ [])
-unfolding clap_on_literals
-data_of_words = refl
-
-raw_of_words : raw_in (met_in (codes "modemctl" ∷ codes "show" ∷ codes "--raw" ∷ codes "from" ∷ codes "to" ∷ [])) (codes "raw") ≡ Some (codes "from")
-unfolding clap_on_literals
-raw_of_words = refl
-
-to_behind_raw : raw_in (met_in (codes "modemctl" ∷ codes "show" ∷ codes "--raw" ∷ codes "from" ∷ codes "to" ∷ [])) (codes "file") ≡ Some (codes "to")
-unfolding clap_on_literals
-to_behind_raw = refl
-
-pub returns-in-Ok-try_get_matches_from-clause-silent :
-    goal.returns-in-Ok-try_get_matches_from-clause-silent
-returns-in-Ok-try_get_matches_from-clause-silent g c zero other =
-    c.run_named.ensures.silent zero (λ is. other (at_program (λ kinds. kinds ≡ []) _ _ c.in-Ok.ensures c.in-Ok-try_get_matches_from.ensures.kinds, sym (named c.in-Ok-try_get_matches_from.matches _ _ c.in-Ok.ensures (λ e. (c.in-Ok-try_get_matches_from.ensures.matches e).1)) ∙ is))

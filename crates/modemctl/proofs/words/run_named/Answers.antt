@@ -1,6 +1,6 @@
 -- What was printed, by the numbers that the matches of the subcommand give.
-use Rattle.std.proofs.Common.{◌≡◌, ◌∙◌, ◌⊎◌, ◌||◌, ⊎_elim, ℕ, Bool, ap, arith, is_some, sym, subst, inl, inr, List, Option, None, Some, option_map, codes, refl, true}
-use Rattle.clap.specs.Words.{Row, Text, all_of, first_of, first_value, found_of, matched_of, one_of, one_text, raw_values, rows_of, subcommand_rows_of}
+use Rattle.std.proofs.Common.{◌≡◌, ◌∙◌, ◌⊎◌, ◌||◌, ⊎_elim, ℕ, Bool, ap, arith, is_some, rules, sym, subst, inl, inr, List, Option, None, Some, option_map, codes, refl, true}
+use Rattle.clap.specs.Words.{Row, Text, all_of, first_of, first_value, found_of, one_of, one_text, rows_of, subcommand_rows_of}
 use Rattle.clap.specs.declared.ArgMatches.{ArgMatches}
 use Rattle.clap.proofs.WalkLemmas.{first_value-rows, one_text-rows, raw_values-rows}
 use Rattle.modemctl.specs.Words.{HasNoNumber, IsGiven, IsNoNumber, IsNumberOf, is_explained, is_set, raw_in, text_in}
@@ -8,12 +8,13 @@ use Rattle.ctl_run.specs.Stopping.{HasGivenUp}
 use Rattle.ctl_sim.specs.declared.serving.SimOptions.{SimOptions}
 use Rattle.ctl_sim.specs.Watching.{CapturesClient}
 use Rattle.modemctl.specs.Benches.{AreGiven, AreMatched, AreOwn, AreScripted, IsFlag}
-use Rattle.modemctl.specs.Sims.{FailsClient, HasBadMatched, IsNotBegun, LeavesClient, LeavesWith, RefusesClient, SaysBadAnswer, SaysBadStep, SimFiles, files_given, files_matched}
+use Rattle.modemctl.specs.Sims.{FailsClient, IsNotBegun, LeavesClient, LeavesWith, RefusesClient, RefusesWith, SaysBadFile, SimFiles, files_given, files_matched}
 use Rattle.ctl_drive.specs.Entry.{entry_for}
 use Rattle.modemctl.specs.Dialects.{IsGivenDialect, IsShut, PrintsActs}
 use Rattle.modemctl.specs.Drives.{DrivesWith, IsDriveDialect, PrintsDrive, RanGiven}
 use Rattle.modemctl.specs.Files.{NamesCause}
-use Rattle.modemctl.specs.Shows.{AreChannels, AreWanted, AreWantedBy, IsShutFile, PrintsShow, SaysUnshown, ShowsFiles, ShowsWith, TellsShow, all_in}
+use Rattle.modemctl.specs.SimData.{LeavesData, SaysNoPaths, ServesData, gives_some, names_files}
+use Rattle.modemctl.specs.Shows.{AreChannels, AreWanted, AreWantedBy, IsShutFile, PrintsShow, SaysUnshown, ShowsFiles, ShowsWith, TellsShow, all_in, given_for}
 use Rattle.show_texts.specs.Progress.{ProgressState}
 use Rattle.show_texts.specs.declared.run.ShowOptions.{ShowOptions}
 use Rattle.modemctl.proofs.ShownFiles.{not_shown}
@@ -108,15 +109,28 @@ are_given texts top m n1 options rows number matched = record {
   answers_given = subst (λ (t : Option Text). AreOwn texts t options.answers) (word_given top m (codes "answers") rows) matched.answers_are;
 }
 
+of_all : (met : Option (Text × List Row)) (rows : List Row) (option : Text) → Some rows ≡ option_map (λ p. p.1) met → all_of option rows ≡ all_in met option
+of_all None rows option e = cc
+of_all (Some p) rows option e = let same : Some rows ≡ Some p.1 = e in let rows_are : rows ≡ p.1 = cc in ap (all_of option) rows_are
+
+-- all that the words give for an option
+words_given : (top m : ArgMatches) (option : Text) → Some (rows_of (found_of m)) ≡ option_map (λ p. p.1) (subcommand_rows_of top)
+    → given_for m option ≡ all_in (subcommand_rows_of top) option
+words_given top m option e = raw_values-rows (found_of m) option ∙ of_all (subcommand_rows_of top) (rows_of (found_of m)) option e
+
+-- whether the words name files beside connections
+files_named : (top m : ArgMatches) → Some (rows_of (found_of m)) ≡ option_map (λ p. p.1) (subcommand_rows_of top) → gives_some (given_for m (codes "data")) ≡ names_files (subcommand_rows_of top)
+files_named top m rows = ap gives_some (words_given top m (codes "data") rows)
+
 pub returns-in-sim-clause-sim : goal.returns-in-sim-clause-sim
-returns-in-sim-clause-sim g c zero named =
-    let serves = c.sim_words.ensures.served zero in
+returns-in-sim-clause-sim g c zero named none =
+    let serves = c.sim_any.ensures.served zero (files_named c.args.matches.now c.in-Some.given.now c.in-Some.ensures.rows ∙ none) in
     record {
       options = serves.options;
       given = are_given (g.R.TextFiles.text_of c.args.rt.now) c.args.matches.now c.in-Some.given.now c.in-Ok.numbers.n1 serves.options c.in-Some.ensures.rows c.in-Ok.ensures.n1 serves.matched;
       served = serves.served;
       captured =
-          subst (λ (t : Option Text). CapturesClient (is_some t) serves.options (g.I.Read.remaining c.args.input.now) (g.W.Write.contents c.args.output.now) (g.W.Write.contents c.sim_words.new.output))
+          subst (λ (t : Option Text). CapturesClient (is_some t) serves.options (g.I.Read.remaining c.args.input.now) (g.W.Write.contents c.args.output.now) (g.W.Write.contents c.sim_any.new.output))
           (word_given c.args.matches.now c.in-Some.given.now (codes "capture") c.in-Some.ensures.rows) serves.captured;
     }
 
@@ -136,34 +150,59 @@ leaves_client texts top m n1 input rest before after told_before told_after was 
 })
 
 pub returns-in-sim-clause-sim_left : goal.returns-in-sim-clause-sim_left
-returns-in-sim-clause-sim_left g c one named =
-    leaves_client (g.R.TextFiles.text_of c.args.rt.now) c.args.matches.now c.in-Some.given.now c.in-Ok.numbers.n1 _ _ _ _ _ _ _ _ _ _ c.in-Some.ensures.rows c.in-Ok.ensures.n1 (c.sim_words.ensures.left one)
+returns-in-sim-clause-sim_left g c one named none =
+    leaves_client (g.R.TextFiles.text_of c.args.rt.now) c.args.matches.now c.in-Some.given.now c.in-Ok.numbers.n1 _ _ _ _ _ _ _ _ _ _ c.in-Some.ensures.rows c.in-Ok.ensures.n1 (c.sim_any.ensures.left one (files_named c.args.matches.now c.in-Some.given.now c.in-Some.ensures.rows ∙ none))
 
 refuses_client : (texts : Text → Option (List ℕ)) (top m : ArgMatches) (n1 : ℕ) (told_before told_after : Option (List ℕ)) → Some (rows_of (found_of m)) ≡ option_map (λ p. p.1) (subcommand_rows_of top) → IsNumberOf 31 (one_text (found_of m) (codes "n1")) n1
-    → SaysBadStep texts (first_value (found_of m) (codes "script")) told_before told_after
-    ⊎ (SaysBadAnswer texts (first_value (found_of m) (codes "answers")) told_before told_after ⊎ HasBadMatched texts n1 m told_before told_after)
-    → RefusesClient texts (subcommand_rows_of top) told_before told_after
-refuses_client texts top m n1 told_before told_after rows number (inl step) =
-    inr (inl (subst (λ (t : Option Text). SaysBadStep texts t told_before told_after) (word_given top m (codes "script") rows) step))
-refuses_client texts top m n1 told_before told_after rows number (inr (inl answer)) =
-    inr (inr (inl (subst (λ (t : Option Text). SaysBadAnswer texts t told_before told_after) (word_given top m (codes "answers") rows) answer)))
-refuses_client texts top m n1 told_before told_after rows number (inr (inr bad)) = inr (inr (inr (record { options = bad.options; given = are_given texts top m n1 bad.options rows number bad.matched; says = bad.says })))
+    → RefusesWith texts n1 m told_before told_after → RefusesClient texts (subcommand_rows_of top) told_before told_after
+refuses_client texts top m n1 told_before told_after rows number (inl line) = inr (inl (subst (λ (f : SimFiles). SaysBadFile texts f told_before told_after) (same_files top m rows) line))
+refuses_client texts top m n1 told_before told_after rows number (inr bad) = inr (inr (record { options = bad.options; given = are_given texts top m n1 bad.options rows number bad.matched; says = bad.says }))
 
 pub returns-in-sim-clause-sim_bad : goal.returns-in-sim-clause-sim_bad
-returns-in-sim-clause-sim_bad g c two named =
-    refuses_client (g.R.TextFiles.text_of c.args.rt.now) c.args.matches.now c.in-Some.given.now c.in-Ok.numbers.n1 _ _ c.in-Some.ensures.rows c.in-Ok.ensures.n1 (c.sim_words.ensures.told two)
+returns-in-sim-clause-sim_bad g c two named none =
+    refuses_client (g.R.TextFiles.text_of c.args.rt.now) c.args.matches.now c.in-Some.given.now c.in-Ok.numbers.n1 _ _ c.in-Some.ensures.rows c.in-Ok.ensures.n1 (c.sim_any.ensures.told two (files_named c.args.matches.now c.in-Some.given.now c.in-Some.ensures.rows ∙ none))
+
+pub returns-in-sim-clause-sim_data : goal.returns-in-sim-clause-sim_data
+returns-in-sim-clause-sim_data g c zero named some =
+    subst (λ (t : Option (List Text)). ServesData t (g.E.Write.contents c.args.faults.now) (g.E.Write.contents c.sim_any.new.faults))
+    (words_given c.args.matches.now c.in-Some.given.now (codes "data") c.in-Some.ensures.rows)
+    (c.sim_any.ensures.served_data zero (files_named c.args.matches.now c.in-Some.given.now c.in-Some.ensures.rows ∙ some))
+
+leaves_data : {O : Type 0} (top m : ArgMatches) (old new : O) (told_before told_after : Option (List ℕ)) → Some (rows_of (found_of m)) ≡ option_map (λ p. p.1) (subcommand_rows_of top)
+    → LeavesData (files_matched m) (given_for m (codes "data")) old new told_before told_after
+    → LeavesData (files_given (subcommand_rows_of top)) (all_in (subcommand_rows_of top) (codes "data")) old new told_before told_after
+leaves_data top m old new told_before told_after rows leaves =
+    subst (λ (t : SimFiles × Option (List Text)). LeavesData t.0 t.1 old new told_before told_after)
+    (λ i. (same_files top m rows i, words_given top m (codes "data") rows i)) leaves
+
+pub returns-in-sim-clause-sim_data_left : goal.returns-in-sim-clause-sim_data_left
+returns-in-sim-clause-sim_data_left g c one named some =
+    leaves_data c.args.matches.now c.in-Some.given.now _ _ _ _ c.in-Some.ensures.rows
+    (c.sim_any.ensures.left_data one (files_named c.args.matches.now c.in-Some.given.now c.in-Some.ensures.rows ∙ some))
+
+no_paths_or : (texts : Text → Option (List ℕ)) (top m : ArgMatches) (n1 : ℕ) (told_before told_after : Option (List ℕ)) → Some (rows_of (found_of m)) ≡ option_map (λ p. p.1) (subcommand_rows_of top) → IsNumberOf 31 (one_text (found_of m) (codes "n1")) n1
+    → SaysNoPaths told_before told_after ⊎ RefusesWith texts n1 m told_before told_after
+    → SaysNoPaths told_before told_after ⊎ RefusesClient texts (subcommand_rows_of top) told_before told_after
+no_paths_or texts top m n1 told_before told_after rows number (inl none) = inl none
+no_paths_or texts top m n1 told_before told_after rows number (inr refuses) = inr (refuses_client texts top m n1 told_before told_after rows number refuses)
+
+pub returns-in-sim-clause-sim_data_bad : goal.returns-in-sim-clause-sim_data_bad
+returns-in-sim-clause-sim_data_bad g c two named some =
+    no_paths_or (g.R.TextFiles.text_of c.args.rt.now) c.args.matches.now c.in-Some.given.now c.in-Ok.numbers.n1 _ _ c.in-Some.ensures.rows c.in-Ok.ensures.n1
+    (c.sim_any.ensures.told_data two (files_named c.args.matches.now c.in-Some.given.now c.in-Some.ensures.rows ∙ some))
+
+pub returns-in-sim-clause-sim_data_unread : goal.returns-in-sim-clause-sim_data_unread
+returns-in-sim-clause-sim_data_unread g c named some = c.sim_any.ensures.unread (files_named c.args.matches.now c.in-Some.given.now c.in-Some.ensures.rows ∙ some)
+
+pub returns-in-sim-clause-silent : goal.returns-in-sim-clause-silent
+returns-in-sim-clause-silent g c zero no_drive none_for =
+    c.sim_any.ensures.silent zero (files_named c.args.matches.now c.in-Some.given.now c.in-Some.ensures.rows ∙ none_for (search rules))
 
 pub returns-in-Err-clause-sim_bad : goal.returns-in-Err-clause-sim_bad
-returns-in-Err-clause-sim_bad g c two named = inl (record { option = _; said = c.refuse.ensures.said })
+returns-in-Err-clause-sim_bad g c two named none = inl (record { option = _; said = c.refuse.ensures.said })
 
-of_all : (met : Option (Text × List Row)) (rows : List Row) (option : Text) → Some rows ≡ option_map (λ p. p.1) met → all_of option rows ≡ all_in met option
-of_all None rows option e = cc
-of_all (Some p) rows option e = let same : Some rows ≡ Some p.1 = e in let rows_are : rows ≡ p.1 = cc in ap (all_of option) rows_are
-
--- all that the words give for an option
-words_given : (top m : ArgMatches) (option : Text) → Some (rows_of (found_of m)) ≡ option_map (λ p. p.1) (subcommand_rows_of top)
-    → option_map raw_values (matched_of (found_of m) option) ≡ all_in (subcommand_rows_of top) option
-words_given top m option e = raw_values-rows (found_of m) option ∙ of_all (subcommand_rows_of top) (rows_of (found_of m)) option e
+pub returns-in-Err-clause-sim_data_bad : goal.returns-in-Err-clause-sim_data_bad
+returns-in-Err-clause-sim_data_bad g c two named some = inr (inl (record { option = _; said = c.refuse.ensures.said }))
 
 prints_drive : (texts : Text → Option (List ℕ)) (top m : ArgMatches) (n1 : ℕ) (before after silent said : Option (List ℕ)) (was_bad : Bool) → Some (rows_of (found_of m)) ≡ option_map (λ p. p.1) (subcommand_rows_of top) → IsNumberOf 31 (one_text (found_of m) (codes "n1")) n1
     → DrivesWith texts n1 m before after silent said was_bad → PrintsDrive texts (subcommand_rows_of top) before after silent said was_bad
