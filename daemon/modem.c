@@ -10,10 +10,15 @@
 #include <stdlib.h>
 #include <string.h>
 #include <poll.h>
+#include <sys/ioctl.h>
 #include <termios.h>
 #include <unistd.h>
 
 enum { FIRST_WAIT = 200, LONGEST_WAIT = 10000, STEADY = 10000, AGAIN = 1000 };  /* milliseconds */
+
+/* Data is written while fewer octets than these wait in the terminal's own queue: a command that is asked then waits for these and one
+ * frame of data. Once fewer than 256 wait, poll(2) says that there is room. */
+enum { MOST_QUEUED = 512 };
 
 /* ---- The line ---- */
 
@@ -64,7 +69,7 @@ static void begin_line(struct modem *m, int fd, int64_t now)
 	}
 	tcflush(m->fd, TCIFLUSH);
 	m->in_at = m->in_length = m->out_at = m->out_length = m->given_at = m->given_length = 0;
-	m->is_blocked = false;
+	m->is_blocked = m->is_queue_long = false;
 	cimbaloty_frames_begin(&m->came, (uint16_t)o->n1);
 	cimbaloty_frames_begin(&m->went, (uint16_t)o->n1);
 	entry_begin(&m->entry, o, now);
@@ -80,6 +85,14 @@ static bool read_line(struct modem *m)
 	m->in_at = 0;
 	m->in_length = n > 0 ? (size_t)n : 0;
 	return n > 0 || (n < 0 && (errno == EAGAIN || errno == EINTR));
+}
+
+/* How many octets the terminal took and hasn't sent; 0 where it doesn't tell, as a pseudo-terminal. */
+static size_t queued(const struct modem *m)
+{
+	int count;
+
+	return ioctl(m->fd, TIOCOUTQ, &count) == 0 && count > 0 ? (size_t)count : 0;
 }
 
 /* Writes what waits; false where the line has ended. */
@@ -238,11 +251,22 @@ static bool put_out(struct modem *m)
 	return length > 0 && m->out_length < sizeof m->out;
 }
 
+/* Takes data for the line, while the terminal's queue is short. */
+static void put_data_out(struct modem *m)
+{
+	size_t before = queued(m);
+
+	do
+		m->is_queue_long = before + m->out_length >= MOST_QUEUED;
+	while (!m->is_queue_long && put_out(m));
+}
+
 /* Takes octets for the line: first all that the driver has, and data behind them. */
 static void fill_out_by_relay(struct modem *m)
 {
 	size_t taken;
 
+	m->is_queue_long = false;
 	for (;;) {
 		if (m->given_at == m->given_length) {
 			m->given_at = 0;
@@ -255,8 +279,7 @@ static void fill_out_by_relay(struct modem *m)
 		if (taken == 0 && !put_out(m))
 			return;
 	}
-	while (put_out(m))
-		;
+	put_data_out(m);
 }
 
 static void fill_out(struct modem *m)
@@ -480,7 +503,7 @@ void modem_end(struct modem *m)
 
 short modem_events(const struct modem *m)
 {
-	return (short)((m->in_at == m->in_length ? POLLIN : 0) | (m->out_length ? POLLOUT : 0));
+	return (short)((m->in_at == m->in_length ? POLLIN : 0) | (m->out_length || m->is_queue_long ? POLLOUT : 0));
 }
 
 int64_t modem_deadline(struct modem *m, int64_t now)

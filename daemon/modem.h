@@ -34,6 +34,7 @@ struct modem {
 	uint8_t in[4096], out[4096], given[1024];       /* given: what the driver gave, and the relay has to take */
 	size_t in_at, in_length, out_at, out_length, given_at, given_length;
 	bool is_blocked;        /* octets wait at the relay, for memory or for output to go first */
+	bool is_queue_long;     /* data may wait until the terminal has sent octets that it has */
 	uint64_t last;          /* the last number of a request */
 	size_t commands;        /* under way */
 	struct connection connections[CONNECTIONS + 1];

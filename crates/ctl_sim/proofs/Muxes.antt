@@ -7,7 +7,7 @@ use Rattle.mux_station.specs.declared.role.ChannelState.TheVariants.{Opened}
 use Rattle.mux_station.specs.Stages.{as_shown}
 use Rattle.mux_station.specs.States.{State, IsShut, IsOpening, IsOpened, IsClosing, IsStopping, is_opened, state_of}
 use Rattle.mux_station.proofs.states.OpenedStates.{opened_is_open}
-use Rattle.serial_line.specs.LineViews.{LineView}
+use Rattle.serial_line.specs.LineViews.{LineView, unused_line}
 use Rattle.modem_sim.specs.declared.sim.SimTurn.{SimTurn}
 use Rattle.modem_sim.specs.declared.sim.SimTurn.TheVariants.{Moved, Idle, Ended}
 use Rattle.modem_sim.specs.Acts.{Act, End, is_open_at_modem, wire}
@@ -19,7 +19,7 @@ use Rattle.modem_sim.specs.Sims.{IsOver, SimGoes, SimState, has_ended, modem_of,
 use Rattle.modem_sim.specs.Turns.{Exchange, GoesTurn, IsIdle, Means, TurnFrom, at_rest, has_done, is_over, line_is_full, stood_still}
 use Rattle.modem_sim.proofs.ends.OfferedPieces.{later_then}
 use Rattle.modem_sim.proofs.sims.SimPasts as pasts
-use Rattle.ctl_sim.specs.HeldLine.{HeldState, at_first, held_side, held_view}
+use Rattle.ctl_sim.specs.HeldLine.{HeldState, held_side, held_view}
 use Rattle.ctl_sim.specs.InMux.{is_closed_by}
 use Rattle.ctl_sim.specs.Muxes.{ComesToRest, FedTo, FitsHeld, FitsMux, IsDown, IsFed, Rests, RestsFrom, is_down}
 use Rattle.ctl_sim.specs.Muxes as muxes
@@ -36,11 +36,11 @@ pub comes_to_rest : (old new : SimState HeldState) → GoesTurn held_view old ne
 comes_to_rest old new turn none read = record {
   read = read;
   rests = λ e past fits.
-      let from = turn.turn at_first e past fits in
+      let from = turn.turn unused_line e past fits in
       rests_by e past from (idle_by held_view e from.fits.came from.fits.went old new turn.exchange from.later.newer from.now Idle refl from.means);
 }
   where
-    rests_by : (e : End) (past : List Act) → (from : TurnFrom held_view at_first e past old new turn.exchange Idle) → IsIdle e from.fits.came from.fits.went new.machine turn.exchange from.now → RestsFrom e past new
+    rests_by : (e : End) (past : List Act) → (from : TurnFrom held_view unused_line e past old new turn.exchange Idle) → IsIdle e from.fits.came from.fits.went new.machine turn.exchange from.now → RestsFrom e past new
     rests_by e past from (line_is_full held) = absurd (held.waits none)
     rests_by e past from (at_rest rest) = record {
       now = from.now;
@@ -56,7 +56,7 @@ pub rests_then : (a b c : SimState HeldState) → SimGoes held_view a b → Come
 rests_then a b c goes rest = record {
   read = rest.read;
   rests = λ e past fits.
-      let first = goes at_first e past fits in
+      let first = goes unused_line e past fits in
       let second = rest.rests e first.now first.fits in
       record {
         now = second.now;
@@ -173,7 +173,7 @@ record ClosesHere (e : End) (came went : List ℕ) (past : List Act) (s : SimSta
 closes_here : (e : End) (came went piece : List ℕ) (past : List Act) (a b : SimState HeldState) → FitsMux e came went a past → SimGoes held_view (handed_in a piece) b → held_side b.line ≡ held_side (handed_in a piece).line → has_ended b ≡ true → ClosesHere e (came ++ piece) (went ++ b.line.going) past b
 unfolding handed_in
 closes_here e came went piece past a b fits goes side ended =
-    let from = goes at_first e past (fits_in e a piece past fits.fits) in
+    let from = goes unused_line e past (fits_in e a piece past fits.fits) in
     let all = pasts.simulates e from.fits.came from.fits.went b.machine from.now from.fits.machine_fits in
     let over : IsOver from.fits.went from.now = pasts.is_over e from.fits.came from.fits.went b.machine from.now ended from.fits.machine_fits in
     let sent : from.fits.went ≡ went ++ b.line.going = sym from.fits.sent_is ∙ ap (λ (l : List ℕ). l ++ b.line.going) (taken_is b.line (handed_in a piece).line side ∙ fits.taken_is) in

@@ -38,7 +38,3 @@ held_view l = record {
   empty_reads = l.empty_reads;
   stalled_writes = l.stalled_writes;
 }
-
--- a line on which nothing had happened yet
-abbrev pub at_first : LineView
-at_first = held_view new_held

@@ -2,7 +2,7 @@
 ghost use Rattle.std.specs.Prelude.{◌≡◌, ◌&&◌, ◌||◌, [], not, true, false, IfErr, IfOk, List};
 ghost use Rattle.modem_sim.specs.Acts.{Act, End, is_open_at_modem};
 ghost use Rattle.modem_sim.specs.Sims.{SimGoes, has_ended};
-ghost use Rattle.ctl_sim.specs.HeldLine.{at_first, held_side, held_view};
+ghost use Rattle.ctl_sim.specs.HeldLine.{held_side, held_view};
 ghost use Rattle.ctl_sim.specs.InMux.{mux_end};
 ghost use Rattle.ctl_sim.specs.Leaving.{IsOfModem};
 ghost use Rattle.ctl_sim.specs.Muxes.{ComesToRest, FitsHeld, FitsMux, IsFed};

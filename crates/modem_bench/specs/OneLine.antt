@@ -2,6 +2,7 @@
 -- sent, and so their joint list is one line's.
 use Rattle.std.specs.Prelude.{◌≡◌, ℕ, ◌<◌, ◌≤◌, List, [], ◌∷◌, ◌++◌, take}
 use Rattle.serial_line.specs.CutLine.{CutState, after_carry, carried, cut_view, new_line, unmoved}
+use Rattle.serial_line.specs.LineViews.{unused_line}
 use Rattle.serial_line.specs.declared.cuts.Cut.{Cut}
 use Rattle.at_text.specs.declared.answer.AnswerLine.{AnswerLine}
 use Rattle.at_text.specs.Dialects.{standard}
@@ -72,10 +73,6 @@ StaysOneLine old new =
 
 -- ## The beginning
 
--- how a line stands on which nothing has happened
-abbrev pub at_nothing : LineView
-at_nothing = cut_view (new_line [] [] [] 0)
-
 -- a session and a simulated modem, just made with one N1, each at a new line without input, have the empty list
 unfoldable pub BeginsOnOneLine : Type 0
 BeginsOnOneLine =
@@ -85,8 +82,8 @@ BeginsOnOneLine =
     → s.line ≡ new_line [] near_reads near_writes near_room → s.driver ≡ d
     → FitsAll (beginning_of n1 (cut_view (new_line [] near_reads near_writes near_room)) d) cut_view s []
     → m.line ≡ new_line [] far_reads far_writes far_room
-    → FitsSim cut_view at_nothing (end_of n1 (started start) script) m []
-    → AreOnOneLine (beginning_of n1 (cut_view (new_line [] near_reads near_writes near_room)) d) at_nothing
+    → FitsSim cut_view unused_line (end_of n1 (started start) script) m []
+    → AreOnOneLine (beginning_of n1 (cut_view (new_line [] near_reads near_writes near_room)) d) unused_line
     (end_of n1 (started start) script) [] (pair s m)
 
 -- ## One modem

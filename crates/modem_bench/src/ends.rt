@@ -1,5 +1,5 @@
 //! What a bench begins with: a desk, a line, a session and a simulated modem.
-ghost use Rattle.std.specs.Prelude.{◌≡◌, [], false, None, IfOk, map};
+ghost use Rattle.std.specs.Prelude.{◌≡◌, [], IfOk, map};
 ghost use Rattle.modem_desk.specs.Ends.{AreSubscribed, IsWhole, Opened, subscription_of, place_of};
 ghost use Rattle.modem_driver.specs.SessionStates.{FitsAll, beginning_of};
 ghost use Rattle.modem_bench.specs.Driving.{IsBegun};

@@ -1,12 +1,13 @@
 //! What rounds begin with: a session and a simulated modem, each at a new line in memory.
 ghost use Rattle.std.specs.Prelude.{◌≡◌, [], IfOk, IsOkUnless};
 ghost use Rattle.serial_line.specs.CutLine.{cut_view, new_line};
+ghost use Rattle.serial_line.specs.LineViews.{unused_line};
 ghost use Rattle.modem_driver.specs.SessionStates.{FitsAll, beginning_of};
 ghost use Rattle.modem_sim.specs.Acts.{end_of};
 ghost use Rattle.modem_sim.specs.Laws.{IsStart};
 ghost use Rattle.modem_sim.specs.Sims.{FitsSim};
 ghost use Rattle.modem_sim.specs.Steps.{started};
-ghost use Rattle.modem_bench.specs.OneLine.{AreOnOneLine, at_nothing};
+ghost use Rattle.modem_bench.specs.OneLine.{AreOnOneLine};
 ghost use Rattle.modem_bench.specs.Rounds.{pair};
 
 use crate::signals::Fault;
@@ -69,7 +70,7 @@ fn far_end(
     ensures memory { IsOkUnless result Fault.NoMemory }
     ensures is_start { IsStart start }
     ensures begins { IfOk result (λ m.
-        FitsSim cut_view at_nothing (end_of n1.octets (started start) script) m []) }
+        FitsSim cut_view unused_line (end_of n1.octets (started start) script) m []) }
     ensures line { IfOk result (λ m. m.line ≡ new_line [] [] [] room) }
 {
     let line = make_line(alloc, room)?;
@@ -93,7 +94,7 @@ pub fn meet<R: Wait + Drop>(
 ) -> Result<Meeting<R>, Fault>
     ensures memory { IsOkUnless result Fault.NoMemory }
     ensures on { IfOk result (λ m.
-        AreOnOneLine (beginning_of n1.octets (cut_view (new_line [] [] [] room)) driver) at_nothing
+        AreOnOneLine (beginning_of n1.octets (cut_view (new_line [] [] [] room)) driver) unused_line
         (end_of n1.octets (started start) script) [] (pair m.session m.sim)) }
 {
     let session = near_end(rt, alloc, driver, n1, room)?;

@@ -7,7 +7,7 @@ use Rattle.modem_sim.specs.Histories.{got, sent}
 use Rattle.modem_sim.specs.Sims.{FitsSim, SimMachine, SimState}
 use Rattle.modem_sim.specs.LineSteps.{repeats}
 use Rattle.modem_sim.specs.declared.state.ModemState.{ModemState}
-use Rattle.serial_line.specs.LineViews.{LineView}
+use Rattle.serial_line.specs.LineViews.{LineView, unused_line}
 use Rattle.modem_data.specs.Switching.{is_connect}
 use Rattle.modem_data.specs.Hops.{Relay, Hop}
 use Rattle.modem_data_endpoint.specs.Beside.{TellsBehind}
@@ -25,7 +25,7 @@ pub record StandsBehind (n1 : ℕ) (k : SimMachine) (r : Relay) (hops : List Hop
 unfoldable pub TellsSim : {X : Type 0} (look : X → LineView) → Type 0
 TellsSim {X} look =
     (n1 : ℕ) (ds : List ℕ) (before : Before) (e : End) (s : SimState (DataLineState X)) (past : List Act) (hops : List Hop) → n1 ≤ 32767 → e.n1 ≡ n1
-    → FitsSim data_view (record { received = []; sent = []; calls = 0; failures = 0; empty_reads = 0; stalled_writes = 0 }) e s past
+    → FitsSim data_view unused_line e s past
     → LineFits look Responder n1 ds before s.line hops → StandsBehind n1 s.machine s.line.relay hops past
 
 -- No line is a CONNECT that a modem with words repeats, where it isn't to repeat all.

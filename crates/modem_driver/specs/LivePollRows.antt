@@ -1,5 +1,6 @@
 -- A session that has just begun, and what isn't a poll of it.
 use Rattle.std.specs.Prelude.{◌≡◌, ℕ, ◌+◌, ◌-◌, ◌^◌, ◌<◌, ◌≤◌, Bool, true, false, List, [], ◌∷◌, length, filter, replicate, None, Result, Ok}
+use Rattle.serial_line.specs.LineViews.{unused_line}
 use Rattle.modem_desk.specs.Ends.{DeskId}
 use Rattle.modem_history.specs.Acts.{Act, Tick}
 use Rattle.modem_history.specs.Sessions.{Beginning, LineView}
@@ -10,7 +11,7 @@ use Rattle.modem_driver.specs.declared.session.polling.Progress.TheVariants as p
 use Rattle.modem_driver.specs.SessionStates.{SessionState, FitsAll, Ticks, beginning_of, new_machine}
 use Rattle.modem_driver.specs.Polls.{PollsOn, RunsTurns, has_ended}
 use Rattle.modem_driver.specs.PollLaws.{IsSession, RunsThrough}
-use Rattle.modem_driver.specs.PollRows.{bare_desk, first_line, lost_session}
+use Rattle.modem_driver.specs.PollRows.{bare_desk, lost_session}
 
 -- ## Of every session
 
@@ -51,24 +52,24 @@ AsksPerTurn {X} look =
 
 -- a session to which nothing has happened
 abbrev pub new_session : DeskId → SessionState LineView
-new_session at = record { line = first_line; driver = bare_desk at; machine = new_machine 31 [] }
+new_session at = record { line = unused_line; driver = bare_desk at; machine = new_machine 31 [] }
 
 -- it is a session: its history is empty
 unfoldable pub IsNewSession : Type 0
 IsNewSession =
-    (at : DeskId) → FitsAll (beginning_of 31 first_line (bare_desk at)) (λ (l : LineView). l) (new_session at) []
+    (at : DeskId) → FitsAll (beginning_of 31 unused_line (bare_desk at)) (λ (l : LineView). l) (new_session at) []
 
 -- the session after so many turns that found nothing to do
 abbrev pub after_idle : ℕ → DeskId → SessionState LineView
 after_idle n at = record (new_session at) {
-  line = record first_line { calls = n; empty_reads = n };
+  line = record unused_line { calls = n; empty_reads = n };
   driver = record (bare_desk at) { found_none = n };
 }
 
 -- the session after so many turns in each of which a flag came
 abbrev pub after_flags : ℕ → DeskId → SessionState LineView
 after_flags n at = record {
-  line = record first_line { received = replicate n 0xF9; calls = n };
+  line = record unused_line { received = replicate n 0xF9; calls = n };
   driver = record (bare_desk at) { found_none = n };
   machine = record (new_machine 31 []) { deframer = record { n1 = 31; undecided = 0xF9 ∷ []; next = None } };
 }

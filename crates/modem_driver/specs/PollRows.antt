@@ -1,5 +1,6 @@
 -- A session whose line is lost, and what isn't a poll of it.
 use Rattle.std.specs.Prelude.{[], ◌∷◌, Bool, true, Ok, Err}
+use Rattle.serial_line.specs.LineViews.{unused_line}
 use Rattle.modem_desk.specs.Ends.{DeskId, DriverView}
 use Rattle.modem_history.specs.Acts.{Lost}
 use Rattle.modem_history.specs.Sessions.{LineView}
@@ -23,12 +24,9 @@ bare_desk at = record {
 }
 
 -- nothing came and went, and the first call of the line failed
-abbrev pub first_line : LineView
-first_line = record { received = []; sent = []; calls = 0; failures = 0; empty_reads = 0; stalled_writes = 0 }
-
 abbrev pub lost_session : DeskId → SessionState LineView
 lost_session at = record {
-  line = record first_line { calls = 1; failures = 1 };
+  line = record unused_line { calls = 1; failures = 1 };
   driver = bare_desk at;
   machine = record (new_machine 31 []) { core = record (new_machine 31 []).core { lost = true }; faulty = true };
 }
@@ -36,7 +34,7 @@ lost_session at = record {
 -- it is a session: its history is the loss
 unfoldable pub IsLostSession : Type 0
 IsLostSession =
-    (at : DeskId) → FitsAll (beginning_of 31 first_line (bare_desk at)) (λ (l : LineView). l)
+    (at : DeskId) → FitsAll (beginning_of 31 unused_line (bare_desk at)) (λ (l : LineView). l)
     (lost_session at) (Lost ∷ [])
 
 -- Neither doing nothing nor keeping its loss back is a poll of it, and it gives neither Stopped nor Line.

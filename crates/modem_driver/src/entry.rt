@@ -1,5 +1,5 @@
 //! Entering the multiplexer step by step, with the caller's text (27.007, 5.7).
-ghost use Rattle.std.specs.Prelude.{◌≡◌, ◌+◌, ◌<◌, ◌≤◌, ◌==◌, ◌++◌, [], length, IfOk, OnOk, OnErr};
+ghost use Rattle.std.specs.Prelude.{◌≡◌, ◌+◌, ◌<◌, ◌≤◌, ◌==◌, [], length, IfOk, OnOk, OnErr};
 ghost use Rattle.serial_line.specs.Counts.{one_more};
 ghost use Rattle.serial_line.specs.LineViews.{after_fault};
 ghost use Rattle.modem_driver.specs.EntrySteps.{EntryStepsOn, IsAsked, IsUnanswering, MovesBy, step_by, close_down_frame};

@@ -64,26 +64,26 @@ abbrev pub other_side_of : CutState → OtherSide
 other_side_of s = record { given = s.received ++ s.waiting; passed_on = take s.moved s.sent }
 
 -- after a read with this room: it counts as a call, and its entry is used up
-abbrev pub after_read : CutState → (room : ℕ) → Result ℕ LineFault → CutState
-after_read s room (Ok n) = record s {
+abbrev pub after_cut_read : CutState → (room : ℕ) → Result ℕ LineFault → CutState
+after_cut_read s room (Ok n) = record s {
   received = s.received ++ take n s.waiting;
   waiting = drop n s.waiting;
   reads = drop 1 s.reads;
   calls = one_more s.calls;
   empty_reads = counted_if_none room n s.empty_reads;
 }
-after_read s room (Err fault) =
+after_cut_read s room (Err fault) =
     record s { reads = drop 1 s.reads; calls = one_more s.calls; failures = s.failures + 1 }
 
 -- after a write of these octets
-abbrev pub after_write : CutState → List ℕ → Result ℕ LineFault → CutState
-after_write s octets (Ok n) = record s {
+abbrev pub after_cut_write : CutState → List ℕ → Result ℕ LineFault → CutState
+after_cut_write s octets (Ok n) = record s {
   sent = s.sent ++ take n octets;
   writes = drop 1 s.writes;
   calls = one_more s.calls;
   stalled_writes = counted_if_none (length octets) n s.stalled_writes;
 }
-after_write s octets (Err fault) =
+after_cut_write s octets (Err fault) =
     record s { writes = drop 1 s.writes; calls = one_more s.calls; failures = s.failures + 1 }
 
 -- how many octets go over where at most k do: as many as were not yet given on and find room

@@ -1,5 +1,5 @@
 -- What contracts see of a line, and what a call on it changes.
-use Rattle.std.specs.Prelude.{ℕ, ◌+◌, List, ◌++◌, length, take}
+use Rattle.std.specs.Prelude.{ℕ, ◌+◌, List, [], ◌++◌, length, take}
 use Rattle.serial_line.specs.Counts.{one_more, counted_if_none}
 
 -- a line: all octets that it gave and took, in order, and four counts of its calls, which stop at u64::MAX
@@ -30,3 +30,7 @@ after_write n octets l = record l {
 -- after a call that failed
 abbrev pub after_fault : LineView → LineView
 after_fault l = record l { calls = one_more l.calls; failures = l.failures + 1 }
+
+-- how a line is seen on which nothing has happened yet
+abbrev pub unused_line : LineView
+unused_line = record { received = []; sent = []; calls = 0; failures = 0; empty_reads = 0; stalled_writes = 0 }

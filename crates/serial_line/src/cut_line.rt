@@ -2,7 +2,7 @@
 ghost use Rattle.std.specs.Prelude.{◌≡◌, ◌+◌, ◌^◌, ◌<◌, ◌≤◌, ◌++◌, take, drop, length, min, IfOk, OnErr, IsOkUnless};
 ghost use Rattle.serial_line.specs.Counts.{one_more};
 ghost use Rattle.serial_line.specs.Cuts.{outcome_of};
-ghost use Rattle.serial_line.specs.CutLine.{cut_view, new_line, room_to_receive, room_to_send, unmoved, after_read, after_write, carried, after_carry, other_side_of};
+ghost use Rattle.serial_line.specs.CutLine.{cut_view, new_line, room_to_receive, room_to_send, unmoved, after_cut_read, after_cut_write, carried, after_carry, other_side_of};
 
 use crate::counting::count_if_none;
 use crate::cuts::{Cut, Cuts};
@@ -150,7 +150,7 @@ impl SerialLine for CutLine {
         ensures bound { IfOk result (λ n. n ≤ length buffer.old) }
         ensures octets { IfOk result (λ n. buffer.new ≡ take n self.old.waiting ++ drop n buffer.old) }
         ensures untouched { OnErr result (buffer.new ≡ buffer.old) }
-        ensures line { self.new ≡ after_read self.old (length buffer.old) result }
+        ensures line { self.new ≡ after_cut_read self.old (length buffer.old) result }
     {
         self.calls = self.calls.saturating_add(1);
         let next = self.input.ahead();
@@ -168,7 +168,7 @@ impl SerialLine for CutLine {
         ensures value { let most = min (length octets.now) (room_to_send self.old)
             in result ≡ outcome_of self.old.writes self.old.failures most }
         ensures bound { IfOk result (λ n. n ≤ length octets.now) }
-        ensures line { self.new ≡ after_write self.old octets.now result }
+        ensures line { self.new ≡ after_cut_write self.old octets.now result }
         ensures beyond { other_side_of self.new ≡ other_side_of self.old }
     {
         self.calls = self.calls.saturating_add(1);

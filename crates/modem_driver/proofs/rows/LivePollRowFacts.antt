@@ -25,13 +25,14 @@ use Rattle.modem_driver.specs.SessionStates.{SessionState, Ticks, beginning_of, 
 use Rattle.modem_driver.specs.SessionTurns.{TakesTurn}
 use Rattle.modem_driver.specs.Polls.{MakesTurn, MovesOn, RunsTurns, ends, goes_on, has_ended, moves_none, moves_once, rests}
 use Rattle.modem_driver.specs.PollLaws.{IsSession, MovesThrough, NoLossIsKeptBack, NoLossIsStopped, all_through, ended_through, fails_through, rests_through, through_none, through_once}
-use Rattle.modem_driver.specs.PollRows.{bare_desk, first_line, lost_session}
+use Rattle.modem_driver.specs.PollRows.{bare_desk, lost_session}
 use Rattle.modem_driver.specs.LivePollRows.{AreNoLivePolls, AsksPerTurn, IsNewSession, NoTickInAPoll, NoTickIsAPoll, ReadsTheLine, after_flags, after_idle, lost_and_stopped, new_session, ticks_in}
 use Rattle.modem_core.proofs.cores.NewCore.{new_fits}
 use Rattle.modem_driver.proofs.sessions.polls.PollLaws.{no_loss_is_kept_back, no_loss_is_stopped}
 use Rattle.at_text.specs.Dialects.{standard}
 use Rattle.at_text.specs.Rules.{no_rules}
 use Rattle.at_text.proofs.NoRules.{no_rules_standard}
+use Rattle.serial_line.specs.LineViews.{unused_line}
 use Rattle.modem_driver.proofs.sessions.steps.StartAndTick.{machine_begins}
 use Rattle.modem_history.proofs.rules.MadeLaws.{laws_of}
 
@@ -329,15 +330,15 @@ none_got b before acts (waits f h room e) = e
 pub is_new_session : IsNewSession
 unfolding IsNewSession BeginsFitting
 is_new_session at = record {
-  session = begins_fitting (beginning_of 31 first_line (bare_desk at)) (lit≤ tt);
+  session = begins_fitting (beginning_of 31 unused_line (bare_desk at)) (lit≤ tt);
   inside = machine_begins no_rules standard (sym no_rules_standard) 31 [] (new_machine 31 []) (bare_desk at) refl (λ m. ((λ c. c), (λ c. c)))
       (new_fits (new_machine 31 []).core no_rules 31 [] refl (stations.new_fits Initiator 31 (new_machine 31 []).core.station.channels [] refl refl))
-      (record { held_are = λ d small own opened. never opened }) first_line;
+      (record { held_are = λ d small own opened. never opened }) unused_line;
 }
 
 is_one : (at : DeskId) → IsSession itself (new_session at)
 unfolding IsNewSession
-is_one at = record { b = beginning_of 31 first_line (bare_desk at); past = []; fits = is_new_session at }
+is_one at = record { b = beginning_of 31 unused_line (bare_desk at); past = []; fits = is_new_session at }
 
 or_cases : (x y : Bool) → (x || y) ≡ true → (x ≡ true → ⊥) → (y ≡ true → ⊥) → ⊥
 or_cases true y e f g = f refl
@@ -350,7 +351,7 @@ no_more n m e h = let less : n < m = ltb-true n m h in omega (arith, e, less)
 first_moves : (at : DeskId) (new : SessionState LineView) → MakesTurn itself (new_session at) new TurnAnswer.Moved → IsStill new → ⊥
 unfolding TakesTurn IsNewSession
 first_moves at new turn still =
-    let b = beginning_of 31 first_line (bare_desk at) in
+    let b = beginning_of 31 unused_line (bare_desk at) in
     let acts = turn.turn.acts in
     let t = turn.turn.exchange in
     let is = turn.turn.turn b [] (is_new_session at) in

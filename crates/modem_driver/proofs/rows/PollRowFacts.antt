@@ -13,8 +13,9 @@ use Rattle.modem_driver.specs.declared.session.error.SessionFault.{SessionFault}
 use Rattle.modem_driver.specs.declared.session.error.SessionFault.TheVariants as fault
 use Rattle.modem_driver.specs.SessionStates.{beginning_of}
 use Rattle.modem_driver.specs.PollLaws.{IsSession, LostFails, LostGivesFailed}
-use Rattle.modem_driver.specs.PollRows.{AreNoPolls, IsLostSession, bare_desk, first_line, lost_session}
+use Rattle.modem_driver.specs.PollRows.{AreNoPolls, IsLostSession, bare_desk, lost_session}
 use Rattle.at_text.proofs.NoRules.{no_rules_standard}
+use Rattle.serial_line.specs.LineViews.{unused_line}
 use Rattle.modem_core.proofs.sessions.steps.Kinds.{in_listened, listened_in}
 use Rattle.modem_driver.proofs.sessions.polls.PollLaws.{lost_fails, lost_gives_failed}
 use Rattle.modem_history.specs.Rules.{call, nothing}
@@ -51,7 +52,7 @@ is_lost_session at = record {
 
 is_one : (at : DeskId) → IsSession (λ (l : LineView). l) (lost_session at)
 unfolding IsLostSession
-is_one at = record { b = beginning_of 31 first_line (bare_desk at); past = Lost ∷ []; fits = is_lost_session at }
+is_one at = record { b = beginning_of 31 unused_line (bare_desk at); past = Lost ∷ []; fits = is_lost_session at }
 
 abbrev ran_well : Result Bool SessionFault → Bool
 ran_well (Ok _) = true

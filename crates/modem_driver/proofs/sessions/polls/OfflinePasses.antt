@@ -6,6 +6,7 @@ use Rattle.std.proofs.lemmas.List.Elements.{filter-append}
 use Rattle.std.proofs.lemmas.List.Folds.{list_all-append}
 use Rattle.std.specs.Prelude.{◌≡◌, ◌<◌, ◌==◌, ◌||◌, nat_lt, Bool, true, false, List, [], ◌++◌, length, map, take, refl}
 use Rattle.std.specs.List.{list_all}
+use Rattle.serial_line.specs.LineViews.{unused_line}
 use lib.ListN.{get_elem?}
 use Rattle.modem_desk.specs.declared.request.Request.{Request}
 use Rattle.modem_desk.specs.declared.request.Outcome.{Outcome}
@@ -25,9 +26,6 @@ use Rattle.modem_driver.proofs.sessions.steps.DeskOffers.{places}
 
 -- ## One pass
 
-no_line : LineView
-no_line = record { received = []; sent = []; calls = 0; failures = 0; empty_reads = 0; stalled_writes = 0 }
-
 -- a session that keeps what waits, and nothing else
 abbrev keeping : WaitingLists → Machine
 keeping w = record (new_machine 31 []) { unplaced = w.outcomes; unannounced = w.lines }
@@ -43,8 +41,8 @@ pub passes : (b d m e : DriverView) (first w : WaitingLists) (ps : List Outcome)
     → PassSays (record { unplaced = ps; unannounced = vs }) ((took || told) || announced) says
     → PassesAway (record { unplaced = first.outcomes; unannounced = first.lines }) (record { unplaced = ps; unannounced = vs }) b e says
 passes b d m e first w ps vs took told announced says r p t q a says_so =
-    let h : Places (turn_state no_line d (keeping w)) (turn_state no_line e (record (keeping w) { unplaced = ps; unannounced = vs })) (told || announced)
-    = places d m e (keeping w) ps vs told announced p t q a no_line in
+    let h : Places (turn_state unused_line d (keeping w)) (turn_state unused_line e (record (keeping w) { unplaced = ps; unannounced = vs })) (told || announced)
+    = places d m e (keeping w) ps vs told announced p t q a unused_line in
     let desk : e.desk ≡ b.desk = h.desk_stays ∙ ap (λ (x : DriverView). x.desk) r.stays in
     let same : d.desk ≡ b.desk = ap (λ (x : DriverView). x.desk) r.stays in
     let moved : ((took || told) || announced) ≡ moves b e r.taken
