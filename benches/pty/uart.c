@@ -7,6 +7,7 @@
 #include <fcntl.h>
 #include <poll.h>
 #include <pthread.h>
+#include <signal.h>
 #include <stdarg.h>
 #include <stdlib.h>
 #include <string.h>
@@ -69,13 +70,17 @@ static void *send_on(void *none)
 static void __attribute__((constructor)) begin(void)
 {
 	pthread_t sender;
+	sigset_t all, before;
 
 	real_write = (ssize_t (*)(int, const void *, size_t))dlsym(RTLD_NEXT, "write");
 	real_open = (int (*)(const char *, int, ...))dlsym(RTLD_NEXT, "open");
 	real_close = (int (*)(int))dlsym(RTLD_NEXT, "close");
 	real_ioctl = (int (*)(int, unsigned long, ...))dlsym(RTLD_NEXT, "ioctl");
 	uart.speed = atof(getenv("UART_SPEED"));
+	sigfillset(&all);
+	pthread_sigmask(SIG_BLOCK, &all, &before);      /* signals are the program's */
 	pthread_create(&sender, NULL, send_on, NULL);
+	pthread_sigmask(SIG_SETMASK, &before, NULL);
 }
 
 int open(const char *path, int flags, ...)
