@@ -1,12 +1,13 @@
 -- A simulated modem at a line in memory, between two pieces that it is handed.
 use Rattle.std.specs.Prelude.{◌≡◌, ℕ, Bool, true, false, List, [], ◌++◌}
+use Rattle.serial_line.specs.LineViews.{unused_line}
 use Rattle.modem_sim.specs.Acts.{Act, End}
 use Rattle.modem_sim.specs.Cores.{IsLater}
 use Rattle.modem_sim.specs.Heard.{modem_after}
 use Rattle.modem_sim.specs.Histories.{SimLawful, SimComplete, FitsOctets, IsThrough, AllIsOut}
 use Rattle.modem_sim.specs.Sims.{FitsSim, IsOver, SimState, modem_of}
 use Rattle.modem_sim.specs.Turns.{NoneCanBeDone}
-use Rattle.ctl_sim.specs.HeldLine.{HeldState, at_first, held_view}
+use Rattle.ctl_sim.specs.HeldLine.{HeldState, held_view}
 use Rattle.ctl_sim.specs.InMux.{is_closed_by}
 
 -- At rest: each frame that is called for was sent, and no other; every frame that the octets are read as has come; on each open
@@ -35,7 +36,7 @@ pub data IsEndedBy (e : End) (past : List Act) (came went : List ℕ) (now : Lis
 
 -- it fits a past since its line was new
 abbrev pub FitsHeld : End → SimState HeldState → List Act → Type 0
-FitsHeld e s past = FitsSim held_view at_first e s past
+FitsHeld e s past = FitsSim held_view unused_line e s past
 
 -- it went on to a past that it fits, and is at rest there
 pub record RestsFrom (e : End) (past : List Act) (s : SimState HeldState) : Type 0 where
