@@ -51,4 +51,4 @@ dropped_lane l = record l { carries = without_carrier l.carries }
 -- so many octets wait to leave, in room for so many
 pub record HasRoom (count capacity : ℕ) : Type 0 where
   pub few : count ≤ most_to_go
-  pub room : 8192 ≤ capacity
+  pub room : most_to_go ≤ capacity

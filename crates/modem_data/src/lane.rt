@@ -13,8 +13,12 @@ use std::marker::Model;
 /// How many octets may wait to leave a connection.
 pub const MOST_TO_GO: usize = 4096;
 
+/// The room for octets of one way: as many as may wait to leave or as are read from the line at once, and a frame of N1 1500 more, so
+/// that they seldom have to be moved and memory seldom has to grow.
+const ROOM: usize = MOST_TO_GO + 1536;
+
 /// What a connection carries by now, the data that came and was not read yet, and the octets that were given and have not
-/// left yet: at most 4096, in room for twice as many, so that they seldom have to be moved.
+/// left yet.
 #[derive(Drop)]
 pub struct DataLane {
     switch: Switch,
@@ -41,7 +45,7 @@ impl DataLane {
         Ok(DataLane {
             switch: Switch::idle(),
             came: Octets::new(alloc),
-            to_go: Octets::with_capacity(alloc, 2 * MOST_TO_GO)?,
+            to_go: Octets::with_capacity(alloc, ROOM)?,
         })
     }
 
@@ -125,7 +129,7 @@ impl DataLane {
         ensures some { IfOk result (λ cut. cut.is_marked ≡ true → 0 < length info.now) }
         ensures err { OnErr result (self.new ≡ self.old) }
     {
-        self.came.reserve(info.len())?;
+        self.came.reserve(info.len(), ROOM)?;
         let cut = self.switch.cut(info);
         self.came.put(&info[cut.from..]);
         Ok(cut.lines)

@@ -102,7 +102,7 @@ impl Octets {
         ensures capacity { self.new.capacity ≡ self.old.capacity }
     {
         let rest = self.octets.len() - self.start;
-        self.octets.rotate_left(self.start);
+        self.octets.copy_within(self.start.., 0);
         self.octets.truncate(rest);
         self.start = 0;
     }
@@ -119,12 +119,19 @@ impl Octets {
         }
     }
 
-    /// Makes room for so many octets more: first by moving those that wait, where as many have gone. Refusal: no memory.
-    pub(crate) fn reserve(&mut self, more: usize) -> Result<(), AllocError>
+    /// Makes room for so many octets more: first by moving those that wait, where as many have gone. Its first memory is for at least
+    /// `first` octets. Refusal: no memory.
+    pub(crate) fn reserve(&mut self, more: usize, first: usize) -> Result<(), AllocError>
         ensures same { self.new.items ≡ self.old.items }
         ensures room { OnOk result (self.new.len + more ≤ self.new.capacity) }
     {
-        if self.octets.capacity() - self.octets.len() < more && self.start >= self.len() {
+        if self.octets.capacity() - self.octets.len() >= more {
+            return Ok(());
+        }
+        if self.octets.capacity() == 0 {
+            return self.octets.reserve(more.max(first));
+        }
+        if self.start >= self.len() {
             self.compact();
         }
         self.octets.reserve(more)

@@ -96,7 +96,7 @@ pub(crate) fn pass_in(
     let Some(frame) = deframer.peek() else {
         return Ok(false);
     };
-    to_driver.reserve(frame.info.len() + 22)?;
+    to_driver.reserve(frame.info.len() + 22, 0)?;
     let cut = pipes.came(frame)?;
     hand_on(frame, cut, n1, to_driver);
     deframer.advance();
