@@ -6,6 +6,7 @@ mod Named
 mod PipeSets
 mod PipeSetCalls
 mod Relays
+mod GoingOut
 mod Handed
 mod WithoutData
 mod SwitchRowFacts
@@ -15,4 +16,5 @@ mod WholeLanes
 mod RelayRowFacts
 mod OwnRowFacts
 mod CarrierRowFacts
+mod DataSpelled
 pub mod FrameRoom

@@ -362,9 +362,9 @@ out_goes v w b = went_out b
 pub out_leaves : (v w : Relay) → HopsBy v w (λ f. Passed (Left f)) → OneOut v w
 out_leaves v w b = left_out b
 
--- a call that answers that no data left, after no frame of the driver's and no word of flow, leaves nothing held back
-pub holds_by : (v w y x : Relay) (said : Bool) → IsDeframed → (length v.to_line == 0) ≡ true → v.inner.next ≡ None → w ≡ v → OfEachPast w.pipes (λ role past. (d : ℕ) (go : Bool) → ¬ IsDue role d past go) → y ≡ w → (said ≡ false → OfEachPast y.pipes (λ role past. (d : ℕ) → NoneLeaves role past d)) → (said ≡ false → x ≡ y) → said ≡ false → HoldsNothing x
-holds_by v w y x said law empty none e say e2 idle still f = subst HoldsNothing (sym (still f ∙ (e2 ∙ e))) (holds_nothing v law none (nil_from_length v.to_line (eqb-true (length v.to_line) 0 empty)) (subst (λ (k : Relay). OfEachPast k.pipes (λ role past. (d : ℕ) (go : Bool) → ¬ IsDue role d past go)) e say) (subst (λ (k : Relay). OfEachPast k.pipes (λ role past. (d : ℕ) → NoneLeaves role past d)) (e2 ∙ e) (idle f)))
+-- where no octets wait, and no frame of the driver's, no word of flow and no data goes, nothing is held back
+pub holds_by : (v y x : Relay) → IsDeframed → (length v.to_line == 0) ≡ true → v.inner.next ≡ None → OfEachPast v.pipes (λ role past. (d : ℕ) (go : Bool) → ¬ IsDue role d past go) → y ≡ v → OfEachPast y.pipes (λ role past. (d : ℕ) → NoneLeaves role past d) → x ≡ y → HoldsNothing x
+holds_by v y x law empty none say e idle still = subst HoldsNothing (sym (still ∙ e)) (holds_nothing v law none (nil_from_length v.to_line (eqb-true (length v.to_line) 0 empty)) say (subst (λ (k : Relay). OfEachPast k.pipes (λ role past. (d : ℕ) → NoneLeaves role past d)) e idle))
 
 -- a word of flow goes out
 pub out_flows : (v w : Relay) → HopsBy v w (λ f. Passed (Flowed f)) → OneOut v w

@@ -224,3 +224,8 @@ pub data OneOut (old new : Relay) : Type 0 where
   went_out : HopsBy old new (λ f. Passed (Went f)) → OneOut old new
   flow_out : HopsBy old new (λ f. Passed (Flowed f)) → OneOut old new
   left_out : HopsBy old new (λ f. Passed (Left f)) → OneOut old new
+
+-- one frame more was made for the line, if none waited, and these octets went, or none did
+pub data GoesOut (old new : Relay) : (octets : List ℕ) → Type 0 where
+  wrote_some : (between : Relay) (octets : List ℕ) → OneOut old between → Hops between new (Wrote octets) → GoesOut old new octets
+  wrote_none : OneOut old new → GoesOut old new []

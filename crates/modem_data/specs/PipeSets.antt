@@ -1,14 +1,13 @@
 -- Several connections that carry data, and how they fit what passed.
-use Rattle.std.specs.Prelude.{◌≡◌, ◌≢◌, ℕ, ◌+◌, ◌<◌, ◌≤◌, ◌==◌, ◌&&◌, ◌||◌, nat_le, nat_lt, Bool, true, false, List, [], ◌∷◌, ◌++◌, length, map, All, Option, Some, None, slice_index_or, if◌then◌else◌}
+use Rattle.std.specs.Prelude.{◌≡◌, ◌≢◌, ℕ, ◌+◌, ◌<◌, ◌≤◌, ◌==◌, ◌&&◌, ◌||◌, nat_le, nat_lt, Bool, true, false, List, [], ◌∷◌, length, map, All, Option, Some, None, slice_index_or, if◌then◌else◌}
 use Rattle.mux_frame.specs.declared.dlci.Dlci.{Dlci}
 use Rattle.mux_station.specs.declared.role.Role.{Role}
 use Rattle.mux_frame.specs.Frames.{Frame}
-use Rattle.mux_frame.specs.Spelling.{spelled}
 use Rattle.modem_data.specs.declared.switch.LineCut.{LineCut}
 use Rattle.modem_data.specs.Switching.{Idle, IsCut, lets_leave}
 use Rattle.modem_data.specs.Watching.{may_leave}
 use Rattle.modem_data.specs.Passing.{Pass, Left, wire, is_data, carries, given, left, holds, driver_holds, LawfulPasses}
-use Rattle.modem_data.specs.Pipes.{Pipe, PipeFits, HasNoneToSend, MayLeave, SaysFlow}
+use Rattle.modem_data.specs.Pipes.{Pipe, PipeFits, HasNoneToSend, MayLeave, SaysFlow, next_data}
 
 -- which end of the line it is, the pipes, and the place from which on the next is looked for that may send
 pub record PipeSet : Type 0 where
@@ -126,11 +125,9 @@ unfoldable pub LeavesInTurn : ℕ → PipeSet → PipeSet → Frame → Type 0
 LeavesInTurn n1 old new f =
     (role : Role) (ds : List ℕ) (past : List Pass) → PipesFit role n1 ds old past → PipesFit role n1 ds new (Left f ∷ past) × InTurn role ds past f
 
--- some frame of data leaves in its turn, and is written
-pub record SomeLeaves (n1 : ℕ) (old new : PipeSet) (before after : List ℕ) : Type 0 where
-  pub frame : Frame
-  pub leaves : LeavesInTurn n1 old new frame
-  pub written : after ≡ before ++ spelled frame
+-- a frame is the next of the pipe at a place
+unfoldable pub IsNextFrame : ℕ → PipeSet → (place : ℕ) → Frame → Type 0
+IsNextFrame n1 v place f = (p : Pipe) → f ≡ next_data n1 (slice_index_or v.each place p)
 
 -- none of the pipes from one place on, and before another, has any to send
 unfoldable pub NonesIn : List Pipe → ℕ → ℕ → Type 0

@@ -21,6 +21,7 @@ mod pipe_set;
 mod relay;
 mod switch;
 mod watch;
+mod writing;
 
 pub use begin::{Begin, Until};
 pub use error::DataError;

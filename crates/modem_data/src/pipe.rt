@@ -2,7 +2,6 @@
 ghost use Rattle.std.specs.Prelude.{◌≡◌, ◌≢◌, ◌⊎◌, IsTrue, nat_le, ◌==◌, ◌&&◌, ◌≤◌, ◌<◌, ◌+◌, ◌-◌, ◌++◌, [], length, take, drop, min, Some, None, true, false, Ok, Err, IfOk, OnOk, OnErr};
 ghost use Rattle.mux_frame.specs.Frames.{frame_of};
 ghost use Rattle.mux_frame.specs.declared.frame.Kind.TheVariants.{Uih};
-ghost use Rattle.mux_frame.specs.Spelling.{spelled};
 ghost use Rattle.mux_station.specs.Written.{is_on};
 ghost use Rattle.modem_data.specs.declared.error.DataError.{DataError};
 ghost use Rattle.modem_data.specs.declared.error.DataError.TheVariants as error;
@@ -14,7 +13,6 @@ ghost use Rattle.modem_data.specs.Pipes.{BeginsPipe, HandsOn, HasNoneToSend, Tak
 use crate::begin::{Begin, Until, is_by_carrier};
 use crate::error::DataError;
 use crate::lane::DataLane;
-use crate::octets::Octets;
 use crate::switch::LineCut;
 use crate::watch::{Watch, info_cr};
 use mux_frame::{Dlci, FrameView, Kind};
@@ -287,29 +285,34 @@ impl Pipe {
         !self.lane.to_go().is_empty()
     }
 
-    /// Puts the next frame of data behind the output. Requires that one may leave, and that there is room.
-    #[tactic(auto, using(crate::proofs::PipeCalls::leads_left))]
-    pub(crate) fn put_next(&mut self, n1: u16, output: &mut Octets)
-        requires ready { MayLeave self.old }
+    /// The next frame of data, lent. Requires that one may leave.
+    pub(crate) fn next_frame(&self, n1: u16) -> FrameView<'_>
+        requires ready { MayLeave self.now }
         requires some { 1 ≤ n1 }
-        requires bound { n1 ≤ 32767 }
-        requires room { output.old.len + (n1 + 7) ≤ output.old.capacity }
-        ensures left { LeadsLeft n1 self.old self.new (next_data n1 self.old) }
-        ensures written { output.new.items ≡ output.old.items ++ spelled (next_data n1 self.old) }
-        ensures some { 0 < length output.new.items }
-        ensures capacity { output.old.capacity ≤ output.new.capacity }
-        ensures same { self.new.watch ≡ self.old.watch }
+        ensures frame { frame_of result ≡ next_data n1 self.now }
+        ensures kind { result.kind ≡ Uih }
+        ensures pf { result.pf ≡ false }
+        ensures short { length result.info.now ≤ n1 }
     {
         let octets = self.lane.to_go();
-        let count = front(octets, n1);
-        let frame = FrameView {
+        FrameView {
             dlci: self.watch.dlci(),
             kind: Kind::Uih,
             cr: info_cr(self.watch.role()),
             pf: false,
-            info: &octets[..count],
-        };
-        output.put_frame(frame, n1);
+            info: &octets[..front(octets, n1)],
+        }
+    }
+
+    /// It leaves. Requires that it may.
+    #[tactic(auto, using(crate::proofs::PipeCalls::leads_left))]
+    pub(crate) fn leave(&mut self, n1: u16)
+        requires ready { MayLeave self.old }
+        requires some { 1 ≤ n1 }
+        ensures left { LeadsLeft n1 self.old self.new (next_data n1 self.old) }
+        ensures same { self.new.watch ≡ self.old.watch }
+    {
+        let count = front(self.lane.to_go(), n1);
         self.lane.pass(count);
     }
 }

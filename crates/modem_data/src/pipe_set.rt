@@ -1,6 +1,7 @@
 //! The connections that carry data.
 ghost use Rattle.std.specs.Prelude.{◌≡◌, ◌≢◌, ◌⊎◌, ◌↔◌, ◌<◌, ◌≤◌, ◌+◌, ◌-◌, ◌==◌, ℕ, Bool, [], All, length, map, min, take, drop, true, false, None, Some, Err, IfOk, IfSome, OnOk, OnErr, slice_index_or};
-ghost use Rattle.mux_frame.specs.Frames.{frame_of};
+ghost use Rattle.mux_frame.specs.Frames.{Frame, frame_of};
+ghost use Rattle.mux_frame.specs.declared.frame.Kind.TheVariants.{Uih};
 ghost use Rattle.mux_station.specs.Opening.{is_open};
 ghost use Rattle.mux_station.specs.Written.{is_data_frame};
 ghost use Rattle.modem_data.specs.declared.error.DataError.TheVariants as error;
@@ -8,11 +9,10 @@ ghost use Rattle.modem_data.specs.DataLanes.{most_to_go};
 ghost use Rattle.modem_data.specs.Switching.{Idle as idle, IsWithin, is_behind_lines, is_idle, takes_given};
 ghost use Rattle.modem_data.specs.Passing.{Came, Went, Flowed, Lost, Began, EndedLane, Gave, Read, IsDue, IsOver, carries, data_came, data_read, given, left, to_go, unread, wire, flow_frame};
 ghost use Rattle.modem_data.specs.Pipes.{Pipe as Kept, PipeFits, HasNoneToSend, MayLeave, SaysFlow, saw_pipe, sent_pipe, flowed_pipe, lost_pipe};
-ghost use Rattle.modem_data.specs.PipeSets.{AllHand, AllLead, AreApart, BeginsAll, IsAmong, IsTwice, HasPipe, IsFlowOf, IsNext, IsNotData, NoneLeaves, NoneOf, NonesIn, OfEachPast, SomeLeaves, connections, numbers};
+ghost use Rattle.modem_data.specs.PipeSets.{AllHand, AllLead, AreApart, BeginsAll, IsAmong, IsTwice, HasPipe, IsFlowOf, IsNext, IsNextFrame, IsNotData, NoneLeaves, NoneOf, NonesIn, OfEachPast, LeavesInTurn, connections, numbers};
 
 use crate::begin::{Begin, Until};
 use crate::error::DataError;
-use crate::octets::Octets;
 use crate::pipe::{Pipe, Reading};
 use crate::switch::LineCut;
 use mux_frame::{Dlci, FrameView, Kind};
@@ -229,7 +229,7 @@ impl Pipes {
 
     /// The place of the pipe whose turn it is.
     #[tactic(auto, using(crate::proofs::PipeSetCalls::next_later, crate::proofs::PipeSetCalls::next_round, crate::proofs::PipeSetCalls::none_at_all))]
-    fn next(&self) -> Option<usize>
+    pub fn next(&self) -> Option<usize>
         ensures some { IfSome result (λ i. IsNext self.now i) }
         ensures none { result ≡ None → (j : ℕ) (p : Kept) → j < length self.now.each → HasNoneToSend (slice_index_or self.now.each j p) }
     {
@@ -240,25 +240,27 @@ impl Pipes {
         first_ready(&self.each, 0, self.turn)
     }
 
-    /// Puts the next frame of data behind the output, that of the connection whose turn it is, and says whether there was one.
-    /// Requires that there is room.
-    #[tactic(auto, using(crate::proofs::PipeSetCalls::leaves, crate::proofs::PipeSetCalls::none_leaves))]
-    pub fn put_next(&mut self, n1: u16, output: &mut Octets) -> bool
+    /// The next frame of data of the pipe at a place, lent. Requires that it is its turn.
+    #[tactic(auto, unfolding(crate::specs::PipeSets::IsNextFrame))]
+    pub fn next_frame(&self, place: usize, n1: u16) -> FrameView<'_>
+        requires next { IsNext self.now place }
         requires some { 1 ≤ n1 }
-        requires bound { n1 ≤ 32767 }
-        requires room { output.old.len + (n1 + 7) ≤ output.old.capacity }
-        ensures left { result ≡ true → SomeLeaves n1 self.old self.new output.old.items output.new.items }
-        ensures none { result ≡ false → OfEachPast self.old (λ role past. (d : ℕ) → NoneLeaves role past d) }
-        ensures some { result ≡ true → 0 < length output.new.items }
-        ensures still { result ≡ false → (self.new ≡ self.old) × (output.new ≡ output.old) }
-        ensures capacity { output.old.capacity ≤ output.new.capacity }
+        ensures frame { IsNextFrame n1 self.now place (frame_of result) }
+        ensures kind { result.kind ≡ Uih }
+        ensures pf { result.pf ≡ false }
+        ensures short { length result.info.now ≤ n1 }
     {
-        let Some(place) = self.next() else {
-            return false;
-        };
-        self.each[place].put_next(n1, output);
+        self.each[place].next_frame(n1)
+    }
+
+    /// It leaves. Requires that it is its turn.
+    pub fn leave(&mut self, place: usize, n1: u16)
+        requires next { IsNext self.old place }
+        requires some { 1 ≤ n1 }
+        ensures { (f : Frame) → IsNextFrame n1 self.old place f → LeavesInTurn n1 self.old self.new f }
+    {
+        self.each[place].leave(n1);
         self.turn = place + 1;
-        true
     }
 }
 

@@ -1,5 +1,5 @@
 //! A relay between the line and a driver, with connections that carry data.
-ghost use Rattle.std.specs.Prelude.{◌≡◌, ◌≢◌, ◌⊎◌, ◌↔◌, ◌==◌, ◌≤◌, ◌<◌, ◌-◌, ◌++◌, [], ℕ, Bool, List, length, take, drop, min, None, true, false, Err, IfOk, OnOk, OnErr};
+ghost use Rattle.std.specs.Prelude.{◌≡◌, ◌≢◌, ◌⊎◌, ◌↔◌, ◌==◌, ◌≤◌, ◌<◌, ◌+◌, ◌-◌, ◌++◌, [], ℕ, Bool, List, length, take, drop, min, None, true, false, Err, IfOk, OnOk, OnErr};
 ghost use Rattle.mux_frame.specs.Spelling.{IsBadN1};
 ghost use Rattle.mux_station.specs.Opening.{is_open};
 ghost use Rattle.modem_data.specs.declared.error.DataError.TheVariants as error;
@@ -7,7 +7,7 @@ ghost use Rattle.modem_data.specs.DataLanes.{most_to_go};
 ghost use Rattle.modem_data.specs.Switching.{Idle as idle, is_behind_lines, is_idle, takes_given};
 ghost use Rattle.modem_data.specs.Passing.{Came, Went, Flowed, Left, Lost, Began, EndedLane, Gave, Read, IsDue, IsOver, carries, data_came, data_read, given, left, to_go, unread, wire, flow_frame};
 ghost use Rattle.modem_data.specs.PipeSets.{IsAmong, IsNotData, IsTwice, NoneLeaves, OfEachPast, numbers};
-ghost use Rattle.modem_data.specs.Hops.{Fed, Handed, Took, Wrote, Passed, Hops, HopsBy, BeginsAs, BeginsRelay, AllCame, HoldsNothing, LineIn, PassesOn, DriverOut, OneOut};
+ghost use Rattle.modem_data.specs.Hops.{Fed, Handed, Took, Wrote, Passed, Hops, HopsBy, BeginsAs, BeginsRelay, AllCame, HoldsNothing, LineIn, PassesOn, DriverOut, GoesOut, OneOut};
 
 use crate::begin::{Begin, Until};
 use crate::error::DataError;
@@ -16,6 +16,7 @@ use crate::passing::{pass_in, pass_out};
 use crate::pipe::Reading;
 use crate::pipe_set::Pipes;
 use crate::watch::info_cr;
+use crate::writing::write_data;
 use mux_frame::laws::deframed;
 use mux_frame::{Deframer, Dlci, FrameView, Kind};
 use mux_station::Role;
@@ -332,7 +333,7 @@ impl Relay {
 
     /// Puts the next frame of data for the line, where one may leave, and says whether there was one. Requires that every frame of
     /// the driver's has gone, and that no octets wait for the line.
-    #[tactic(auto, using(crate::proofs::FrameRoom::room_for))]
+    #[tactic(auto, using(crate::proofs::FrameRoom::room_for, crate::proofs::PipeSetCalls::none_leaves))]
     fn put_data(&mut self) -> bool
         requires first { self.old.inner.next ≡ None }
         requires none_wait { (length self.old.to_line == 0) ≡ true }
@@ -342,8 +343,14 @@ impl Relay {
         ensures still { result ≡ false → self.new ≡ self.old }
     {
         deframed();
+        let Some(place) = self.pipes.next() else {
+            return false;
+        };
         self.to_line.fit(usize::from(self.n1) + 7);
-        self.pipes.put_next(self.n1, &mut self.to_line)
+        let frame = self.pipes.next_frame(place, self.n1);
+        self.to_line.put_frame(frame, self.n1);
+        self.pipes.leave(place, self.n1);
+        true
     }
 
     /// Says to the other end that it may not go on with data of a connection, where 8192 octets wait, or that it may, where fewer than
@@ -392,9 +399,30 @@ impl Relay {
         self.pass_driver()
     }
 
+    /// Readies the next frame for the line that isn't of data, where no octets wait for it: the driver's, or else one of flow control.
+    /// Says whether octets wait.
+    #[tactic(auto, using(crate::proofs::Relays::out_waits, crate::proofs::Relays::out_goes, crate::proofs::Relays::out_flows))]
+    fn ready_first(&mut self) -> bool
+        ensures one { OneOut self.old self.new }
+        ensures some { result ≡ true → 0 < length self.new.to_line }
+        ensures none_wait { result ≡ false → (length self.old.to_line == 0) ≡ true }
+        ensures no_frame { result ≡ false → self.old.inner.next ≡ None }
+        ensures none_due { result ≡ false → OfEachPast self.old.pipes (λ role past. (d : ℕ) (go : Bool) → ¬ IsDue role d past go) }
+        ensures none { result ≡ false → self.new ≡ self.old }
+        ensures still { 0 < length self.old.to_line → self.new ≡ self.old }
+    {
+        if !self.to_line.is_empty() {
+            return true;
+        }
+        if self.pass_driver() {
+            return true;
+        }
+        self.put_flow()
+    }
+
     /// Readies the next frame for the line where no octets wait for it: the driver's, or else one of flow control, or else one of data,
     /// of the connection whose turn it is. Says whether octets wait. Where none do, nothing may go to the line.
-    #[tactic(auto, using(crate::proofs::Relays::out_waits, crate::proofs::Relays::out_goes, crate::proofs::Relays::out_flows, crate::proofs::Relays::out_leaves))]
+    #[tactic(auto, using(crate::proofs::Relays::out_leaves))]
     pub fn ready(&mut self) -> bool
         ensures one { OneOut self.old self.new }
         ensures some { result ≡ true → 0 < length self.new.to_line }
@@ -402,16 +430,63 @@ impl Relay {
         ensures still { 0 < length self.old.to_line → self.new ≡ self.old }
     {
         deframed();
-        if !self.to_line.is_empty() {
-            return true;
-        }
-        if self.pass_driver() {
-            return true;
-        }
-        if self.put_flow() {
+        if self.ready_first() {
             return true;
         }
         self.put_data()
+    }
+
+    /// Writes the next frame of data to the front of the room, where one may leave, and says how many octets it has, which count as
+    /// written. Requires that every frame of the driver's has gone, that no octets wait for the line, and that there is room.
+    #[tactic(auto, using(crate::proofs::PipeSetCalls::none_leaves))]
+    fn leave(&mut self, room: &mut [u8]) -> usize
+        requires first { self.old.inner.next ≡ None }
+        requires none_wait { (length self.old.to_line == 0) ≡ true }
+        requires room { self.old.outer.n1 + 7 ≤ length room.old }
+        ensures left { 0 < result → GoesOut self.old self.new (take result room.new) }
+        ensures none { result ≡ 0 → OfEachPast self.old.pipes (λ role past. (d : ℕ) → NoneLeaves role past d) }
+        ensures still { result ≡ 0 → self.new ≡ self.old }
+        ensures few { result ≤ length room.old }
+        ensures behind { drop result room.new ≡ drop result room.old }
+    {
+        deframed();
+        let Some(place) = self.pipes.next() else {
+            return 0;
+        };
+        let frame = self.pipes.next_frame(place, self.n1);
+        let count = write_data(frame, room);
+        self.pipes.leave(place, self.n1);
+        count
+    }
+
+    /// Writes the first octets that wait for the line to the front of the room, and says how many. They count as written.
+    fn write(&mut self, room: &mut [u8]) -> usize
+        ensures count { result ≡ min (length self.old.to_line) (length room.old) }
+        ensures writes { Hops self.old self.new (Wrote (take result room.new)) }
+        ensures rest { self.new ≡ record self.old { to_line = drop result self.old.to_line } }
+        ensures behind { drop result room.new ≡ drop result room.old }
+    {
+        self.to_line.take(room)
+    }
+
+    /// Writes the next octets for the line to the front of the room, and says how many, which count as written: those that wait, or
+    /// those of the next frame. One of data is written there at once, if the room has place for the longest frame.
+    #[tactic(auto, using(crate::proofs::GoingOut::goes_out))]
+    pub fn put_out(&mut self, room: &mut [u8]) -> usize
+        ensures goes { GoesOut self.old self.new (take result room.new) }
+        ensures all { result ≡ 0 → 0 < length room.old → HoldsNothing self.new }
+        ensures few { result ≤ length room.old }
+        ensures behind { drop result room.new ≡ drop result room.old }
+    {
+        deframed();
+        if room.len() < usize::from(self.n1) + 7 {
+            let _ = self.ready();
+            return self.write(room);
+        }
+        if self.ready_first() {
+            return self.write(room);
+        }
+        self.leave(room)
     }
 }
 

@@ -1,12 +1,12 @@
 -- What calls from C do, said of the relay that is held.
-use Rattle.std.specs.Prelude.{◌≡◌, ◌⊎◌, ℕ, ◌<◌, List, [], length, Option, None, Some, slice_index_or}
+use Rattle.std.specs.Prelude.{◌≡◌, ◌⊎◌, ℕ, ◌<◌, List, length, Option, None, Some, slice_index_or}
 use Rattle.mux_frame.specs.Spelling.{IsBadN1}
 use Rattle.modem_data.specs.declared.begin.Begin.{Begin}
 use Rattle.modem_data.specs.declared.begin.Begin.TheVariants.{AtOnce, ByConnect, ByPrompt, ByOwnConnect}
 use Rattle.modem_data.specs.declared.begin.Until.{Until}
 use Rattle.modem_data.specs.declared.begin.Until.TheVariants.{Close, CarrierLoss}
 use Rattle.modem_data.specs.PipeSets.{IsAmong, IsTwice}
-use Rattle.modem_data.specs.Hops.{Relay, Hops, Wrote, OneOut}
+use Rattle.modem_data.specs.Hops.{Relay}
 use Rattle.modem_data_c.specs.declared.held_data.CimbalotyData.{CimbalotyData}
 
 -- the relay that is held, if any
@@ -57,8 +57,3 @@ abbrev pub IsRefused : (n1 : ℕ) (octets : List ℕ) → (number : ℕ) → Typ
 IsRefused n1 octets number =
     (number ≡ 1) ⊎ (((number ≡ 18) × HasHigh octets) ⊎ (((number ≡ 2) × IsBadN1 n1)
     ⊎ (((number ≡ 5) × (8 < length octets)) ⊎ (((number ≡ 3) × IsAmong octets (length octets) 0) ⊎ ((number ≡ 4) × IsTwice octets)))))
-
--- one frame more was made for the line, if none waited, and these octets went, or none did
-pub data GoesOut (old new : Relay) : (octets : List ℕ) → Type 0 where
-  wrote_some : (between : Relay) (octets : List ℕ) → OneOut old between → Hops between new (Wrote octets) → GoesOut old new octets
-  wrote_none : OneOut old new → GoesOut old new []

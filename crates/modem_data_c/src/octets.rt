@@ -1,7 +1,7 @@
 //! Octets of the line and of the driver.
 ghost use Rattle.std.specs.Prelude.{◌≡◌, ◌≢◌, ◌↔◌, ◌<◌, ◌≤◌, length, take, drop, min, None, true, false};
-ghost use Rattle.modem_data.specs.Hops.{Hops, Took, Handed, LineIn, AllCame, HoldsNothing};
-ghost use Rattle.modem_data_c.specs.DataCalls.{Becomes, GoesOut, Keeps, relay_of};
+ghost use Rattle.modem_data.specs.Hops.{GoesOut, Hops, Took, Handed, LineIn, AllCame, HoldsNothing};
+ghost use Rattle.modem_data_c.specs.DataCalls.{Becomes, Keeps, relay_of};
 
 use crate::held_data::CimbalotyData;
 use crate::numbers::{NO_MEMORY, NO_RELAY, OK};
@@ -103,22 +103,6 @@ pub extern "C" fn cimbaloty_data_handed(alloc: Global, d: &mut CimbalotyData, co
     *d = CimbalotyData::of(relay);
 }
 
-/// Makes the next frame for the line where none waits, and writes its octets to the front of the room, as many as fit.
-#[tactic(auto, using(crate::proofs::GoingOut::goes_out, crate::proofs::GoingOut::none_goes))]
-fn put_out(relay: &mut Relay, room: &mut [u8]) -> usize
-    ensures goes { GoesOut relay.old relay.new (take result room.new) }
-    ensures none { result ≡ 0 → 0 < length room.old → HoldsNothing relay.new }
-    ensures few { result ≤ length room.old }
-    ensures behind { drop result room.new ≡ drop result room.old }
-{
-    if !relay.ready() {
-        return 0;
-    }
-    let count = put_first(relay.for_line(), room);
-    relay.wrote(count);
-    count
-}
-
 /// Writes the next octets for the line to the front of the room, and says how many. They count as written.
 #[unsafe(no_mangle)]
 pub extern "C" fn cimbaloty_data_to_line_at(
@@ -136,7 +120,7 @@ pub extern "C" fn cimbaloty_data_to_line_at(
     let Some(mut relay) = d.take(alloc) else {
         return 0;
     };
-    let count = put_out(&mut relay, room);
+    let count = relay.put_out(room);
     *d = CimbalotyData::of(relay);
     count
 }
