@@ -225,7 +225,9 @@ pub data OneOut (old new : Relay) : Type 0 where
   flow_out : HopsBy old new (λ f. Passed (Flowed f)) → OneOut old new
   left_out : HopsBy old new (λ f. Passed (Left f)) → OneOut old new
 
--- one frame more was made for the line, if none waited, and these octets went, or none did
-pub data GoesOut (old new : Relay) : (octets : List ℕ) → Type 0 where
-  wrote_some : (between : Relay) (octets : List ℕ) → OneOut old between → Hops between new (Wrote octets) → GoesOut old new octets
-  wrote_none : OneOut old new → GoesOut old new []
+-- these octets went to the line: the first of those that wait, once one frame more was made for it, if none waited; then more, made
+-- and gone so; or none went
+pub data GoesOut : (old new : Relay) → (octets : List ℕ) → Type 0 where
+  wrote_some : (old between new : Relay) (octets : List ℕ) → OneOut old between → Hops between new (Wrote octets) → GoesOut old new octets
+  wrote_more : (old between new : Relay) (first more : List ℕ) → GoesOut old between first → GoesOut between new more → GoesOut old new (first ++ more)
+  wrote_none : (old new : Relay) → OneOut old new → GoesOut old new []

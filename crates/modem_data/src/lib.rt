@@ -4,7 +4,7 @@
 //!
 //! # Layout
 //!
-//! - `relay`, `octets`, `passing`, `message`: frames that pass. `pipe_set`: the connections that carry data.
+//! - `relay`, `octets`, `passing`, `writing`, `message`: frames that pass. `pipe_set`: the connections that carry data.
 //! - `pipe`: one of them. Under it `lane` has its data, `switch` where data begins, `watch` whether it may send.
 //! - `begin`, `error`, `laws`.
 #![tactic(auto)]

@@ -1,5 +1,5 @@
 //! A relay between the line and a driver, with connections that carry data.
-ghost use Rattle.std.specs.Prelude.{◌≡◌, ◌≢◌, ◌⊎◌, ◌↔◌, ◌==◌, ◌≤◌, ◌<◌, ◌+◌, ◌-◌, ◌++◌, [], ℕ, Bool, List, length, take, drop, min, None, true, false, Err, IfOk, OnOk, OnErr};
+ghost use Rattle.std.specs.Prelude.{◌≡◌, ◌≢◌, ◌⊎◌, ◌↔◌, ◌==◌, ◌≤◌, ◌<◌, ◌-◌, ◌++◌, [], ℕ, Bool, List, length, take, drop, min, None, true, false, Err, IfOk, OnOk, OnErr};
 ghost use Rattle.mux_frame.specs.Spelling.{IsBadN1};
 ghost use Rattle.mux_station.specs.Opening.{is_open};
 ghost use Rattle.modem_data.specs.declared.error.DataError.TheVariants as error;
@@ -7,7 +7,7 @@ ghost use Rattle.modem_data.specs.DataLanes.{most_to_go};
 ghost use Rattle.modem_data.specs.Switching.{Idle as idle, is_behind_lines, is_idle, takes_given};
 ghost use Rattle.modem_data.specs.Passing.{Came, Went, Flowed, Left, Lost, Began, EndedLane, Gave, Read, IsDue, IsOver, carries, data_came, data_read, given, left, to_go, unread, wire, flow_frame};
 ghost use Rattle.modem_data.specs.PipeSets.{IsAmong, IsNotData, IsTwice, NoneLeaves, OfEachPast, numbers};
-ghost use Rattle.modem_data.specs.Hops.{Fed, Handed, Took, Wrote, Passed, Hops, HopsBy, BeginsAs, BeginsRelay, AllCame, HoldsNothing, LineIn, PassesOn, DriverOut, GoesOut, OneOut};
+ghost use Rattle.modem_data.specs.Hops.{Fed, Handed, Took, Wrote, Passed, Hops, HopsBy, BeginsAs, BeginsRelay, AllCame, HoldsNothing, LineIn, PassesOn, DriverOut, OneOut};
 
 use crate::begin::{Begin, Until};
 use crate::error::DataError;
@@ -16,12 +16,13 @@ use crate::passing::{pass_in, pass_out};
 use crate::pipe::Reading;
 use crate::pipe_set::Pipes;
 use crate::watch::info_cr;
-use crate::writing::write_data;
 use mux_frame::laws::deframed;
 use mux_frame::{Deframer, Dlci, FrameView, Kind};
 use mux_station::Role;
 use std::alloc::{AllocError, Global};
 use std::marker::Model;
+
+mod out;
 
 /// A relay between a line and a driver: it passes the frames of each on to the other, but for data.
 ///
@@ -29,7 +30,7 @@ use std::marker::Model;
 ///   the next prompt or behind the driver's next CONNECT, and says whether the loss of the carrier ends it; `lines` ends it.
 /// - Hand what the line gave to `from_line`. Give the driver what `for_driver` lends, and say by `handed` how much.
 /// - Where `wants_driver` says so, hand the driver's octets to `feed_driver`. While `ready` says so, write what `for_line` lends,
-///   and say by `wrote` how much.
+///   and say by `wrote` how much; or have `put_out` write it to a room.
 /// - `give` takes data to be sent, `read` gives what came, and says where the lane is over.
 /// - `lost` says that the line failed: each lane is over, and what came stays readable.
 #[derive(Drop)]
@@ -434,59 +435,6 @@ impl Relay {
             return true;
         }
         self.put_data()
-    }
-
-    /// Writes the next frame of data to the front of the room, where one may leave, and says how many octets it has, which count as
-    /// written. Requires that every frame of the driver's has gone, that no octets wait for the line, and that there is room.
-    #[tactic(auto, using(crate::proofs::PipeSetCalls::none_leaves))]
-    fn leave(&mut self, room: &mut [u8]) -> usize
-        requires first { self.old.inner.next ≡ None }
-        requires none_wait { (length self.old.to_line == 0) ≡ true }
-        requires room { self.old.outer.n1 + 7 ≤ length room.old }
-        ensures left { 0 < result → GoesOut self.old self.new (take result room.new) }
-        ensures none { result ≡ 0 → OfEachPast self.old.pipes (λ role past. (d : ℕ) → NoneLeaves role past d) }
-        ensures still { result ≡ 0 → self.new ≡ self.old }
-        ensures few { result ≤ length room.old }
-        ensures behind { drop result room.new ≡ drop result room.old }
-    {
-        deframed();
-        let Some(place) = self.pipes.next() else {
-            return 0;
-        };
-        let frame = self.pipes.next_frame(place, self.n1);
-        let count = write_data(frame, room);
-        self.pipes.leave(place, self.n1);
-        count
-    }
-
-    /// Writes the first octets that wait for the line to the front of the room, and says how many. They count as written.
-    fn write(&mut self, room: &mut [u8]) -> usize
-        ensures count { result ≡ min (length self.old.to_line) (length room.old) }
-        ensures writes { Hops self.old self.new (Wrote (take result room.new)) }
-        ensures rest { self.new ≡ record self.old { to_line = drop result self.old.to_line } }
-        ensures behind { drop result room.new ≡ drop result room.old }
-    {
-        self.to_line.take(room)
-    }
-
-    /// Writes the next octets for the line to the front of the room, and says how many, which count as written: those that wait, or
-    /// those of the next frame. One of data is written there at once, if the room has place for the longest frame.
-    #[tactic(auto, using(crate::proofs::GoingOut::goes_out))]
-    pub fn put_out(&mut self, room: &mut [u8]) -> usize
-        ensures goes { GoesOut self.old self.new (take result room.new) }
-        ensures all { result ≡ 0 → 0 < length room.old → HoldsNothing self.new }
-        ensures few { result ≤ length room.old }
-        ensures behind { drop result room.new ≡ drop result room.old }
-    {
-        deframed();
-        if room.len() < usize::from(self.n1) + 7 {
-            let _ = self.ready();
-            return self.write(room);
-        }
-        if self.ready_first() {
-            return self.write(room);
-        }
-        self.leave(room)
     }
 }
 
