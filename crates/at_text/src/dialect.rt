@@ -144,6 +144,9 @@ impl Dialect {
     fn own_final_of(&self, line: &[u8]) -> Option<Final>
         ensures { result ≡ option_map Final.Named (position (λ p. takes p line.now) self.now.finals) }
     {
+        if self.finals.is_empty() {
+            return None;
+        }
         let span = self.final_spans[head(line)];
         let place = first_place(span.part(&self.finals), line)?;
         Some(Final::Named(span.start + place as u8))
@@ -165,11 +168,20 @@ impl Dialect {
     {
         match unsolicited_of(line) {
             Some(kind) => Some(kind),
-            None => {
-                let span = self.urc_spans[head(line)];
-                first_kind(span.part(&self.urcs), line)
-            }
+            None => self.own_kind_of(line),
         }
+    }
+
+    /// The kind of a line by the dialect's own rules of unsolicited lines.
+    fn own_kind_of(&self, line: &[u8]) -> Option<UrcKind>
+        ensures kind { result ≡ option_map (λ u. UrcKind.Own u.kind) (find (λ u. takes u.pattern line.now) self.now.urcs) }
+        ensures sound { IsSound self.now }
+    {
+        if self.urcs.is_empty() {
+            return None;
+        }
+        let span = self.urc_spans[head(line)];
+        first_kind(span.part(&self.urcs), line)
     }
 
     /// The name of a kind of the dialect's own, and None of any other.

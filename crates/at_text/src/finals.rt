@@ -26,7 +26,9 @@ pub fn final_of(line: &[u8]) -> Option<Final>
     match line {
         b"OK" => Some(Final::Good),
         b"ERROR" => Some(Final::Error),
-        _ if line.starts_with(CME) => Some(Final::Cme(number_in(&line[CME.len()..]))),
+        [b'+', b'C', b'M', ..] if line.starts_with(CME) => {
+            Some(Final::Cme(number_in(&line[CME.len()..])))
+        }
         _ => None,
     }
 }

@@ -157,8 +157,10 @@ impl LineReader {
         ensures { self.new ≡ other.now }
     {
         self.run.clear();
-        let _ = self.run.try_extend_from_slice(other.run.as_slice());
         self.has_ended = other.has_ended;
+        if !other.has_ended {
+            let _ = self.run.try_extend_from_slice(other.run.as_slice());
+        }
     }
 }
 

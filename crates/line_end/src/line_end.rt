@@ -1,5 +1,5 @@
 //! One end of a line.
-ghost use Rattle.std.specs.Prelude.{◌≡◌, ◌≢◌, ◌↔◌, ◌-◌, ◌<◌, ◌≤◌, ◌==◌, [], true, None, Some, length, min, option_map, take, drop, IfOk, IfSome, IsErrOf, IsSome, OnErr, OnOk};
+ghost use Rattle.std.specs.Prelude.{◌≡◌, ◌≢◌, ◌↔◌, ◌-◌, ◌<◌, ◌≤◌, ◌==◌, [], true, None, Some, is_some, length, min, option_map, take, drop, IfOk, IfSome, IsErrOf, IsSome, OnErr, OnOk};
 ghost use Rattle.std.specs.Borrow.{sem};
 ghost use Rattle.std.specs.Io.BufRead.{Rests};
 ghost use Rattle.mux_frame.specs.Deframing.{Deframes, HandsOver, TakesIn, ring_room};
@@ -138,6 +138,13 @@ impl LineEnd {
         ensures* after { sem 𝓛 (Rests the_row self.entry (λ new. new ≡ self.old)) }
     {
         self.deframer.peek()
+    }
+
+    /// Whether a frame is at hand: then `peek` lends it.
+    pub fn has_frame(&self) -> bool
+        ensures { result ≡ is_some self.now.deframer.next }
+    {
+        self.deframer.has_frame()
     }
 
     /// Drops the frame at hand and goes on behind it. Requires a frame at hand: the last call was a `peek` that gave one.

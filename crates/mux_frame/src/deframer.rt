@@ -1,5 +1,5 @@
 //! Reads frames from octets as they come (27.010, 5.2.3, 5.2.5 and 5.2.6.1).
-ghost use Rattle.std.specs.Prelude.{◌≡◌, ◌≢◌, ◌↔◌, ◌+◌, ◌-◌, ◌<◌, ◌≤◌, ◌++◌, [], ◌∷◌, List, ℕ, None, Some, length, min, option_map, take, IfOk, IfSome, IsErrOf, IsSome, OnErr, OnOk};
+ghost use Rattle.std.specs.Prelude.{◌≡◌, ◌≢◌, ◌↔◌, ◌+◌, ◌-◌, ◌<◌, ◌≤◌, ◌++◌, [], ◌∷◌, List, ℕ, None, Some, is_some, length, min, option_map, take, IfOk, IfSome, IsErrOf, IsSome, OnErr, OnOk};
 ghost use Rattle.std.specs.Borrow.{sem};
 ghost use Rattle.std.specs.Io.BufRead.{Rests};
 ghost use Rattle.mux_frame.specs.Deframing.{Deframes, HandsOver, TakesIn, ring_room};
@@ -90,6 +90,13 @@ impl Deframer {
         let count = octets.len().min(room);
         self.check_place = take_in(&mut self.octets, &octets[..count], self.n1.octets);
         count
+    }
+
+    /// Whether a frame is at hand: then `peek` lends it.
+    pub fn has_frame(&self) -> bool
+        ensures { result ≡ is_some self.now.next }
+    {
+        self.check_place.is_some()
     }
 
     /// Lends the next frame, if one is whole. It stays until `advance`.

@@ -294,7 +294,8 @@ pub(crate) fn settle(octets: &mut HeapCircularBuffer<u8>, passed: usize, n1: u16
     requires passed { passed ≤ length octets.old.items }
     ensures { Settles n1 (buffer (drop passed octets.old.items) octets.old.capacity) octets.new result }
 {
-    let (front, _) = octets.as_slices();
+    let (front, back) = octets.as_slices();
+    let is_all = back.is_empty();
     if front.len() < passed {
         return settle_searching(octets, passed, n1);
     }
@@ -306,6 +307,10 @@ pub(crate) fn settle(octets: &mut HeapCircularBuffer<u8>, passed: usize, n1: u16
         Standing::Whole(place) => {
             remove_front(octets, start);
             Some(place)
+        }
+        Standing::Unfinished if is_all => {
+            remove_front(octets, start);
+            None
         }
         Standing::Unfinished => settle_searching(octets, start, n1),
         Standing::Refused => settle_behind(octets, start, n1),

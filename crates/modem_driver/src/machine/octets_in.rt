@@ -32,6 +32,23 @@ impl Machine {
         }
     }
 
+    /// The same. Where no frame is at hand it asks no more.
+    #[tactic(auto, using(crate::proofs::endpoints::TakenOctets::handles_none, crate::proofs::endpoints::TakenOctets::hand_lacks))]
+    fn handle_any(&mut self) -> Result<bool, SessionFault>
+        ensures handles { HandlesFrames self.old self.new }
+        ensures lacks { OnOk result (HandLacksRoom self.new) }
+        ensures left { IfOk result (λ left. left ≡ is_some self.new.deframer.next) }
+        ensures at_hand { OnErr result (HasData self.new) }
+        ensures unfed { self.new.unfed ≡ self.old.unfed }
+        ensures lost { self.new.core.lost ≡ self.old.core.lost }
+        ensures no_memory { OnErr result (result ≡ Err fault.NoMemory) }
+    {
+        if !self.line_end.has_frame() {
+            return Ok(false);
+        }
+        self.handle_all()
+    }
+
     /// The same, without a word on what is left.
     pub(crate) fn handle_frames(&mut self) -> Result<(), SessionFault>
         ensures handles { HandlesFrames self.old self.new }
@@ -41,7 +58,7 @@ impl Machine {
         ensures lost { self.new.core.lost ≡ self.old.core.lost }
         ensures no_memory { OnErr result (result ≡ Err fault.NoMemory) }
     {
-        let _left = self.handle_all()?;
+        let _left = self.handle_any()?;
         Ok(())
     }
 
@@ -70,7 +87,7 @@ impl Machine {
     {
         let mut taken = 0;
         loop {
-            let Ok(is_left) = self.handle_all() else {
+            let Ok(is_left) = self.handle_any() else {
                 return Input::blocked(taken, Blocked::NoMemory);
             };
             if is_left {

@@ -78,6 +78,11 @@ pub some_found : (n1 start : ℕ) (s t : List ℕ) (o : Option ℕ) → AreOctet
 some_found n1 start s t None a e q = cc
 some_found n1 start s t (Some place) a e q = searched_later n1 start place s t a q
 
+-- with no octets behind it, a verdict is the same
+verdict_alone : (n1 : ℕ) (t x : List ℕ) → true ≡ (length x == 0) → unfinished ≡ verdict_on n1 t → unfinished ≡ verdict_on n1 (t ++ x)
+verdict_alone n1 t [] e v = v ∙ ap (verdict_on n1) (sym (append-nil t))
+verdict_alone n1 t (y ∷ x) e v = let z = eqb-true (length (y ∷ x)) 0 (sym e) in absurd (omega (arith, z))
+
 -- A candidate at the front of the first slice, behind one flag or two.
 module _ (n1 passed start : ℕ) (front back text : List ℕ) (b : Bool) (old : Buffer ℕ) (o : AreOctets old.items) (both : front ++ back ≡ old.items) (l : passed ≤ length front) (k : IsCandidate (drop passed front) b text) (s : start ≡ passed + bool_byte b) where
   -- what is left where so many octets go
@@ -109,6 +114,15 @@ module _ (n1 passed start : ℕ) (front back text : List ℕ) (b : Bool) (old : 
       (n ∙ ap (λ z. buffer z old.capacity) (sym behind))
       (fits_stays n1 (drop (bool_byte b) left) h x)
       (at_place n1 place (drop (bool_byte b) left) h (octets-drop (bool_byte b) left left_octets) x w.place_is)
+
+  -- it can become a frame, and nothing stands behind it
+  pub settles_unfinished : (new : Buffer ℕ) → true ≡ (length back == 0) → unfinished ≡ verdict_on n1 text → new ≡ buffer (drop start old.items) old.capacity → Settles n1 (buffer left old.capacity) new None
+  settles_unfinished new t v n =
+      let x = candidate_decision n1 (bool_byte b) left (text ++ back) b unfinished refl its_candidate (verdict_alone n1 text back t v) in
+      settles n1 (bool_byte b) (buffer left old.capacity) new None left_octets flag_passed
+      (n ∙ ap (λ z. buffer z old.capacity) (sym behind))
+      (unfinished_stays n1 (drop (bool_byte b) left) x)
+      (sym (next_of n1 (drop (bool_byte b) left) unfinished x))
 
   -- it doesn't tell yet, and only a flag before it goes
   pub settles_open : (new : Buffer ℕ) (r : Option ℕ) → Settles n1 (buffer (drop start old.items) old.capacity) new r → Settles n1 (buffer left old.capacity) new r

@@ -1,5 +1,5 @@
-use Rattle.std.proofs.Common.{◌+◌, ap, arith}
-use Rattle.mux_frame.proofs.deframers.SearchedOctets.{fails, settles_fits, settles_open}
+use Rattle.std.proofs.Common.{◌+◌, ap, arith, sym, ◌∙◌}
+use Rattle.mux_frame.proofs.deframers.SearchedOctets.{fails, settles_fits, settles_open, settles_unfinished}
 use Rattle.mux_frame.proofs.settling.settle.Goals as goal
 
 pub settle_behind-requires-clause-failed : goal.settle_behind-requires-clause-failed
@@ -19,9 +19,16 @@ returns-in-Whole c =
 pub returns-in-Unfinished : goal.returns-in-Unfinished
 returns-in-Unfinished c =
     let l = c.if-front-passed.false in
+    settles_unfinished c.args.n1 c.args.passed (c.args.passed + c.from.result) c.as_slices.result.0.now c.as_slices.result.1.now c.in-Some.text.now c.in-Some.is_second c.args.octets.now
+    c.requires.octets c.as_slices.ensures (omega (arith, l)) c.in-Some.ensures (ap (λ i. c.args.passed + i) c.from.ensures)
+    c.remove_front-in-Unfinished.new.octets (sym c.if-is_all.true ∙ c.is_empty-is_all.ensures) c.in-Unfinished.ensures c.remove_front-in-Unfinished.ensures
+
+pub returns-in-Unfinished-2 : goal.returns-in-Unfinished-2
+returns-in-Unfinished-2 c =
+    let l = c.if-front-passed.false in
     settles_open c.args.n1 c.args.passed (c.args.passed + c.from.result) c.as_slices.result.0.now c.as_slices.result.1.now c.in-Some.text.now c.in-Some.is_second c.args.octets.now
     c.requires.octets c.as_slices.ensures (omega (arith, l)) c.in-Some.ensures (ap (λ i. c.args.passed + i) c.from.ensures)
-    c.settle_searching-in-Unfinished.new.octets c.settle_searching-in-Unfinished.result c.settle_searching-in-Unfinished.ensures
+    c.settle_searching-in-Unfinished-2.new.octets c.settle_searching-in-Unfinished-2.result c.settle_searching-in-Unfinished-2.ensures
 
 pub returns-in-Refused : goal.returns-in-Refused
 returns-in-Refused c =
