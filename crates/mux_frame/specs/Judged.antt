@@ -1,6 +1,6 @@
 -- Verdicts on candidates, as the code keeps them.
 use Rattle.circular_buffer.specs.Buffer.{Buffer}
-use Rattle.std.specs.Prelude.{◌≡◌, ◌≢◌, ℕ, ◌+◌, ◌≤◌, Bool, List, ◌∷◌, Option, None, Some, drop, length, if◌then◌else◌}
+use Rattle.std.specs.Prelude.{◌≡◌, ◌≢◌, ℕ, ◌+◌, ◌*◌, ◌/◌, ◌%◌, ◌≤◌, ◌==◌, Bool, List, ◌∷◌, Option, None, Some, drop, length, if◌then◌else◌}
 use Rattle.mux_frame.specs.Deframing.{IsFront, IsSettled, SameReading, decision_on, next_in}
 use Rattle.mux_frame.specs.Judging.{Header, Verdict, unfinished, refused, fits, frame_at, verdict_on}
 use Rattle.mux_frame.specs.Laws.{AreOctets}
@@ -43,6 +43,11 @@ abbrev pub StandsSo : ℕ → List ℕ → Standing → Type 0
 StandsSo n1 text (Standing.Whole place) = IsWholeTo n1 text place
 StandsSo n1 text Standing.Unfinished = unfinished ≡ verdict_on n1 text
 StandsSo n1 text Standing.Refused = refused ≡ verdict_on n1 text
+
+-- how many octets stand before the check octet, from the flag on, by the length octets; none where these haven't come
+abbrev pub len_to_check : List ℕ → ℕ
+len_to_check (f ∷ x ∷ y ∷ l ∷ m ∷ t) = if l % 2 == 1 then 4 + l / 2 else 5 + l / 2 + 128 * m
+len_to_check octets = 0
 
 -- what stands before this place begins no frame; where one can begin at the front, nothing is passed
 pub record IsPassed (n1 : ℕ) (octets : List ℕ) (place : ℕ) : Type 0 where

@@ -1,8 +1,8 @@
 //! Takes octets into a deframer, and drops what begins no frame.
-ghost use Rattle.std.specs.Prelude.{◌≡◌, ◌+◌, ◌≤◌, ◌++◌, ◌==◌, ℕ, not, drop, length, position, slice_get, IfSome};
+ghost use Rattle.std.specs.Prelude.{◌≡◌, ◌≢◌, ◌+◌, ◌≤◌, ◌++◌, ◌==◌, ℕ, not, drop, length, position, slice_get, IfSome};
 ghost use Rattle.circular_buffer.specs.Buffer.{buffer};
 ghost use Rattle.mux_frame.specs.Deframing.{decision_on, SameReading};
-ghost use Rattle.mux_frame.specs.Judged.{IsCandidate, IsPassed, IsSearched, IsSought, Settles, StandsSo, verdict_seen};
+ghost use Rattle.mux_frame.specs.Judged.{IsCandidate, IsPassed, IsSearched, IsSought, Settles, StandsSo, len_to_check, verdict_seen};
 ghost use Rattle.mux_frame.specs.Judging.{refused};
 ghost use Rattle.mux_frame.specs.Laws.{AreOctets};
 ghost use Rattle.mux_frame.specs.Places.{flags_at_front, from_flag};
@@ -355,10 +355,30 @@ fn settle_searching(octets: &mut HeapCircularBuffer<u8>, passed: usize, n1: u16)
     check_place
 }
 
-/// Appends octets, and settles. Where there are none yet, what begins no frame isn't taken in.
+#[inline(always)]
+/// How many octets the candidate at the front has before its check octet, by its length octets; none where these haven't come.
+fn len_to_check(octets: &[u8]) -> usize
+    ensures { result ≡ len_to_check octets.now }
+{
+    match octets {
+        [_, _, _, first, second, ..] => {
+            let low = usize::from(*first / 2);
+            if *first % 2 == 1 {
+                4 + low
+            } else {
+                5 + low + 128 * usize::from(*second)
+            }
+        }
+        _ => 0,
+    }
+}
+
+/// Appends octets, and settles. Where there are none yet, what begins no frame isn't taken in. While the check octet of the candidate
+/// hasn't come, nothing is looked at. The condition is that the octets there don't begin with what begins no frame.
 pub(crate) fn take_in(octets: &mut HeapCircularBuffer<u8>, more: &[u8], n1: u16) -> Option<usize>
     requires octets { AreOctets (octets.old.items ++ more.now) }
     requires room { length octets.old.items + length more.now ≤ octets.old.capacity }
+    requires decided { decision_on n1 octets.old.items ≢ refused }
     ensures { Settles n1 (buffer (octets.old.items ++ more.now) octets.old.capacity) octets.new result }
 {
     if octets.is_empty() {
@@ -366,6 +386,11 @@ pub(crate) fn take_in(octets: &mut HeapCircularBuffer<u8>, more: &[u8], n1: u16)
         append(octets, &more[start..]);
         return check_place;
     }
+    let (front, _) = octets.as_slices();
+    let least = len_to_check(front);
     append(octets, more);
+    if octets.len() <= least {
+        return None;
+    }
     settle(octets, 0, n1)
 }

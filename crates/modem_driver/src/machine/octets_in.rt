@@ -10,6 +10,7 @@ use crate::machine::Machine;
 use crate::session::SessionFault;
 
 impl Machine {
+    #[inline(never)]
     /// Handles the frames at hand, one after the other, until none is, or one lacks room for what it
     /// calls for, and says whether one is left at hand. Refusal: 1 NoMemory, for data of an open connection; that frame
     /// stays at hand.
@@ -32,6 +33,7 @@ impl Machine {
         }
     }
 
+    #[inline(always)]
     /// The same. Where no frame is at hand it asks no more.
     #[tactic(auto, using(crate::proofs::endpoints::TakenOctets::handles_none, crate::proofs::endpoints::TakenOctets::hand_lacks))]
     fn handle_any(&mut self) -> Result<bool, SessionFault>

@@ -11,13 +11,15 @@ use Rattle.mux_frame.specs.Deframing.{decision_on, next_in}
 use Rattle.mux_frame.specs.Frames.{Frame}
 use Rattle.mux_frame.specs.Judged.{IsAtPlace}
 
-same_header : (h k : Header) → fits h ≡ fits k → h ≡ k
+-- verdicts that fit have one header
+pub same_header : (h k : Header) → fits h ≡ fits k → h ≡ k
 same_header h k e = cc
 
 not_unfinished : (h : Header) → unfinished ≡ fits h → ⊥
 not_unfinished h e = cc
 
-not_refused : (h : Header) → refused ≡ fits h → ⊥
+-- what is refused doesn't fit
+pub not_refused : (h : Header) → refused ≡ fits h → ⊥
 not_refused h e = cc
 
 by_flag-at : (b : Bool) (h k : Header) → (if b then fits h else refused) ≡ fits k → h ≡ k

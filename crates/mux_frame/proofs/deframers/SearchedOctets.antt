@@ -8,9 +8,10 @@ use Rattle.std.proofs.lemmas.List.{append-nil, drop-append-le, drop-drop, length
 use Rattle.mux_frame.specs.Reading.{Reads}
 use Rattle.mux_frame.specs.Judging.{Header, Verdict, unfinished, refused, fits, verdict_on}
 use Rattle.mux_frame.specs.Deframing.{decision_on, SameReading}
-use Rattle.mux_frame.specs.Judged.{IsAtPlace, IsCandidate, IsPassed, IsSearched, IsWholeTo, Settles}
+use Rattle.mux_frame.specs.Judged.{IsAtPlace, IsCandidate, IsPassed, IsSearched, IsWholeTo, Settles, len_to_check}
 use Rattle.mux_frame.specs.Laws.{AreOctets}
 use Rattle.mux_frame.proofs.candidates.LaterOctets.{decision_later, verdict_later}
+use Rattle.mux_frame.proofs.candidates.ShortOctets.{short_open}
 use Rattle.mux_frame.proofs.deframers.DeframerOctets.{candidate_decision, candidate_passed, fits_stays, octets-drop, octets-front, passed_none, passed_on, passed_then, settles, settles_then, unfinished_stays}
 use Rattle.mux_frame.proofs.deframers.DeframerPasts.{at_place, next_of}
 use Rattle.mux_frame.proofs.deframers.WrappedOctets.{candidate_later}
@@ -77,6 +78,15 @@ searched_alone n1 start s (x ∷ t) o e q = let z = eqb-true (length (x ∷ t)) 
 pub some_found : (n1 start : ℕ) (s t : List ℕ) (o : Option ℕ) → AreOctets (s ++ t) → true ≡ is_some o → IsSearched n1 s start o → IsSearched n1 (s ++ t) start o
 some_found n1 start s t None a e q = cc
 some_found n1 start s t (Some place) a e q = searched_later n1 start place s t a q
+
+-- octets that aren't refused are taken in with more, and the check octet hasn't come
+pub settles_short : (n1 capacity least : ℕ) (old front back more : List ℕ) (new : Buffer ℕ) → AreOctets (old ++ more) → decision_on n1 old ≢ refused → front ++ back ≡ old → least ≡ len_to_check front
+    → new ≡ buffer (old ++ more) capacity → length new.items ≤ least → Settles n1 (buffer (old ++ more) capacity) new None
+settles_short n1 capacity least old front back more new o d both l n short =
+    let all : length new.items ≡ length ((front ++ back) ++ more) = ap (λ b. length b.items) n ∙ ap (λ z. length (z ++ more)) (sym both) in
+    let open_so = short_open n1 front back more (subst (λ z. decision_on n1 z ≢ refused) (sym both) d) (omega (arith, short, all, l)) in
+    let x : unfinished ≡ decision_on n1 (old ++ more) = subst (λ z. unfinished ≡ decision_on n1 (z ++ more)) both open_so in
+    settles n1 0 (buffer (old ++ more) capacity) new None o (passed_none n1 (old ++ more)) n (unfinished_stays n1 (old ++ more) x) (sym (next_of n1 (old ++ more) unfinished x))
 
 -- with no octets behind it, a verdict is the same
 verdict_alone : (n1 : ℕ) (t x : List ℕ) → true ≡ (length x == 0) → unfinished ≡ verdict_on n1 t → unfinished ≡ verdict_on n1 (t ++ x)
