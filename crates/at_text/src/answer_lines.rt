@@ -1,24 +1,29 @@
 //! The lines that a command was answered with, as one text.
 ghost use Rattle.std.specs.Prelude.{◌≡◌, ℕ, ◌+◌, ◌-◌, ◌^◌, ◌<◌, ◌≤◌, [], ◌∷◌, ◌++◌, length, map, take, slice_index, slice_index_or, slice_get, option_map, vec_len, vec_capacity, IfOk, OnOk, OnErr};
+ghost use Rattle.smallvec.specs.SmallVec.{HasRoomFor};
 ghost use Rattle.at_text.specs.AnswerParts.{line_of};
 
+use smallvec::SmallVec;
 use std::alloc::{AllocError, Global};
 use std::marker::Model;
-use std::mem;
 
-/// How many octets and lines a first line makes room for: those of a short answer.
+/// How many octets a first line makes room for: those of a short answer.
 const FIRST_OCTETS: usize = 64;
 
-const FIRST_ENDS: usize = 8;
+/// So many lines, those of a short answer, take no memory for their ends.
+const SHORT: usize = 4;
+
+/// What has too little room grows to so many times its room at least, so that blocks are few.
+const GROWTH: usize = 16;
 
 /// The lines of an answer in order, which contracts see as a list. They are one text: however many there are, they stand in
-/// two blocks of memory.
+/// two blocks of memory, and those of a short answer in one.
 #[derive(Drop, Debug)]
 pub struct AnswerLines {
     /// The octets of each line, one line behind the other.
     octets: Vec<u8>,
     /// Where each line ends among them.
-    ends: Vec<usize>,
+    ends: SmallVec<usize, SHORT>,
 }
 
 impl Model for AnswerLines {
@@ -40,7 +45,7 @@ impl AnswerLines {
     {
         AnswerLines {
             octets: Vec::new(alloc),
-            ends: Vec::new(alloc),
+            ends: SmallVec::new(alloc),
         }
     }
 
@@ -56,8 +61,10 @@ impl AnswerLines {
         requires { place < length self.now }
         ensures { line_of result.now ≡ slice_index_or self.now place (line_of result.now) }
     {
-        let start = start_of(self.ends.as_slice(), place);
-        &self.octets.as_slice()[start..self.ends[place]]
+        let ends = self.ends.as_slice();
+        let start = start_of(ends, place);
+        let end = end_of(ends, place);
+        &self.octets.as_slice()[start..end]
     }
 
     /// The octets of the last line; `None` where there are no lines. In a whole answer that is the final code.
@@ -87,11 +94,10 @@ impl AnswerLines {
         ensures ok { OnOk result (self.new ≡ self.old ++ line_of line.now ∷ []) }
         ensures err { OnErr result (self.new ≡ self.old) }
     {
-        make_room(&mut self.octets, line.len(), FIRST_OCTETS)?;
-        make_room(&mut self.ends, 1, FIRST_ENDS)?;
+        make_room(&mut self.octets, line.len())?;
+        make_room_for_end(&mut self.ends)?;
         let _ = self.octets.extend_from_slice(line);
-        let end = self.octets.len();
-        let _ = self.ends.push(end);
+        self.ends.push_reserved(self.octets.len());
         Ok(())
     }
 
@@ -119,23 +125,33 @@ impl AnswerLines {
         ensures { IfOk result (λ copy. copy ≡ self.now) }
     {
         let octets = self.octets.clone()?;
-        let ends = self.ends.clone()?;
+        let ends = SmallVec::from_slice(*self.octets.allocator(), self.ends.as_slice())?;
         Ok(AnswerLines { octets, ends })
     }
 }
 
-/// Makes room for so many more. What has too little grows to four times its room at least, so that blocks are few, and at first
-/// to `least`. Want of memory leaves the room as it was.
-fn make_room<T>(items: &mut Vec<T>, more: usize, least: usize) -> Result<(), AllocError>
-    ensures items { items.new.items ≡ items.old.items }
-    ensures len { vec_len items.new ≡ vec_len items.old }
-    ensures room { OnOk result (vec_len items.new + more ≤ vec_capacity items.new) }
+/// Makes room for so many more octets. Want of memory leaves the room as it was.
+fn make_room(octets: &mut Vec<u8>, more: usize) -> Result<(), AllocError>
+    ensures items { octets.new.items ≡ octets.old.items }
+    ensures len { vec_len octets.new ≡ vec_len octets.old }
+    ensures room { OnOk result (vec_len octets.new + more ≤ vec_capacity octets.new) }
 {
-    if more <= items.capacity() - items.len() {
+    if more <= octets.capacity() - octets.len() {
         return Ok(());
     }
-    let growth = items.capacity().saturating_mul(3);
-    items.try_reserve(more.max(growth).max(least))
+    let growth = octets.capacity().saturating_mul(GROWTH - 1);
+    octets.try_reserve(more.max(growth).max(FIRST_OCTETS))
+}
+
+/// Makes room for the end of one more line. Want of memory changes nothing.
+fn make_room_for_end(ends: &mut SmallVec<usize, SHORT>) -> Result<(), AllocError>
+    ensures items { ends.new.items ≡ ends.old.items }
+    ensures room { OnOk result (HasRoomFor ends.new 1) }
+{
+    if ends.len() < ends.capacity() {
+        return Ok(());
+    }
+    ends.reserve(ends.capacity().saturating_mul(GROWTH - 1).max(1))
 }
 
 /// Where the line at this place begins, by where each line ends.
@@ -144,6 +160,14 @@ fn start_of(ends: &[usize], place: usize) -> usize
     ensures { result ≡ slice_index (0 ∷ ends.now) place }
 {
     if place == 0 { 0 } else { ends[place - 1] }
+}
+
+/// Where the line at this place ends.
+fn end_of(ends: &[usize], place: usize) -> usize
+    requires { place < length ends.now }
+    ensures { result ≡ slice_index ends.now place }
+{
+    ends[place]
 }
 
 impl PartialEq for AnswerLines {

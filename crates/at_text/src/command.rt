@@ -4,17 +4,20 @@ ghost use Rattle.std.specs.List.{list_all};
 ghost use Rattle.at_text.specs.Commands.{refusal_of, has_at, is_printable};
 
 use crate::error::TextError;
-use crate::text::Text;
+use smallvec::SmallVec;
 use std::alloc::{AllocError, Global};
 use std::marker::Model;
 
 /// How many octets a command line has at most.
 pub(crate) const COMMAND_LEN: usize = 256;
 
+/// A command line of so many octets takes no memory.
+const SHORT: usize = 24;
+
 /// A command line without its CR: `AT` or `at`, then octets 20 to 7E hex (V.250, 5.2.1).
 #[derive(Drop)]
 pub struct CommandLine {
-    text: Text,
+    text: SmallVec<u8, SHORT>,
 }
 
 impl Model for CommandLine {
@@ -23,9 +26,9 @@ impl Model for CommandLine {
 
     ghost Value = { List ℕ };
 
-    ghost view = { λ c. c.text };
+    ghost view = { λ c. c.text.items };
 
-    ghost invariant = { λ c. refusal_of c.text ≡ None };
+    ghost invariant = { λ c. refusal_of c.text.items ≡ None };
 }
 
 #[tactic(auto, using(crate::proofs::CommandTexts::refused_long, crate::proofs::CommandTexts::taken))]
@@ -46,10 +49,8 @@ impl CommandLine {
         if text.len() > COMMAND_LEN {
             return Err(TextError::TooLong);
         }
-        let octets = Vec::from_slice(alloc, text)?;
-        Ok(CommandLine {
-            text: Text::from(octets),
-        })
+        let text = SmallVec::from_slice(alloc, text)?;
+        Ok(CommandLine { text })
     }
 
     /// Its text, without CR.
@@ -64,7 +65,7 @@ impl CommandLine {
     pub fn copy(&self) -> Result<CommandLine, AllocError>
         ensures { IfOk result (λ copy. copy ≡ self.now) }
     {
-        let text = self.text.copy()?;
+        let text = SmallVec::from_slice(*self.text.allocator(), self.text.as_slice())?;
         Ok(CommandLine { text })
     }
 }
@@ -79,7 +80,7 @@ impl PartialEq for CommandLine {
     ghost laws = { Prim.search (comparing, rules) };
 
     fn eq(&self, other: &CommandLine) -> bool {
-        self.text == other.text
+        self.text.as_slice() == other.text.as_slice()
     }
 }
 

@@ -1,5 +1,5 @@
 //! Takes octets into a deframer, and drops what begins no frame.
-ghost use Rattle.std.specs.Prelude.{◌≡◌, ◌≢◌, ◌+◌, ◌≤◌, ◌++◌, ◌==◌, ℕ, not, drop, length, position, slice_get, IfSome};
+ghost use Rattle.std.specs.Prelude.{◌≡◌, ◌≢◌, ◌+◌, ◌≤◌, ◌++◌, ◌==◌, ℕ, [], ◌∷◌, true, not, drop, length, position, slice_get, IfSome};
 ghost use Rattle.circular_buffer.specs.Buffer.{buffer};
 ghost use Rattle.mux_frame.specs.Deframing.{decision_on, SameReading};
 ghost use Rattle.mux_frame.specs.Judged.{IsCandidate, IsPassed, IsSearched, IsSought, Settles, StandsSo, len_to_check, verdict_seen};
@@ -300,7 +300,7 @@ pub(crate) fn settle(octets: &mut HeapCircularBuffer<u8>, passed: usize, n1: u16
         return settle_searching(octets, passed, n1);
     }
     let Some((is_second, text)) = candidate(front, passed) else {
-        return settle_searching(octets, passed, n1);
+        return settle_few(octets, passed, n1);
     };
     let start = passed + usize::from(is_second);
     match judged(n1, text) {
@@ -315,6 +315,30 @@ pub(crate) fn settle(octets: &mut HeapCircularBuffer<u8>, passed: usize, n1: u16
         Standing::Unfinished => settle_searching(octets, start, n1),
         Standing::Refused => settle_behind(octets, start, n1),
     }
+}
+
+#[inline(always)]
+/// Whether a flag stands there and nothing behind it.
+fn is_last_flag(octets: &[u8], place: usize) -> bool
+    requires { place ≤ length octets.now }
+    ensures { result ≡ true → drop place octets.now ≡ flag ∷ [] }
+{
+    let (_, left) = octets.split_at(place);
+    matches!(left, [FLAG])
+}
+
+/// The same, where no header is whole. Most often the flag that closed the last frame is all that is left.
+fn settle_few(octets: &mut HeapCircularBuffer<u8>, passed: usize, n1: u16) -> Option<usize>
+    requires octets { AreOctets octets.old.items }
+    requires passed { passed ≤ length octets.old.items }
+    ensures { Settles n1 (buffer (drop passed octets.old.items) octets.old.capacity) octets.new result }
+{
+    let (front, back) = octets.as_slices();
+    if back.is_empty() && passed <= front.len() && is_last_flag(front, passed) {
+        remove_front(octets, passed);
+        return None;
+    }
+    settle_searching(octets, passed, n1)
 }
 
 #[inline(never)]

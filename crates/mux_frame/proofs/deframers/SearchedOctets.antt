@@ -6,10 +6,11 @@ use Rattle.circular_buffer.specs.Buffer.{Buffer, buffer}
 use Rattle.std.proofs.lemmas.Bool.{eqb-true}
 use Rattle.std.proofs.lemmas.List.{append-nil, drop-append-le, drop-drop, length-drop}
 use Rattle.mux_frame.specs.Reading.{Reads}
-use Rattle.mux_frame.specs.Judging.{Header, Verdict, unfinished, refused, fits, verdict_on}
+use Rattle.mux_frame.specs.Judging.{Header, Verdict, unfinished, refused, fits, by_header, verdict_on}
 use Rattle.mux_frame.specs.Deframing.{decision_on, SameReading}
 use Rattle.mux_frame.specs.Judged.{IsAtPlace, IsCandidate, IsPassed, IsSearched, IsWholeTo, Settles, len_to_check}
 use Rattle.mux_frame.specs.Laws.{AreOctets}
+use Rattle.mux_frame.specs.Spelling.{flag}
 use Rattle.mux_frame.proofs.candidates.LaterOctets.{decision_later, verdict_later}
 use Rattle.mux_frame.proofs.candidates.ShortOctets.{short_open}
 use Rattle.mux_frame.proofs.deframers.DeframerOctets.{candidate_decision, candidate_passed, fits_stays, octets-drop, octets-front, passed_none, passed_on, passed_then, settles, settles_then, unfinished_stays}
@@ -78,6 +79,20 @@ searched_alone n1 start s (x ∷ t) o e q = let z = eqb-true (length (x ∷ t)) 
 pub some_found : (n1 start : ℕ) (s t : List ℕ) (o : Option ℕ) → AreOctets (s ++ t) → true ≡ is_some o → IsSearched n1 s start o → IsSearched n1 (s ++ t) start o
 some_found n1 start s t None a e q = cc
 some_found n1 start s t (Some place) a e q = searched_later n1 start place s t a q
+
+flag_open : (n1 : ℕ) → unfinished ≡ decision_on n1 (flag ∷ [])
+unfolding verdict_on by_header
+flag_open n1 = refl
+
+-- a flag alone may begin a frame
+pub settles_flag : (n1 passed : ℕ) (front back : List ℕ) (old new : Buffer ℕ) → AreOctets old.items → front ++ back ≡ old.items → true ≡ (length back == 0) → drop passed front ≡ flag ∷ []
+    → new ≡ buffer (drop passed old.items) old.capacity → Settles n1 (buffer (drop passed old.items) old.capacity) new None
+settles_flag n1 passed front [] old new o both e f n =
+    let left : drop passed old.items ≡ flag ∷ [] = ap (drop passed) (sym both ∙ append-nil front) ∙ f in
+    let x : unfinished ≡ decision_on n1 (drop passed old.items) = flag_open n1 ∙ ap (decision_on n1) (sym left) in
+    settles n1 0 (buffer (drop passed old.items) old.capacity) new None (octets-drop passed old.items o) (passed_none n1 (drop passed old.items)) n (unfinished_stays n1 (drop passed old.items) x)
+    (sym (next_of n1 (drop passed old.items) unfinished x))
+settles_flag n1 passed front (x ∷ t) old new o both e f n = let z = eqb-true (length (x ∷ t)) 0 (sym e) in absurd (omega (arith, z))
 
 -- octets that aren't refused are taken in with more, and the check octet hasn't come
 pub settles_short : (n1 capacity least : ℕ) (old front back more : List ℕ) (new : Buffer ℕ) → AreOctets (old ++ more) → decision_on n1 old ≢ refused → front ++ back ≡ old → least ≡ len_to_check front

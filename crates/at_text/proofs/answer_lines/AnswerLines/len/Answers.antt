@@ -5,6 +5,5 @@ use Rattle.at_text.proofs.answer_lines.AnswerLines.len.Goals as goal
 
 pub returns : goal.returns
 returns c =
-    c.len.ensures
-    ∙ (c.self.inside.ends.ok.0
-    ∙ (sym (count_ended 0 c.self.inside.ends.items c.self.inside.octets.items) ∙ ap (λ (lines : List AnswerLine). length lines) c.self.view_is))
+    c.len.ensures.value
+    ∙ (sym (count_ended 0 c.self.inside.ends.items c.self.inside.octets.items) ∙ ap (λ (lines : List AnswerLine). length lines) c.self.view_is)

@@ -9,16 +9,13 @@ invariant_of-self-2 c =
     let room = c.in_ok-make_room.ensures.room in
     let line = c.args.line.now in
     let octets_are : c.extend_from_slice.new.self.items ≡ octets ++ line =
-    when_ok (is_ok c.extend_from_slice.result) c.extend_from_slice.new.self.items (c.make_room.new.items.items ++ line) c.make_room.new.items.items
+    when_ok (is_ok c.extend_from_slice.result) c.extend_from_slice.new.self.items (c.make_room.new.octets.items ++ line) c.make_room.new.octets.items
     (c.extend_from_slice.ensures.succeeds room) c.extend_from_slice.ensures.items
     ∙ ap (λ (xs : List ℕ). xs ++ line) c.make_room.ensures.items in
-    let end_is = c.len-end.ensures ∙ c.extend_from_slice.new.self.ok.0 in
-    let more = c.in_ok-make_room-2.ensures.room in
-    let ends_are : c.push.new.self.items ≡ ends ++ c.len-end.result ∷ [] =
-    when_ok (is_ok c.push.result) c.push.new.self.items (c.make_room-2.new.items.items ++ c.len-end.result ∷ []) c.make_room-2.new.items.items
-    (c.push.ensures.succeeds (omega (arith, more))) c.push.ensures.items
-    ∙ ap (λ (xs : List ℕ). xs ++ c.len-end.result ∷ []) c.make_room-2.ensures.items in
-    pushed_fills ends octets c.push.new.self.items c.extend_from_slice.new.self.items line c.len-end.result octets_are end_is ends_are c.self.invariant
+    let end_is = c.len.ensures ∙ c.extend_from_slice.new.self.ok.0 in
+    let ends_are : c.push_reserved.new.self.items ≡ ends ++ c.len.result ∷ [] =
+    c.push_reserved.ensures.items ∙ ap (λ (xs : List ℕ). xs ++ c.len.result ∷ []) c.make_room_for_end.ensures.items in
+    pushed_fills ends octets c.push_reserved.new.self.items c.extend_from_slice.new.self.items line c.len.result octets_are end_is ends_are c.self.invariant
 
 pub returns-clause-ok : goal.returns-clause-ok
 returns-clause-ok c =
@@ -27,13 +24,10 @@ returns-clause-ok c =
     let room = c.in_ok-make_room.ensures.room in
     let line = c.args.line.now in
     let octets_are : c.extend_from_slice.new.self.items ≡ octets ++ line =
-    when_ok (is_ok c.extend_from_slice.result) c.extend_from_slice.new.self.items (c.make_room.new.items.items ++ line) c.make_room.new.items.items
+    when_ok (is_ok c.extend_from_slice.result) c.extend_from_slice.new.self.items (c.make_room.new.octets.items ++ line) c.make_room.new.octets.items
     (c.extend_from_slice.ensures.succeeds room) c.extend_from_slice.ensures.items
     ∙ ap (λ (xs : List ℕ). xs ++ line) c.make_room.ensures.items in
-    let end_is = c.len-end.ensures ∙ c.extend_from_slice.new.self.ok.0 in
-    let more = c.in_ok-make_room-2.ensures.room in
-    let ends_are : c.push.new.self.items ≡ ends ++ c.len-end.result ∷ [] =
-    when_ok (is_ok c.push.result) c.push.new.self.items (c.make_room-2.new.items.items ++ c.len-end.result ∷ []) c.make_room-2.new.items.items
-    (c.push.ensures.succeeds (omega (arith, more))) c.push.ensures.items
-    ∙ ap (λ (xs : List ℕ). xs ++ c.len-end.result ∷ []) c.make_room-2.ensures.items in
-    pushed_shows c.args.self.now ends octets c.push.new.self.items c.extend_from_slice.new.self.items line c.len-end.result octets_are end_is ends_are c.self.invariant c.self.view_is
+    let end_is = c.len.ensures ∙ c.extend_from_slice.new.self.ok.0 in
+    let ends_are : c.push_reserved.new.self.items ≡ ends ++ c.len.result ∷ [] =
+    c.push_reserved.ensures.items ∙ ap (λ (xs : List ℕ). xs ++ c.len.result ∷ []) c.make_room_for_end.ensures.items in
+    pushed_shows c.args.self.now ends octets c.push_reserved.new.self.items c.extend_from_slice.new.self.items line c.len.result octets_are end_is ends_are c.self.invariant c.self.view_is
