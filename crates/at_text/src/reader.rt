@@ -3,7 +3,7 @@ ghost use Rattle.std.specs.Prelude.{◌≡◌, ◌≤◌, ◌<◌, ℕ, true, fa
 ghost use Rattle.std.specs.Borrow.{sem};
 ghost use Rattle.std.specs.List.{list_any};
 ghost use Rattle.std.specs.Io.BufRead.{Rests};
-ghost use Rattle.at_text.specs.Lines.{is_line_end, lines, cut};
+ghost use Rattle.at_text.specs.Lines.{is_line_end, kept_run, lines, cut};
 ghost use Rattle.at_text.specs.Reading.{HasRead, line_in, lines_in};
 
 use arrayvec::ArrayVec;
@@ -133,6 +133,25 @@ impl LineReader {
         drop_ended(&mut self.run, self.has_ended);
         self.has_ended = false;
         append_cut(&mut self.run, octets);
+    }
+
+    #[tactic(auto, using(crate::proofs::lines::KeptOctets::ends_none, crate::proofs::lines::KeptOctets::keeps_none, crate::proofs::lines::KeptOctets::none_read))]
+    /// Whether the first of these octets is a line end that ends no line, since nothing is kept. It needs no call then: the reader
+    /// stays as it is.
+    pub fn skips(&self, octets: &[u8]) -> bool
+        ensures some { result ≡ true → 0 < length octets.now }
+        ensures none { result ≡ true → lines (self.now ++ take 1 octets.now) ≡ [] }
+        ensures kept { result ≡ true → self.now ≡ kept_run (self.now ++ take 1 octets.now) }
+        ensures before { result ≡ true → HasRead self.now self.now }
+    {
+        self.is_empty() && starts_with_end(octets)
+    }
+
+    /// Whether nothing is kept.
+    fn is_empty(&self) -> bool
+        ensures { result ≡ true → self.now ≡ [] }
+    {
+        self.has_ended || self.run.is_empty()
     }
 
     /// Forgets the line that hasn't ended yet.

@@ -10,6 +10,8 @@ use Rattle.modem_driver.specs.EndpointLaws.{Calls, World, called_more, gave_octe
 use Rattle.modem_driver.specs.EndpointSteps.{with_received, with_sent}
 use Rattle.modem_driver.specs.declared.endpoint.Blocked.{Blocked}
 use Rattle.modem_driver.specs.declared.endpoint.Blocked.TheVariants.{NoMemory, OutputFirst}
+use Rattle.modem_driver.proofs.endpoints.GivenOctets.{gives_none}
+use Rattle.modem_driver.proofs.endpoints.WholeCalls.{gives_octets}
 use Rattle.modem_c.specs.Calls.{GivesAll, GivesOn, OutputsAreCalls, SaysOfFrames, gave, handled, unmoved}
 
 -- one part more, behind the frames at hand
@@ -77,6 +79,29 @@ all_given e f g h count given before later blocked out takes says gives same non
       handles = takes here d;
       says = says;
       rests = subst (λ (n : ℕ). GivesOctets here d g h (take n (drop count later))) none (gives here d);
+    }
+
+still_given : (l : LineView) (d : DriverView) (e : EndpointState) → GivesOctets l d e e []
+still_given l d e = gives_octets e.machine e.machine e.next [] (gives_none e.machine) l d
+
+-- nothing is left to handle behind the last part, and nothing to give
+pub quiet_given : (e f g h : EndpointState) (count given : ℕ) (before later : List ℕ) (blocked : Option Blocked)
+    → ((l : LineView) (d : DriverView) → GivesOn l d e f (take count before))
+    → ((l : LineView) (d : DriverView) → TakesOctets l d f g [] blocked)
+    → ((l : LineView) (d : DriverView) → GivesOctets l d g h (take given (drop count later)))
+    → take count later ≡ take count before
+    → ((l : LineView) (d : DriverView) → TakesOctets l d h h [] None) → h.machine.deframer.next ≡ None
+    → (l : LineView) (d : DriverView) → GivesAll l d e h (take (count + given) later)
+quiet_given e f g h count given before later blocked out takes gives same quiet none l d =
+    let here = with_sent l (take (count + given) later) in
+    record {
+      before = h;
+      between = h;
+      blocked = None;
+      gives = one_part e f g h count given before later blocked out takes gives same l d;
+      handles = quiet here d;
+      says = (tt, none);
+      rests = still_given here d h;
     }
 
 -- all of no octets was taken

@@ -99,6 +99,9 @@ fn give_on(endpoint: &mut Endpoint, room: &mut [u8]) -> usize
             return count;
         }
         count += given;
+        if count < room.len() && endpoint.is_quiet() {
+            return count;
+        }
     }
 }
 

@@ -167,7 +167,17 @@ fn keep_run(reader: &mut LineReader, octets: &[u8])
     }
 }
 
-/// Reads octets through the first that ends a line, or all where none does. Says how many.
+/// How many of the first octets call for nothing: one, where it is the second octet of a line end.
+fn skipped(reader: &LineReader, octets: &[u8]) -> usize
+    ensures within { result ≤ length octets.now }
+    ensures read { (dialect : Codes) (kinds : List UrcKind) (r : Reading) (w : Option OpenWindow) (acts : List Happening)
+        → ReadsAll dialect kinds r (take result octets.now) (record { kept = reader.now; window = w; acts = acts })
+        (record { kept = reader.now; window = w; acts = acts }) }
+{
+    if reader.skips(octets) { 1 } else { 0 }
+}
+
+/// Reads octets through the first that ends a line and the line end's second octet, or all where none does. Says how many.
 fn read_run(
     reading: Reading,
     dialect: &Dialect,
@@ -193,7 +203,8 @@ fn read_run(
         return Ok(end);
     };
     read_octet(reading, dialect, kinds, *octet, reader, window, said)?;
-    Ok(end + 1)
+    let (_, left) = octets.split_at(end + 1);
+    Ok(end + 1 + skipped(reader, left))
 }
 
 /// Reads the octets that came, in place.

@@ -9,7 +9,7 @@ ghost use Rattle.modem_core.specs.Cores.{state_shown};
 
 use crate::asker::Asker;
 use crate::hand::Hand;
-use modem_desk::{Answer, Ask, Outcome};
+use modem_desk::{Answer, Ask, Outcome, Request};
 use mux_frame::Dlci;
 use mux_station::{ChannelState, Noted, Station};
 use std::collections::VecDeque;
@@ -129,6 +129,17 @@ pub(crate) fn put_told(told: &mut VecDeque<Outcome>, outcome: Outcome)
     let _ = told.push_back(outcome);
 }
 
+/// The outcome of a request that is in hand no more.
+fn outcome_of(request: Request, answer: Answer) -> Outcome
+    ensures { result ≡ record { caller = request.caller; number = request.number; answer = answer } }
+{
+    Outcome {
+        caller: request.caller,
+        number: request.number,
+        answer,
+    }
+}
+
 /// Tells each request in hand what it is told by now, in the order taken. The others stay. The outcomes are put behind
 /// those that wait, which takes no memory. Says whether the Stop that was in hand has ended by it.
 #[tactic(auto, using(crate::proofs::requests::ToldOutcomes::begins_on, crate::proofs::requests::ToldOutcomes::waits_further, crate::proofs::requests::ToldOutcomes::told_further))]
@@ -155,12 +166,7 @@ pub(crate) fn tell_on(
     while place < hand.len() {
         match told_by(station, lost, happened, ended, &hand.as_slice()[place].ask) {
             Some(answer) => {
-                let request = hand.remove(place);
-                let outcome = Outcome {
-                    caller: request.caller,
-                    number: request.number,
-                    answer,
-                };
+                let outcome = outcome_of(hand.remove(place), answer);
                 answered |= ends_for(stop, &outcome);
                 put_told(told, outcome);
             }

@@ -1,5 +1,5 @@
 -- What an octet does to the run that is kept.
-use Rattle.std.specs.Prelude.{◌≡◌, ℕ, ◌+◌, ◌<◌, ◌≤◌, ◌-◌, nat_le, not, min, take, drop, Bool, true, false, List, [], ◌∷◌, ◌++◌, ◌||◌, zero, suc, Option, None, Some, unwrap_or, Result, Ok, Err, IsOk, OnOk, length, refl, if◌then◌else◌}
+use Rattle.std.specs.Prelude.{◌≡◌, ℕ, ◌+◌, ◌<◌, ◌≤◌, ◌-◌, nat_le, not, min, take, drop, Bool, true, false, List, [], ◌∷◌, ◌++◌, ◌||◌, zero, suc, Option, None, Some, unwrap_or, Result, Ok, Err, IsOk, OnOk, length, slice_index, refl, if◌then◌else◌}
 use Rattle.std.proofs.Common.{arith, sym, ap, ◌∙◌}
 use Rattle.std.specs.List.{prefix_len}
 use Rattle.std.proofs.lemmas.Grind.{common_steps}
@@ -136,3 +136,25 @@ none_joined octets low more inside none later =
     ap has_end (take-add low more octets)
     ∙ (list_any-append is_line_end (take low octets) (take more (drop low octets))
     ∙ rw none (ap (λ (xs : List ℕ). has_end (take more xs)) (sym rest) ∙ later))
+
+-- ## A line end where nothing is kept
+
+end_alone : (kept : List ℕ) (c : ℕ) (octets : List ℕ) → kept ≡ [] → is_line_end c ≡ true → lines (kept ++ take 1 (c ∷ octets)) ≡ []
+end_alone kept c octets e k = rw (e, k) refl
+
+end_kept : (kept : List ℕ) (c : ℕ) (octets : List ℕ) → kept ≡ [] → is_line_end c ≡ true → kept ≡ kept_run (kept ++ take 1 (c ∷ octets))
+end_kept kept c octets e k = rw (e, k) refl
+
+-- it ends no line
+pub ends_none : (kept octets : List ℕ) → kept ≡ [] → 0 < length octets → is_line_end (slice_index octets 0) ≡ true → lines (kept ++ take 1 octets) ≡ []
+ends_none kept [] e some k = absurd (omega (arith, some))
+ends_none kept (c ∷ octets) e some k = end_alone kept c octets e k
+
+-- nothing is kept behind it either
+pub keeps_none : (kept octets : List ℕ) → kept ≡ [] → 0 < length octets → is_line_end (slice_index octets 0) ≡ true → kept ≡ kept_run (kept ++ take 1 octets)
+keeps_none kept [] e some k = absurd (omega (arith, some))
+keeps_none kept (c ∷ octets) e some k = end_kept kept c octets e k
+
+-- what keeps nothing has read nothing
+pub none_read : (kept : List ℕ) → kept ≡ [] → HasRead kept kept
+none_read kept e = rw e refl

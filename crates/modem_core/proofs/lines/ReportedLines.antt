@@ -166,6 +166,14 @@ ends_run dialect kinds r old between new run c all e s o listens h =
     ∙ (ap (λ (v : Read). read_each dialect listens r.dlci.number r.owner v (c ∷ [])) (s listens h)
     ∙ (sym (each_append dialect listens r.dlci.number r.owner old run (c ∷ [])) ∙ ap (λ (w : List ℕ). read_each dialect listens r.dlci.number r.owner old w) (sym e)))
 
+-- some octets are read, and then some more
+pub reads_both : (dialect : Dialect) (kinds : List UrcKind) (r : Reading) (old between new : Read) (first more all : List ℕ) → all ≡ first ++ more → ReadsAll dialect kinds r first old between → ReadsAll dialect kinds r more between new → ReadsAll dialect kinds r all old new
+unfolding ReadsAll
+reads_both dialect kinds r old between new first more all e s t listens h =
+    t listens h
+    ∙ (ap (λ (v : Read). read_each dialect listens r.dlci.number r.owner v more) (s listens h)
+    ∙ (sym (each_append dialect listens r.dlci.number r.owner old first more) ∙ ap (λ (w : List ℕ). read_each dialect listens r.dlci.number r.owner old w) (sym e)))
+
 -- ## Runs of the octets
 
 -- what is lent from a place on is what is left there

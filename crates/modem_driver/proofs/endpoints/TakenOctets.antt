@@ -1,10 +1,10 @@
 -- Octets that came, and frames that were handled, and how that goes on.
-use Rattle.std.proofs.Common.{sym, ◌∙◌, subst, arith}
+use Rattle.std.proofs.Common.{ap, sym, ◌∙◌, subst, arith}
 use Rattle.std.proofs.Math.Seq.{take-add, drop-length}
 use Rattle.std.proofs.lemmas.Bool.{and_from}
 use Rattle.std.proofs.lemmas.List.{append_assoc, append-nil, take_all}
 use Rattle.std.proofs.lemmas.List.Folds.{list_all-append}
-use Rattle.std.specs.Prelude.{◌≡◌, ℕ, ◌+◌, Bool, false, List, [], ◌++◌, length, take, drop, refl, Some}
+use Rattle.std.specs.Prelude.{◌≡◌, ℕ, ◌+◌, Bool, true, false, List, [], ◌++◌, length, take, drop, refl, Some, is_some}
 use Rattle.std.specs.List.{list_all}
 use Rattle.mux_frame.specs.Frames.{Frame}
 use Rattle.mux_frame.specs.Deframing.{Deframing, TakesIn}
@@ -55,6 +55,14 @@ hand_lacks k0 k1 gets l d =
     let g = gets l d in
     subst (λ (s : TurnState). (f : Frame) → s.machine.deframer.next ≡ Some f → LacksRoomFor s f) (sym (g.still refl).1)
     (λ f at_hand. record { busy = (g.no_room f refl at_hand).0; full = (g.no_room f refl at_hand).1 })
+
+-- where none is at hand, none lacks room
+pub none_lacks : (k : Machine) → is_some k.deframer.next ≡ false → HandLacksRoom k
+unfolding HandLacksRoom
+none_lacks k none l d f at_hand = absurd (apart (sym none ∙ ap is_some at_hand))
+  where
+    apart : false ≡ true → ⊥
+    apart e = cc
 
 -- ## Octets
 

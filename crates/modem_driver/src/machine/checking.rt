@@ -1,5 +1,5 @@
 //! Backlogs are looked at.
-ghost use Rattle.std.specs.Prelude.{◌≡◌};
+ghost use Rattle.std.specs.Prelude.{◌≡◌, true, false, None};
 ghost use Rattle.modem_history.specs.Sessions.{LineView};
 ghost use Rattle.modem_desk.specs.Ends.{DriverView};
 ghost use Rattle.modem_driver.specs.BacklogChecks.{ChecksOne};
@@ -22,6 +22,15 @@ impl Machine {
             Some(moved) => moved,
             None => false,
         }
+    }
+
+    /// Whether no frame is at hand, and no backlog calls for anything.
+    pub(crate) fn is_quiet(&self) -> bool
+        ensures none { result ≡ true → self.now.deframer.next ≡ None }
+        ensures checks { result ≡ true → (l : LineView) (d : DriverView)
+            → Checks (turn_state l d self.now) (turn_state l d self.now) false }
+    {
+        !self.line_end.has_frame() && self.core.holds_none() && self.waiting.is_few()
     }
 
     /// Looks at the backlogs of the connections 1 to 61, in rising order, and says whether any was held

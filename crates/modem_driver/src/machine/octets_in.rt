@@ -35,7 +35,7 @@ impl Machine {
 
     #[inline(always)]
     /// The same. Where no frame is at hand it asks no more.
-    #[tactic(auto, using(crate::proofs::endpoints::TakenOctets::handles_none, crate::proofs::endpoints::TakenOctets::hand_lacks))]
+    #[tactic(auto, using(crate::proofs::endpoints::TakenOctets::handles_none, crate::proofs::endpoints::TakenOctets::none_lacks))]
     fn handle_any(&mut self) -> Result<bool, SessionFault>
         ensures handles { HandlesFrames self.old self.new }
         ensures lacks { OnOk result (HandLacksRoom self.new) }

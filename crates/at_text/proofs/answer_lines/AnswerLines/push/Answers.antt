@@ -1,4 +1,4 @@
-use Rattle.std.proofs.Common.{◌≡◌, ℕ, List, [], ◌∷◌, ◌++◌, is_ok, ap, ◌∙◌, arith}
+use Rattle.std.proofs.Common.{◌≡◌, ℕ, List, [], ◌∷◌, ◌++◌, is_ok, ap, ◌∙◌}
 use Rattle.at_text.proofs.AnswerTexts.{when_ok, pushed_fills, pushed_shows}
 use Rattle.at_text.proofs.answer_lines.AnswerLines.push.Goals as goal
 

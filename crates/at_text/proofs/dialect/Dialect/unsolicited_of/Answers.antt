@@ -1,5 +1,4 @@
 use Rattle.std.proofs.Common.{◌≡◌, sym, ◌∙◌, None}
-use Rattle.at_text.specs.Rules.{kind_by}
 use Rattle.at_text.specs.Unsolicited.{unsolicited_of}
 use Rattle.at_text.proofs.dialects.Naming.{name_right, not_own}
 use Rattle.at_text.proofs.dialect.Dialect.unsolicited_of.Goals as goal
