@@ -242,10 +242,11 @@ static void take_in_by_relay(struct modem *m, int64_t now)
 		m->is_blocked = true;
 }
 
-/* Takes octets of the relay for the line; false where it has none, or there is no room. */
+/* Takes octets of the relay for the line, at most one frame; false where it has none, or there is no room. */
 static bool put_out(struct modem *m)
 {
-	size_t length = cimbaloty_data_to_line_at(&m->relay, m->out + m->out_length, sizeof m->out - m->out_length);
+	size_t room = sizeof m->out - m->out_length, longest = m->options->n1 + 7;
+	size_t length = cimbaloty_data_to_line_at(&m->relay, m->out + m->out_length, room < longest ? room : longest);
 
 	m->out_length += length;
 	return length > 0 && m->out_length < sizeof m->out;
