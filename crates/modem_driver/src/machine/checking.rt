@@ -30,7 +30,10 @@ impl Machine {
         ensures checks { result ≡ true → (l : LineView) (d : DriverView)
             → Checks (turn_state l d self.now) (turn_state l d self.now) false }
     {
-        !self.line_end.has_frame() && self.core.holds_none() && self.waiting.is_few()
+        if self.line_end.has_frame() {
+            return false;
+        }
+        self.core.holds_none() && self.waiting.is_few()
     }
 
     /// Looks at the backlogs of the connections 1 to 61, in rising order, and says whether any was held
