@@ -1,21 +1,29 @@
 -- A frame of data is written in parts.
-use Rattle.std.specs.Prelude.{◌≡◌, ℕ, ◌+◌, ◌*◌, ◌/◌, ◌%◌, nat_lt, true, false, List, [], ◌∷◌, ◌++◌, length, drop, refl}
-use Rattle.std.proofs.Common.{ap, sym, ◌∙◌}
-use Rattle.std.proofs.Math.Seq.{drop-append-add, drop-append_seam}
+use Rattle.std.specs.Prelude.{◌≡◌, ℕ, ◌≤◌, ◌+◌, ◌*◌, ◌/◌, ◌%◌, nat_lt, true, false, List, [], ◌∷◌, ◌++◌, length, drop, refl}
+use Rattle.std.proofs.Common.{ap, sym, ◌∙◌, arith, slice_set, take}
+use Rattle.std.proofs.Math.Seq.{drop-append-add, take-append-add}
 use Rattle.std.proofs.lemmas.List.{append_assoc, drop-drop}
 use Rattle.mux_frame.specs.CheckOctet.{check_octet_of}
 use Rattle.mux_frame.specs.Frames.{Frame}
 use Rattle.mux_frame.specs.declared.frame.Kind.TheVariants.{Uih}
 use Rattle.mux_frame.specs.Spelling.{flag, address_of, control_of, header, indicator_of, spelled, body_of}
 
--- behind three parts stands what stood there
-pub behind_parts : (a b c all : List ℕ) → drop (length a + (length b + length c)) (a ++ (b ++ (c ++ drop (length c) (drop (length b) (drop (length a) all))))) ≡ drop (length a + (length b + length c)) all
-behind_parts a b c all =
-    drop-append-add a (b ++ (c ++ drop (length c) (drop (length b) (drop (length a) all)))) (length b + length c)
-    ∙ (drop-append-add b (c ++ drop (length c) (drop (length b) (drop (length a) all))) (length c)
-    ∙ (drop-append_seam c (drop (length c) (drop (length b) (drop (length a) all)))
-    ∙ (drop-drop (length c) (length b) (drop (length a) all)
-    ∙ drop-drop (length b + length c) (length a) all)))
+two_set : (x y : ℕ) (rest : List ℕ) → 2 ≤ length rest → slice_set (slice_set rest 0 x) 1 y ≡ x ∷ y ∷ drop 2 rest
+two_set x y [] long = absurd (omega (arith, long))
+two_set x y (a ∷ []) long = absurd (omega (arith, long))
+two_set x y (a ∷ b ∷ rest) long = refl
+
+-- two parts, and two octets set behind them
+pub two_behind : (a b rest : List ℕ) (x y : ℕ) → 2 ≤ length rest → take (length a + (length b + 2)) (a ++ (b ++ slice_set (slice_set rest 0 x) 1 y)) ≡ a ++ (b ++ x ∷ y ∷ [])
+two_behind a b rest x y long =
+    rw (two_set x y rest long) (take-append-add a (b ++ x ∷ y ∷ drop 2 rest) (length b + 2) ∙ ap (λ xs. a ++ xs) (take-append-add b (x ∷ y ∷ drop 2 rest) 2))
+
+-- behind these stands what stood there
+pub rest_behind : (a b all : List ℕ) (x y : ℕ) → 2 ≤ length (drop (length b) (drop (length a) all)) → drop (length a + (length b + 2)) (a ++ (b ++ slice_set (slice_set (drop (length b) (drop (length a) all)) 0 x) 1 y)) ≡ drop (length a + (length b + 2)) all
+rest_behind a b all x y long =
+    let rest = drop (length b) (drop (length a) all) in
+    rw (two_set x y rest long) (drop-append-add a (b ++ x ∷ y ∷ drop 2 rest) (length b + 2)
+    ∙ (drop-append-add b (x ∷ y ∷ drop 2 rest) 2 ∙ (drop-drop 2 (length b) (drop (length a) all) ∙ drop-drop (length b + 2) (length a) all)))
 
 joined : (h i c g : List ℕ) → h ++ (i ++ (c ++ g)) ≡ ((h ++ i) ++ c) ++ g
 joined h i c g = simp append_assoc

@@ -1,5 +1,5 @@
 -- Octets go to the line.
-use Rattle.std.specs.Prelude.{◌≡◌, ℕ, ◌+◌, ◌≤◌, ◌<◌, ◌==◌, ◌++◌, Bool, true, false, List, [], length, take, drop, min, None, refl}
+use Rattle.std.specs.Prelude.{◌≡◌, ℕ, ◌+◌, ◌≤◌, ◌==◌, ◌++◌, true, List, [], length, take, drop, None, refl}
 use Rattle.std.proofs.Common.{ap, sym, ◌∙◌, subst, arith, take_all}
 use Rattle.std.proofs.Math.Seq.{drop-append-add, drop-length, take-append-add}
 use Rattle.std.proofs.lemmas.Bool.{eqb-true}
@@ -9,7 +9,7 @@ use Rattle.mux_frame.specs.Spelling.{spelled}
 use Rattle.mux_frame.specs.Deframing.{IsDeframed}
 use Rattle.modem_data.specs.Passing.{Left}
 use Rattle.modem_data.specs.PipeSets.{LeavesInTurn}
-use Rattle.modem_data.specs.Hops.{Relay, Hops, HoldsNothing, Wrote, Passed, OneOut, still_out, left_out, GoesOut, wrote_some, wrote_more, wrote_none}
+use Rattle.modem_data.specs.Hops.{Relay, Hops, Wrote, Passed, OneOut, still_out, left_out, GoesOut, wrote_some, wrote_more, wrote_none}
 use Rattle.modem_data.proofs.Relays.{hops_left, hops_wrote}
 
 -- a frame more may have been made for the line, and the first of the octets that wait went
@@ -25,11 +25,6 @@ leaves_out v w f octets law none empty leads e is =
     let gone : w.to_line ≡ drop (length (spelled f)) (spelled f) = ap (λ (x : Relay). x.to_line) e ∙ (nil ∙ sym (drop-length (spelled f))) in
     let wrote : Hops between w (Wrote octets) = hops_wrote between w octets (length (spelled f)) (is ∙ sym (take_all (length (spelled f)) (spelled f) (omega arith))) gone refl in
     wrote_some v between w octets (left_out (record { frame = f; leads = left })) wrote
-
--- where nothing went to a room, nothing may go
-pub holds_written : (v w : Relay) (said : Bool) (n room : ℕ) → (said ≡ true → 0 < length v.to_line) → (said ≡ false → HoldsNothing v) → n ≡ min (length v.to_line) room → w ≡ record v { to_line = drop n v.to_line } → n ≡ 0 → 0 < room → HoldsNothing w
-holds_written v w true n room some holds count rest none there = let waits = some refl in absurd (omega (arith, waits, count, none, there))
-holds_written v w false n room some holds count rest none there = rw (rest, none) (holds refl)
 
 -- at first none went
 pub none_goes : (v : Relay) → GoesOut v v []

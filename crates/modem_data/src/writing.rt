@@ -9,23 +9,7 @@ use mux_frame::{FrameView, check_octet};
 
 const FLAG: u8 = 0xF9;
 
-/// Writes three texts to the front of the room, and says how many octets they are. Requires that there is room.
-fn put_parts(first: &[u8], second: &[u8], third: &[u8], room: &mut [u8]) -> usize
-    requires { length first.now + (length second.now + length third.now) ≤ length room.old }
-    ensures count { result ≡ length first.now + (length second.now + length third.now) }
-    ensures put { take result room.new ≡ first.now ++ (second.now ++ third.now) }
-    ensures behind { drop result room.new ≡ drop result room.old }
-{
-    let (front, rest) = room.split_at_mut(first.len());
-    front.copy_from_slice(first);
-    let (middle, rest) = rest.split_at_mut(second.len());
-    middle.copy_from_slice(second);
-    let (end, _) = rest.split_at_mut(third.len());
-    end.copy_from_slice(third);
-    first.len() + (second.len() + third.len())
-}
-
-/// Writes a frame of which the octets before the information are these: flag, address, control and length.
+/// Writes a frame of which these are the octets before the information: flag, address, control and length.
 fn put_behind(head: &[u8], info: &[u8], room: &mut [u8]) -> usize
     requires some { 1 ≤ length head.now }
     requires room { length head.now + (length info.now + 2) ≤ length room.old }
@@ -33,7 +17,14 @@ fn put_behind(head: &[u8], info: &[u8], room: &mut [u8]) -> usize
     ensures put { take result room.new ≡ head.now ++ (info.now ++ check_octet_of (drop 1 head.now) ∷ flag ∷ []) }
     ensures behind { drop result room.new ≡ drop result room.old }
 {
-    put_parts(head, info, &[check_octet(&head[1..]), FLAG], room)
+    let check = check_octet(&head[1..]);
+    let (front, rest) = room.split_at_mut(head.len());
+    front.copy_from_slice(head);
+    let (middle, rest) = rest.split_at_mut(info.len());
+    middle.copy_from_slice(info);
+    rest[0] = check;
+    rest[1] = FLAG;
+    head.len() + (info.len() + 2)
 }
 
 /// The address octet (27.010, 5.2.1.2).

@@ -35,7 +35,7 @@ impl Relay {
     /// Writes frames of data one behind the other, while one may leave and the room has place for the longest, and says how many
     /// octets they have, which count as written. Requires that every frame of the driver's has gone, that no octets wait for the line,
     /// and that there is room for one.
-    #[tactic(auto, using(crate::proofs::GoingOut::none_goes, crate::proofs::GoingOut::more_goes))]
+    #[tactic(auto, using(crate::proofs::GoingOut::none_goes))]
     fn leave_all(&mut self, room: &mut [u8]) -> usize
         requires first { self.old.inner.next ≡ None }
         requires none_wait { (length self.old.to_line == 0) ≡ true }
