@@ -1,10 +1,10 @@
 //! What is said on a connection (V.250, 5).
-ghost use Rattle.std.specs.Prelude.{◌≡◌, ◌∷◌, [], ◌++◌, is_some, OnOk};
+ghost use Rattle.std.specs.Prelude.{◌≡◌, ◌∷◌, [], ◌++◌, Some, is_some, OnOk};
 ghost use Rattle.mux_capture.specs.declared.packet.Direction.TheVariants.{FromModem, ToModem};
 ghost use Rattle.at_text.specs.Lines.{lines, kept_run};
 ghost use Rattle.at_text.specs.Rules.{dialect_of};
 ghost use Rattle.at_text.specs.Dialects.{Dialect as Codes};
-ghost use Rattle.at_text.specs.OpenWindow.{after_line};
+ghost use Rattle.at_text.specs.OpenWindow.{after_line, opened};
 ghost use Rattle.modem_show.specs.Talking.{told_by, told_of_driver, window_by_driver, told_of, window_after, told, heard, told_each, heard_each, silence};
 
 use crate::told::Told;
@@ -30,6 +30,14 @@ impl Model for Talk {
     ghost view = { λ t. record { driver = t.driver; modem = t.modem; window = t.window } };
 }
 
+/// A command begins, and ends the one that was under way.
+fn begin_command(line: CommandLine, window: &mut Window)
+    ensures { window.new ≡ Some (opened line) }
+{
+    window.drop_command();
+    window.begin(&line);
+}
+
 /// A line of the driver begins a command, if it is one.
 fn begin(
     alloc: Global,
@@ -44,8 +52,7 @@ fn begin(
     match CommandLine::new(alloc, text) {
         Ok(line) => {
             let overlaps = !window.idle();
-            window.drop_command();
-            window.begin(&line);
+            begin_command(line, window);
             out.push(Told::Command(copy, overlaps))?;
             Ok(())
         }
