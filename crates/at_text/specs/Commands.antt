@@ -1,5 +1,5 @@
 -- The texts that are command lines (V.250, 5.2.1).
-use Rattle.std.specs.Prelude.{ℕ, nat_eq, nat_le, nat_lt, Bool, ◌&&◌, ◌||◌, List, length, Option, Some, None, if◌then◌else◌, codes}
+use Rattle.std.specs.Prelude.{◌≡◌, ℕ, ◌-◌, nat_eq, nat_le, nat_lt, Bool, ◌&&◌, ◌||◌, List, [], ◌∷◌, ◌++◌, length, take, Option, Some, None, if◌then◌else◌, codes}
 use Rattle.std.specs.List.{starts_with, list_all}
 use Rattle.at_text.specs.declared.error.TextError.{TextError}
 use Rattle.at_text.specs.declared.error.TextError.TheVariants.{NoAt, BadOctet, TooLong}
@@ -20,3 +20,12 @@ refusal_of text =
     (if nat_lt 256 (length text) then Some TooLong else None)
     else Some BadOctet)
     else Some NoAt
+
+-- octets without the last, which is CR
+abbrev pub without_cr : List ℕ → List ℕ
+without_cr octets = take (length octets - 1) octets
+
+-- the octets are the text of a command line and CR
+pub record IsEnded (octets : List ℕ) : Type 0 where
+  pub taken : refusal_of (without_cr octets) ≡ None
+  pub ended : octets ≡ without_cr octets ++ 13 ∷ []

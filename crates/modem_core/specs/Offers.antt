@@ -1,5 +1,5 @@
 -- A command line enters the send ring of its connection.
-use Rattle.std.specs.Prelude.{◌≡◌, ℕ, ◌==◌, ◌||◌, not, nat_le, length, is_some, Bool, true, false, List, [], ◌∷◌, Option, Some, None, if◌then◌else◌}
+use Rattle.std.specs.Prelude.{◌≡◌, ℕ, ◌==◌, ◌||◌, not, nat_le, length, is_some, Bool, true, false, List, Option, Some, None, if◌then◌else◌}
 use Rattle.std.specs.List.{list_any}
 use Rattle.mux_frame.specs.declared.dlci.Dlci.{Dlci}
 use Rattle.mux_station.specs.Acts.{Offer, Called}
@@ -27,17 +27,15 @@ sends_on v (Command d line) =
     if v.lost || (nat_le 128 (length v.hand) || is_some (refused_command v.station d.number)) then None else Some d
 sends_on v _ = None
 
--- the station was offered the text, and then CR
-pub record TakesLine (old new : Station) (d : ℕ) (text : List ℕ) : Type 0 where
-  pub mid : Station
-  pub first : offer_refused old d text ≡ None → StationHandles old mid (Called (Offer d text))
-  pub second : offer_refused mid d (13 ∷ []) ≡ None → StationHandles mid new (Called (Offer d (13 ∷ [])))
+-- the station was offered a line with its CR
+pub record TakesLine (old new : Station) (d : ℕ) (line : List ℕ) : Type 0 where
+  pub taken : offer_refused old d line ≡ None → StationHandles old new (Called (Offer d line))
 
 abbrev pub Enters : Bool → Station → Station → ℕ → List ℕ → Type 0
-Enters true old new d text = new ≡ old
-Enters false old new d text = TakesLine old new d text
+Enters true old new d line = new ≡ old
+Enters false old new d line = TakesLine old new d line
 
--- a command's line is offered where no other command of its connection is in hand
-pub record OffersFirstCommand (hand : List Request) (old new : Station) (d : ℕ) (text : List ℕ) : Type 0 where
+-- a command's line is offered with its CR where no other command of its connection is in hand
+pub record OffersFirstCommand (hand : List Request) (old new : Station) (d : ℕ) (line : List ℕ) : Type 0 where
   pub setting : setting_of new ≡ setting_of old
-  pub enters : Enters (list_any (commands_on d) hand) old new d text
+  pub enters : Enters (list_any (commands_on d) hand) old new d line

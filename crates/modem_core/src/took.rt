@@ -151,8 +151,8 @@ impl Core {
         ensures n1 { self.new.station.n1 ≡ self.old.station.n1 }
         ensures role { self.old.station.role ≡ Initiator }
     {
-        let text = text_of(&request.ask);
-        offer_first(&self.hand, &mut self.station, dlci, text);
+        let line = octets_of(&request.ask);
+        offer_first(&self.hand, &mut self.station, dlci, line);
         self.hand.push(request);
     }
 
@@ -332,15 +332,18 @@ impl Core {
     }
 }
 
-/// The text of a command, without its CR.
+/// The text of a command and its CR.
 #[tactic(auto, using(crate::proofs::requests::CommandRequests::short_line))]
-fn text_of(ask: &Ask) -> &[u8]
-    ensures text { result.now ≡ line_in ask.now }
-    ensures short { length result.now ≤ 256 }
+fn octets_of(ask: &Ask) -> &[u8]
+    ensures octets { result.now ≡ line_in ask.now ++ 13 ∷ [] }
+    ensures short { length (line_in ask.now) ≤ 256 }
 {
     match ask {
-        Ask::Command(_, line) => line.text(),
-        _ => &[],
+        Ask::Command(_, line) => {
+            let _text = line.text();
+            line.with_cr()
+        }
+        _ => b"\r",
     }
 }
 
@@ -359,20 +362,19 @@ fn refuses_command(station: &Station, dlci: Dlci) -> Option<Answer>
 }
 
 /// Offers a command's text and its CR.
-#[tactic(auto, using(crate::proofs::requests::CommandRequests::both_setting, crate::proofs::requests::CommandRequests::line_taken))]
-fn offer_line(station: &mut Station, dlci: Dlci, text: &[u8])
+#[tactic(auto, using(crate::proofs::requests::CommandRequests::offer_setting, crate::proofs::requests::CommandRequests::line_taken))]
+fn offer_line(station: &mut Station, dlci: Dlci, line: &[u8])
     ensures setting { setting_of station.new ≡ setting_of station.old }
-    ensures takes { TakesLine station.old station.new dlci.number text.now }
+    ensures takes { TakesLine station.old station.new dlci.number line.now }
 {
-    let _ = station.offer(dlci, text);
-    let _ = station.offer(dlci, b"\r");
+    let _ = station.offer(dlci, line);
 }
 
 /// The same, where no other command of the connection is in hand.
-fn offer_first(hand: &Hand, station: &mut Station, dlci: Dlci, text: &[u8])
-    ensures { OffersFirstCommand hand.now station.old station.new dlci.number text.now }
+fn offer_first(hand: &Hand, station: &mut Station, dlci: Dlci, line: &[u8])
+    ensures { OffersFirstCommand hand.now station.old station.new dlci.number line.now }
 {
     if !has_command(hand, dlci) {
-        offer_line(station, dlci, text);
+        offer_line(station, dlci, line);
     }
 }

@@ -86,20 +86,15 @@ offer_on : {A : Type 0} (old mid : Station) (d : ℕ) (octets : List ℕ) (r : R
 offer_on old mid d octets (Ok a) e h n = h
 offer_on old mid d octets (Err x) e h n = absurd (let k : Some x ≡ None = e ∙ n in cc)
 
-offer_setting : {A : Type 0} (old mid : Station) (c : station.Call) (r : Result A StationError) → OnOk r (station_fits.StationHandles old mid (Called c)) → OnErr r (mid ≡ old) → setting_of mid ≡ setting_of old
-offer_setting old mid c (Ok a) h k = h.setting
-offer_setting old mid c (Err x) h k = ap setting_of k
+-- an offer leaves the setting as it is
+pub offer_setting : {A : Type 0} (old new : Station) (c : station.Call) (r : Result A StationError) → OnOk r (station_fits.StationHandles old new (Called c)) → OnErr r (new ≡ old) → setting_of new ≡ setting_of old
+offer_setting old new c (Ok a) h k = h.setting
+offer_setting old new c (Err x) h k = ap setting_of k
 
--- both offers
-pub both_setting : {A : Type 0} (old mid new : Station) (c e : station.Call) (r t : Result A StationError) → OnOk r (station_fits.StationHandles old mid (Called c)) → OnErr r (mid ≡ old)
-    → OnOk t (station_fits.StationHandles mid new (Called e)) → OnErr t (new ≡ mid) → setting_of new ≡ setting_of old
-both_setting old mid new c e r t h k hh kk = offer_setting mid new e t hh kk ∙ offer_setting old mid c r h k
-
--- the station that was offered the text and then CR has taken both, where it refused neither
-pub line_taken : {A : Type 0} (old mid new : Station) (d : ℕ) (text : List ℕ) (r t : Result A StationError)
-    → result_err r ≡ offer_refused old d text → OnOk r (station_fits.StationHandles old mid (Called (Offer d text)))
-    → result_err t ≡ offer_refused mid d (13 ∷ []) → OnOk t (station_fits.StationHandles mid new (Called (Offer d (13 ∷ [])))) → TakesLine old new d text
-line_taken old mid new d text r t e h ee hh = record { mid = mid; first = offer_on old mid d text r e h; second = offer_on mid new d (13 ∷ []) t ee hh }
+-- the station that was offered the line has taken it, where it didn't refuse it
+pub line_taken : {A : Type 0} (old new : Station) (d : ℕ) (line : List ℕ) (r : Result A StationError)
+    → result_err r ≡ offer_refused old d line → OnOk r (station_fits.StationHandles old new (Called (Offer d line))) → TakesLine old new d line
+line_taken old new d line r e h = record { taken = offer_on old new d line r e h }
 
 offer_free_by : (b o r : Bool) → b ≡ false → o ≡ true → r ≡ true
     → or_else (or_else (if b then Some why.ControlChannel else if not o then Some why.NotOpen else None) None) (if r then None else Some why.NoRoom) ≡ None
@@ -223,63 +218,36 @@ record Mid (s : Setting) (v : Core) (past : List Act) (l : Live s v past) (mid :
   handles : station_fits.StationHandles v.station mid (Called (Offer n text))
   fits : station_fits.StationFits mid (Called (Offer n text) ∷ l.runs.seen)
   states : (e : ℕ) → e < 62 → (channel_at mid e).state ≡ (channel_at v.station e).state
-  waits : length (channel_at mid n).waiting ≤ length text
 
-offers_itself : (n : ℕ) (octets : List ℕ) → octets_offered n (Called (Offer n octets)) ≡ octets
-offers_itself n octets = ap (λ (b : Bool). if b then octets else []) (eq-eqb n n refl)
-
-mid_of : (s : Setting) (v : Core) (past : List Act) (l : Live s v past) (mid : Station) (n : ℕ) (text : List ℕ) → n < 62 → (n == 0) ≡ false → is_opened (channel_at v.station n).state ≡ true → (channel_at v.station n).waiting ≡ []
+mid_of : (s : Setting) (v : Core) (past : List Act) (l : Live s v past) (mid : Station) (n : ℕ) (text : List ℕ) → n < 62 → (n == 0) ≡ false → is_opened (channel_at v.station n).state ≡ true
     → station_fits.StationHandles v.station mid (Called (Offer n text)) → Mid s v past l mid n text
-mid_of s v past l mid n text b z o empty h =
+mid_of s v past l mid n text b z o h =
     let st = v.station in
     let c = Offer n text in
     let one = Called c ∷ l.runs.seen in
     let f : station_fits.StationFits mid one = called_fits st mid l.runs.seen c l.runs.fits b (offer_taken st n text z o) h in
     let states : (e : ℕ) → e < 62 → (channel_at mid e).state ≡ (channel_at st e).state
     = λ e k. sym (f.channels_are e k).state_is ∙ (ap (λ (x : sending.StationSetting). state_of x.role e one) h.setting ∙ (state_called st.role e l.runs.seen c ∙ (l.runs.fits.channels_are e k).state_is)) in
-    let opened : is_opened (channel_at mid n).state ≡ true = ap is_opened (states n b) ∙ o in
-    let there : is_open st.role n one ≡ true
-    = sym (opened_is_open st.role one n) ∙ (ap is_opened (state_called st.role n l.runs.seen c ∙ (l.runs.fits.channels_are n b).state_is) ∙ o) in
-    let old = (l.runs.fits.channels_are n b).ring_is o in
-    let new : offered st.role n one ≡ data_out st.role n one ++ (channel_at mid n).waiting
-    = subst (λ (x : sending.StationSetting). offered x.role n one ≡ data_out x.role n one ++ (channel_at mid n).waiting) h.setting ((f.channels_are n b).ring_is opened) in
-    let sizes : length (offered st.role n l.runs.seen) + length text ≡ length (data_out st.role n l.runs.seen) + length (channel_at mid n).waiting
-    = sym (length-append (offered st.role n l.runs.seen) text)
-    ∙ (ap (λ (x : List ℕ). length (offered st.role n l.runs.seen ++ x)) (sym (offers_itself n text))
-    ∙ (ap length (sym (offered_called st.role n c l.runs.seen there))
-    ∙ (ap length new
-    ∙ (length-append (data_out st.role n one) (channel_at mid n).waiting
-    ∙ ap (λ (x : List ℕ). length x + length (channel_at mid n).waiting) (given_called st.role n c l.runs.seen there))))) in
-    let before : length (offered st.role n l.runs.seen) ≡ length (data_out st.role n l.runs.seen)
-    = ap length (old ∙ (ap (λ (x : List ℕ). data_out st.role n l.runs.seen ++ x) empty ∙ append-nil (data_out st.role n l.runs.seen))) in
-    record { handles = h; fits = f; states = states; waits = omega (arith, sizes, before) }
-
--- both octets and CR are offered there
-offered_both : (e n : ℕ) (text : List ℕ) (x : List station.Act) → is_open Initiator e (Called (Offer n (13 ∷ [])) ∷ Called (Offer n text) ∷ x) ≡ true
-    → offered Initiator e (Called (Offer n (13 ∷ [])) ∷ Called (Offer n text) ∷ x) ≡ (offered Initiator e x ++ octets_offered e (Called (Offer n text))) ++ octets_offered e (Called (Offer n (13 ∷ [])))
-offered_both e n text x o =
-    let one = Called (Offer n text) ∷ x in
-    offered_called Initiator e (Offer n (13 ∷ [])) one o
-    ∙ ap (λ (y : List ℕ). y ++ octets_offered e (Called (Offer n (13 ∷ [])))) (offered_called Initiator e (Offer n text) x (called_was Initiator e (Offer n (13 ∷ [])) one o))
+    record { handles = h; fits = f; states = states }
 
 enters_so : (s : Setting) (v : Core) (past : List Act) (q : Request) (d : Dlci) → (l : Live s v past) → MayCome s v past (Took q) → length v.hand < 128 → q.ask ≡ Command d (line_of q)
     → list_any (commands_on d.number) v.hand ≡ false → (e : ℕ) → e < 62 → (e == 0) ≡ false → is_open Initiator e (wire past) ≡ true → (b : Bool) → (d.number == e) ≡ b
-    → offered Initiator e (Called (Offer d.number (13 ∷ [])) ∷ Called (Offer d.number (line_of q)) ∷ l.runs.seen) ≡ concat (texts (take (answered (dialect_in v) (marks Initiator e past) + 1) (accepted Initiator e (Took q ∷ past))))
+    → offered Initiator e (Called (Offer d.number (line_of q ++ 13 ∷ [])) ∷ l.runs.seen) ≡ concat (texts (take (answered (dialect_in v) (marks Initiator e past) + 1) (accepted Initiator e (Took q ∷ past))))
 enters_so s v past q d l m few asks any e b z o false k =
     let n = d.number in
-    let text = line_of q in
-    let two = Called (Offer n (13 ∷ [])) ∷ Called (Offer n text) ∷ l.runs.seen in
-    let here : is_open Initiator e two ≡ true = open_plain Initiator e two ∙ (ap (is_open Initiator e) l.runs.same ∙ o) in
+    let line = line_of q ++ 13 ∷ [] in
+    let one = Called (Offer n line) ∷ l.runs.seen in
+    let here : is_open Initiator e one ≡ true = open_plain Initiator e one ∙ (ap (is_open Initiator e) l.runs.same ∙ o) in
     let before = offered Initiator e l.runs.seen in
-    offered_both e n text l.runs.seen here
-    ∙ (ap (λ (x : Bool). (before ++ (if x then text else [])) ++ (if x then 13 ∷ [] else [])) k
-    ∙ (append-nil (before ++ []) ∙ (append-nil before
-    ∙ ((l.runs.lanes_fit e b z o).offered_is ∙ ap (λ (qs : List Request). concat (texts (take (answered (dialect_in v) (marks Initiator e past) + 1) qs))) (sym (accepted_beside past q d e asks k))))))
+    offered_called Initiator e (Offer n line) l.runs.seen here
+    ∙ (ap (λ (x : Bool). before ++ (if x then line else [])) k
+    ∙ (append-nil before
+    ∙ ((l.runs.lanes_fit e b z o).offered_is ∙ ap (λ (qs : List Request). concat (texts (take (answered (dialect_in v) (marks Initiator e past) + 1) qs))) (sym (accepted_beside past q d e asks k)))))
 enters_so s v past q d l m few asks any e b z o true k =
     let n = d.number in
-    let text = line_of q in
-    let two = Called (Offer n (13 ∷ [])) ∷ Called (Offer n text) ∷ l.runs.seen in
-    let here : is_open Initiator e two ≡ true = open_plain Initiator e two ∙ (ap (is_open Initiator e) l.runs.same ∙ o) in
+    let line = line_of q ++ 13 ∷ [] in
+    let one = Called (Offer n line) ∷ l.runs.seen in
+    let here : is_open Initiator e one ≡ true = open_plain Initiator e one ∙ (ap (is_open Initiator e) l.runs.same ∙ o) in
     let before = offered Initiator e l.runs.seen in
     let place : n ≡ e = eqb-true n e k in
     let there : is_open s.role e (wire past) ≡ true = ap (λ (r : Role). is_open r e (wire past)) l.role_is ∙ o in
@@ -294,40 +262,31 @@ enters_so s v past q d l m few asks any e b z o true k =
     let all : take (answered (dialect_in v) (marks Initiator e past) + 1) (accepted Initiator e (Took q ∷ past)) ≡ acc ++ q ∷ []
     = ap (take (answered (dialect_in v) (marks Initiator e past) + 1)) more ∙ take_all (answered (dialect_in v) (marks Initiator e past) + 1) (acc ++ q ∷ []) (let a = length-append acc (q ∷ []) in omega (arith, a, count, whole)) in
     let old : before ≡ concat (texts acc) = (l.runs.lanes_fit e b z o).offered_is ∙ ap (λ (qs : List Request). concat (texts qs)) (take_all (answered (dialect_in v) (marks Initiator e past) + 1) acc (omega (arith, count, whole))) in
-    offered_both e n text l.runs.seen here
-    ∙ (ap (λ (x : Bool). (before ++ (if x then text else [])) ++ (if x then 13 ∷ [] else [])) k
-    ∙ (append_assoc before text (13 ∷ [])
-    ∙ (ap (λ (x : List ℕ). x ++ (text ++ 13 ∷ [])) old ∙ (sym (text_more acc q) ∙ ap (λ (qs : List Request). concat (texts qs)) (sym all)))))
+    offered_called Initiator e (Offer n line) l.runs.seen here
+    ∙ (ap (λ (x : Bool). before ++ (if x then line else [])) k
+    ∙ (ap (λ (x : List ℕ). x ++ line) old ∙ (sym (text_more acc q) ∙ ap (λ (qs : List Request). concat (texts qs)) (sym all))))
 
 enters_reaches : (s : Setting) (v : Core) (past : List Act) (q : Request) (d : Dlci) (w : Station) → Live s v past → MayCome s v past (Took q) → length v.hand < 128 → q.ask ≡ Command d (line_of q)
     → (d.number == 0) ≡ false → is_opened (channel_at v.station d.number).state ≡ true → length (line_of q) ≤ 256
-    → list_any (commands_on d.number) v.hand ≡ false → TakesLine v.station w d.number (line_of q) → Reaches s v past q w
+    → list_any (commands_on d.number) v.hand ≡ false → TakesLine v.station w d.number (line_of q ++ 13 ∷ []) → Reaches s v past q w
 enters_reaches s v past q d w l m few asks z o short any t =
     let st = v.station in
     let n = d.number in
-    let text = line_of q in
+    let line = line_of q ++ 13 ∷ [] in
     let there : is_open s.role n (wire past) ≡ true = sym (opened_is_open s.role (wire past) n) ∙ (ap is_opened (l.states_are n d.in_range) ∙ o) in
     let none : commands_for n (in_hand past) ≡ [] = ap (commands_for n) l.hand_is ∙ any_none n v.hand any in
     let empty : (channel_at st n).waiting ≡ [] = ring_empty s v past n l m.run d.in_range z there none in
     let size = ap length empty in
-    let first = t.first (offer_free st n text z o (omega (arith, size, short))) in
-    let mid = mid_of s v past l t.mid n text d.in_range z o empty first in
-    let opened : is_opened (channel_at t.mid n).state ≡ true = ap is_opened (mid.states n d.in_range) ∙ o in
-    let c = Offer n (13 ∷ []) in
-    let one = Called (Offer n text) ∷ l.runs.seen in
-    let two = Called c ∷ one in
-    let fill = mid.waits in
-    let second = t.second (offer_free t.mid n (13 ∷ []) z opened (omega (arith, fill, short))) in
-    let f : station_fits.StationFits w two = called_fits t.mid w one c mid.fits d.in_range (offer_taken t.mid n (13 ∷ []) z opened) second in
+    let long = length-append (line_of q) (13 ∷ []) in
+    let taken = t.taken (offer_free st n line z o (omega (arith, size, short, long))) in
+    let mid = mid_of s v past l w n line d.in_range z o taken in
     record {
-      acts_seen = two;
-      fits = f;
+      acts_seen = Called (Offer n line) ∷ l.runs.seen;
+      fits = mid.fits;
       same = l.runs.same;
-      states = λ e k. sym (f.channels_are e k).state_is ∙ (ap (λ (x : sending.StationSetting). state_of x.role e two) second.setting
-          ∙ (state_called t.mid.role e one c ∙ ((mid.fits.channels_are e k).state_is ∙ mid.states e k)));
-      probe = sym f.probe_is ∙ (ap (λ (x : sending.StationSetting). probe_of x two) second.setting
-          ∙ (probe_called (setting_of t.mid) one c refl ∙ (ap (λ (x : sending.StationSetting). probe_of x one) first.setting
-          ∙ (probe_called (setting_of st) l.runs.seen (Offer n text) refl ∙ l.runs.fits.probe_is))));
+      states = mid.states;
+      probe = sym mid.fits.probe_is ∙ (ap (λ (x : sending.StationSetting). probe_of x (Called (Offer n line) ∷ l.runs.seen)) taken.setting
+          ∙ (probe_called (setting_of st) l.runs.seen (Offer n line) refl ∙ l.runs.fits.probe_is));
       offered_are = λ e k y h. enters_so s v past q d l m few asks any e k y h (d.number == e) refl;
     }
 
@@ -338,7 +297,7 @@ pub record Commands (v : Core) (w : Station) (q : Request) (d : Dlci) : Type 0 w
   pub asks : q.ask ≡ Command d (line_of q)
   pub taken_on : refused_command v.station d.number ≡ None
   pub short : length (line_of q) ≤ 256
-  pub offers : OffersFirstCommand v.hand v.station w d.number (line_of q)
+  pub offers : OffersFirstCommand v.hand v.station w d.number (line_of q ++ 13 ∷ [])
 
 record Free (zero opened : Bool) : Type 0 where
   not_zero : zero ≡ false
@@ -352,7 +311,7 @@ free_by false true h = record { not_zero = refl; was_opened = refl }
 command_reaches : (s : Setting) (v : Core) (past : List Act) (q : Request) (d : Dlci) (w : Station) → Live s v past → MayCome s v past (Took q) → length v.hand < 128 → Commands v w q d → Reaches s v past q w
 command_reaches s v past q d w l m few o = by_any (list_any (commands_on d.number) v.hand) refl o.offers.enters
   where
-    by_any : (b : Bool) → list_any (commands_on d.number) v.hand ≡ b → Enters b v.station w d.number (line_of q) → Reaches s v past q w
+    by_any : (b : Bool) → list_any (commands_on d.number) v.hand ≡ b → Enters b v.station w d.number (line_of q ++ 13 ∷ []) → Reaches s v past q w
     by_any true k e = subst (λ (x : Station). Reaches s v past q x) (sym e) (waits_reaches s v past q d l m few o.asks k)
     by_any false k e =
         let free = free_by (d.number == 0) (is_opened (channel_at v.station d.number).state) o.taken_on in

@@ -26,12 +26,12 @@ returns-clause-past c =
     let new : Core = record v { station = w; hand = c.push.new.self } in
     let same : new ≡ record v { station = w; hand = v.hand ++ q ∷ [] } = ap (λ (rs : List Request). record v { station = w; hand = rs }) c.push.ensures in
     let sent : GoesInHand v q.ask c.args.dlci = subst (λ (x : Core). GoesInHand x q.ask c.args.dlci) (sym c.self.view_is) (goes_in_hand c.args.self.now q.ask c.args.dlci c.requires) in
-    let text : c.text_of-text.result.now ≡ line_of q = c.text_of-text.ensures.text in
+    let line : c.octets_of-line.result.now ≡ line_of q ++ 13 ∷ [] = c.octets_of-line.ensures.octets in
     let goes : Commands v w q c.args.dlci = record {
       asks = sent.asks;
       taken_on = sent.taken_on;
-      short = subst (λ (t : List ℕ). length t ≤ 256) text c.text_of-text.ensures.short;
-      offers = subst (λ (t : List ℕ). OffersFirstCommand v.hand v.station w n t) text c.offer_first.ensures;
+      short = c.octets_of-line.ensures.short;
+      offers = subst (λ (t : List ℕ). OffersFirstCommand v.hand v.station w n t) line c.offer_first.ensures;
     } in
     subst (λ (x : Core). Handles x new (Took q) (Took q ∷ [])) c.self.view_is
     (command_handles v new w q c.args.dlci (code.Took q ∷ []) c.self.invariant.role_is sent.live sent.few goes same refl)
