@@ -112,7 +112,8 @@ uint8_t cimbaloty_data_to_go_at(struct cimbaloty_data *d, uint8_t dlci, size_t *
 /* Octets of the line. Where it wants memory, a frame waits: call it again with the octets behind those taken, or with none. */
 uint8_t cimbaloty_data_from_line_at(struct cimbaloty_data *d, const uint8_t *octets, size_t length, size_t *taken);
 
-/* The next octets for the line: the driver's frames first, and none of data while one of these waits. They count as written. */
+/* The next octets for the line: the driver's frames first, and none of data while one of these waits. They count as written. A room of
+ * N1 + 7 octets and more takes frames of data one behind the other; in a shorter one a frame goes in parts, and costs a copy more. */
 size_t cimbaloty_data_to_line_at(struct cimbaloty_data *d, uint8_t *room, size_t length);
 
 /* Octets that the driver gave for the line. It takes some wherever nothing waits for the line. */
