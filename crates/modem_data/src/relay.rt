@@ -409,7 +409,7 @@ impl Relay {
         ensures none_wait { result ≡ false → (length self.old.to_line == 0) ≡ true }
         ensures no_frame { result ≡ false → self.old.inner.next ≡ None }
         ensures none_due { result ≡ false → OfEachPast self.old.pipes (λ role past. (d : ℕ) (go : Bool) → ¬ IsDue role d past go) }
-        ensures none { result ≡ false → self.new ≡ self.old }
+        ensures none_passed { result ≡ false → self.new ≡ self.old }
         ensures still { 0 < length self.old.to_line → self.new ≡ self.old }
     {
         if !self.to_line.is_empty() {
