@@ -64,6 +64,9 @@ fn handle_waiting(endpoint: &mut Endpoint) -> Option<Blocked>
     ensures takes { (l : LineView) (d : DriverView) → TakesOctets l d endpoint.old endpoint.new [] result }
     ensures says { SaysOfFrames endpoint.new result }
 {
+    if endpoint.is_quiet() {
+        return None;
+    }
     endpoint.handle_input(&[]).blocked
 }
 

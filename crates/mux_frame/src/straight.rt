@@ -38,6 +38,22 @@ fn begin_anew(octets: &mut HeapCircularBuffer<u8>, kept: usize, more: &[u8], pie
     write_anew(octets, &mut piece[..kept], more);
 }
 
+#[inline(always)]
+/// Puts octets behind the others. A single one, as from a line that is read octet by octet, is put there at once.
+fn put_behind(octets: &mut HeapCircularBuffer<u8>, more: &[u8])
+    requires { length octets.old.items + length more.now ≤ octets.old.capacity }
+    ensures { octets.new ≡ buffer (octets.old.items ++ more.now) octets.old.capacity }
+{
+    match more {
+        [octet] => {
+            let _ = octets.try_push_back(*octet);
+        }
+        _ => {
+            octets.fill_from_slice(more);
+        }
+    }
+}
+
 /// Appends octets that there is room for. Where they wrap then, they are written anew at the block's beginning, unless more
 /// than a piece precedes them.
 pub(crate) fn append(octets: &mut HeapCircularBuffer<u8>, more: &[u8])
@@ -45,7 +61,7 @@ pub(crate) fn append(octets: &mut HeapCircularBuffer<u8>, more: &[u8])
     ensures { octets.new ≡ buffer (octets.old.items ++ more.now) octets.old.capacity }
 {
     let kept = octets.len();
-    octets.fill_from_slice(more);
+    put_behind(octets, more);
     let (_, wrapped) = octets.as_slices();
     if kept <= PIECE && !wrapped.is_empty() {
         begin_anew(octets, kept, more, &mut [0; PIECE]);

@@ -12,30 +12,8 @@ impl Endpoint {
     /// freed each connection by how many of its lines wait. Blocked, it keeps what it took. Write by `poll_output`
     /// (OutputFirst) or free memory (NoMemory), then call it with the octets not taken, or with none. After
     /// `poll_unsolicited`, a call with no octets frees the connections that were held for the lines taken.
-    pub fn handle_input(&mut self, octets: &[u8]) -> Input
-        ensures takes { (l : LineView) (d : DriverView)
-            → TakesOctets l d self.old self.new (take result.taken octets.now) result.blocked }
-        ensures few { result.taken ≤ length octets.now }
-        ensures says { MachineSays self.new.machine (result.taken ≡ length octets.now) result.blocked }
-    {
-        if octets.is_empty() && self.is_quiet() {
-            return Input::done(0);
-        }
-        self.take_octets(octets)
-    }
-
-    /// Whether a call of `handle_input` with no octets does nothing: no frame is at hand, and no backlog calls for anything.
-    pub fn is_quiet(&self) -> bool
-        ensures takes { result ≡ true → (l : LineView) (d : DriverView) → TakesOctets l d self.now self.now [] None }
-        ensures none { result ≡ true → self.now.machine.deframer.next ≡ None }
-    {
-        self.machine.is_quiet()
-    }
-
-    #[inline(never)]
     #[tactic(auto, using(crate::proofs::endpoints::WholeCalls::takes_octets, crate::proofs::endpoints::WholeCalls::takes_blocked))]
-    /// The same, whatever is at hand.
-    fn take_octets(&mut self, octets: &[u8]) -> Input
+    pub fn handle_input(&mut self, octets: &[u8]) -> Input
         ensures takes { (l : LineView) (d : DriverView)
             → TakesOctets l d self.old self.new (take result.taken octets.now) result.blocked }
         ensures few { result.taken ≤ length octets.now }
@@ -47,5 +25,13 @@ impl Endpoint {
         }
         let _moved = self.machine.check_backlogs();
         input
+    }
+
+    /// Whether a call of `handle_input` with no octets does nothing: no frame is at hand, and no backlog calls for anything.
+    pub fn is_quiet(&self) -> bool
+        ensures takes { result ≡ true → (l : LineView) (d : DriverView) → TakesOctets l d self.now self.now [] None }
+        ensures none { result ≡ true → self.now.machine.deframer.next ≡ None }
+    {
+        self.machine.is_quiet()
     }
 }

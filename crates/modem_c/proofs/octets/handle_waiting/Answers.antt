@@ -13,3 +13,9 @@ returns-clause-takes c l d =
 
 pub returns-clause-says : goal.returns-clause-says
 returns-clause-says c = says_of_frames c.handle_input.new.self _ c.handle_input.result.blocked c.handle_input.ensures.says
+
+pub returns-then-is_quiet-clause-takes : goal.returns-then-is_quiet-clause-takes
+returns-then-is_quiet-clause-takes c = c.is_quiet.ensures.takes c.if-is_quiet.true
+
+pub returns-then-is_quiet-clause-says : goal.returns-then-is_quiet-clause-says
+returns-then-is_quiet-clause-says c = (tt, c.is_quiet.ensures.none c.if-is_quiet.true)

@@ -2,7 +2,7 @@
 use Rattle.std.proofs.Common.{subst, take}
 use Rattle.modem_driver.specs.Endpoints.{EndpointState, TakesOctets}
 use Rattle.modem_driver.proofs.endpoints.WholeCalls.{takes_octets}
-use Rattle.modem_driver.proofs.endpoint.Endpoint.take_octets.Goals as goal
+use Rattle.modem_driver.proofs.endpoint.Endpoint.handle_input.Goals as goal
 
 pub returns-clause-takes : goal.returns-clause-takes
 returns-clause-takes c l d =
