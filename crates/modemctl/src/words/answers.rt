@@ -10,6 +10,7 @@ ghost use Rattle.modemctl.specs.Sims.{IsOfAnswers, SaysBadAnswer, answers_line};
 ghost use Rattle.modemctl.specs.Words.{answers_rule};
 
 use crate::words::file_faults::refuse_text;
+use crate::words::options::text_option;
 use crate::words::text_files::{TextFault, TextFiles};
 use clap::{Arg, ArgAction, ArgMatches};
 use ctl_run::{AnswerPart, AnswersStop, Stop, answers_from};
@@ -24,11 +25,13 @@ pub fn answers_option<'a>(alloc: Global) -> Arg<'a>
     ensures rule { rule_of result ≡ answers_rule }
     ensures own { result.global ≡ false }
 {
-    Arg::new(alloc, "answers")
-        .long("answers")
-        .value_name("FILE")
-        .help("Answers of your own: a line for each, as: AT+QGPS? => +QGPS: 0 | OK")
-        .action(ArgAction::Set)
+    text_option(
+        alloc,
+        "answers",
+        "FILE",
+        "Answers of your own: a line for each, as: AT+QGPS? => +QGPS: 0 | OK",
+        ArgAction::Set,
+    )
 }
 
 /// Why a file of answers gives none.

@@ -1,7 +1,7 @@
 //! The words that the program takes: its subcommands, and their options.
-ghost use Rattle.std.specs.Prelude.{◌≡◌, IfOk};
-ghost use Rattle.clap.specs.Words.{app_of, with_subcommand, AddsSubcommand};
-ghost use Rattle.modemctl.specs.Words.{bench_app, drive_app, frames_app, program_app, replay_app, sim_app, with_five, with_four, with_one, with_three, with_two};
+ghost use Rattle.std.specs.Prelude.{◌≡◌, IfOk, false, true};
+ghost use Rattle.clap.specs.Words.{App, Rule, app_of, new_app, rule_of, with_rule, with_subcommand};
+ghost use Rattle.modemctl.specs.Words.{bench_app, frames_app, program_app, replay_app, sim_app, wanting_one};
 
 use crate::words::answers::answers_option;
 use crate::words::data_paths::data_path_option;
@@ -13,112 +13,107 @@ use crate::words::options::{callers_option, cut_option, n1_option};
 use crate::words::reasons::explain_option;
 use crate::words::showing::show_command;
 use crate::words::sims::{echo_option, pin_option};
-use clap::Command;
+use clap::{Arg, Command};
+use results::both;
 use std::alloc::{AllocError, Global};
+
+/// A command without options, with what its help says before and behind them.
+pub fn new_command<'a>(alloc: Global, name: &'a str, about: &'a str, help: &'a str) -> Command<'a>
+    ensures { app_of result ≡ new_app name.entry.now }
+{
+    Command::new(alloc, name).about(about).after_help(help)
+}
+
+/// The same command with one more option, which isn't global.
+pub fn add<'a>(
+    made: Result<Command<'a>, AllocError>,
+    option: Arg<'a>,
+) -> Result<Command<'a>, AllocError>
+    requires { option.global ≡ false }
+    ensures { (app : App) (rule : Rule) → rule_of option.entry ≡ rule → IfOk made.entry (λ c. app_of c ≡ app)
+        → IfOk result (λ c. app_of c ≡ with_rule app rule) }
+{
+    match made {
+        Ok(command) => command.arg(option),
+        Err(refused) => Err(refused),
+    }
+}
+
+/// The same program with one more subcommand.
+fn add_subcommand<'a>(
+    program: Result<Command<'a>, AllocError>,
+    subcommand: Result<Command<'a>, AllocError>,
+) -> Result<Command<'a>, AllocError>
+    ensures { (app sub : App) → sub.top.is_plain ≡ true → IfOk program.entry (λ c. app_of c ≡ app)
+        → IfOk subcommand.entry (λ c. app_of c ≡ sub) → IfOk result (λ c. app_of c ≡ with_subcommand app sub.top) }
+{
+    let (program, subcommand) = both(program, subcommand)?;
+    program.subcommand(subcommand)
+}
 
 /// The subcommand that reads octets.
 fn frames_command<'a>(alloc: Global) -> Result<Command<'a>, AllocError>
-    ensures { IfOk result (λ c. (old new : Command) → AddsSubcommand old c new
-        → app_of new ≡ with_subcommand (app_of old) frames_app.top) }
+    ensures { IfOk result (λ c. app_of c ≡ frames_app) }
 {
-    Command::new(alloc, "frames")
-        .about("Reads octets, written in hexadecimal, as frames")
-        .after_help(help::FRAMES)
-        .arg(n1_option(alloc))?
-        .arg(explain_option(alloc))
+    let about = "Reads octets, written in hexadecimal, as frames";
+    let made = Ok(new_command(alloc, "frames", about, help::FRAMES));
+    let made = add(made, n1_option(alloc));
+    add(made, explain_option(alloc))
 }
 
 /// The subcommand that replays a script.
 fn replay_command<'a>(alloc: Global) -> Result<Command<'a>, AllocError>
-    ensures { IfOk result (λ c. (old new : Command) → AddsSubcommand old c new
-        → app_of new ≡ with_subcommand (app_of old) replay_app.top) }
+    ensures { IfOk result (λ c. app_of c ≡ replay_app) }
 {
-    Command::new(alloc, "replay")
-        .about("Says what the driver of a modem does with the events of a script")
-        .after_help(help::REPLAY)
-        .arg(n1_option(alloc))?
-        .arg(dialect_option(alloc))?
-        .arg(explain_option(alloc))
+    let about = "Says what the driver of a modem does with the events of a script";
+    let made = Ok(new_command(alloc, "replay", about, help::REPLAY));
+    let made = add(made, n1_option(alloc));
+    let made = add(made, dialect_option(alloc));
+    add(made, explain_option(alloc))
 }
 
 /// The subcommand that runs a bench.
 fn bench_command<'a>(alloc: Global) -> Result<Command<'a>, AllocError>
-    ensures { IfOk result (λ c. (old new : Command) → AddsSubcommand old c new
-        → app_of new ≡ with_subcommand (app_of old) bench_app.top) }
+    ensures { IfOk result (λ c. app_of c ≡ bench_app) }
 {
-    Command::new(alloc, "bench")
-        .about("Has callers in threads share a simulated modem, and prints what they are told")
-        .after_help(help::BENCH)
-        .arg(callers_option(alloc))?
-        .arg(cut_option(alloc))?
-        .arg(explain_option(alloc))
+    let about = "Has callers in threads share a simulated modem, and prints what they are told";
+    let made = Ok(new_command(alloc, "bench", about, help::BENCH));
+    let made = add(made, callers_option(alloc));
+    let made = add(made, cut_option(alloc));
+    add(made, explain_option(alloc))
 }
 
 /// The subcommand that is a modem.
 fn sim_command<'a>(alloc: Global) -> Result<Command<'a>, AllocError>
-    ensures { IfOk result (λ c. (old new : Command) → AddsSubcommand old c new
-        → app_of new ≡ with_subcommand (app_of old) sim_app.top) }
+    ensures { IfOk result (λ c. app_of c ≡ sim_app) }
 {
-    Command::new(alloc, "sim")
-        .about("Is a modem on standard input and output, for any client")
-        .after_help(help::SIM)
-        .arg(n1_option(alloc))?
-        .arg(pin_option(alloc))?
-        .arg(echo_option(alloc))?
-        .arg(script_option(alloc))?
-        .arg(answers_option(alloc))?
-        .arg(capture_option(alloc))?
-        .arg(data_path_option(alloc, help::SIM_DATA))
+    let about = "Is a modem on standard input and output, for any client";
+    let made = Ok(new_command(alloc, "sim", about, help::SIM));
+    let made = add(made, n1_option(alloc));
+    let made = add(made, pin_option(alloc));
+    let made = add(made, echo_option(alloc));
+    let made = add(made, script_option(alloc));
+    let made = add(made, answers_option(alloc));
+    let made = add(made, capture_option(alloc));
+    add(made, data_path_option(alloc, help::SIM_DATA))
 }
 
-/// The program with the subcommand that reads octets.
-fn one_command<'a>(alloc: Global) -> Result<Command<'a>, AllocError>
-    ensures { IfOk result (λ c. app_of c ≡ with_one) }
+/// The program without a subcommand.
+fn bare_program<'a>(alloc: Global) -> Command<'a>
+    ensures { app_of result ≡ wanting_one }
 {
-    let frames = frames_command(alloc)?;
-    Command::new(alloc, "modemctl")
-        .about("The driver of a cellular modem, on the basic option of 3GPP TS 27.010")
-        .after_help(help::PROGRAM)
-        .subcommand_required(true)
-        .subcommand(frames)
-}
-
-/// The same with a replay.
-fn two_commands<'a>(alloc: Global) -> Result<Command<'a>, AllocError>
-    ensures { IfOk result (λ c. app_of c ≡ with_two) }
-{
-    let replay = replay_command(alloc)?;
-    one_command(alloc)?.subcommand(replay)
-}
-
-/// The same with a bench.
-fn three_commands<'a>(alloc: Global) -> Result<Command<'a>, AllocError>
-    ensures { IfOk result (λ c. app_of c ≡ with_three) }
-{
-    let bench = bench_command(alloc)?;
-    two_commands(alloc)?.subcommand(bench)
-}
-
-/// The same with a modem.
-fn four_commands<'a>(alloc: Global) -> Result<Command<'a>, AllocError>
-    ensures { IfOk result (λ c. app_of c ≡ with_four) }
-{
-    let sim = sim_command(alloc)?;
-    three_commands(alloc)?.subcommand(sim)
-}
-
-/// The same with a drive.
-fn five_commands<'a>(alloc: Global) -> Result<Command<'a>, AllocError>
-    ensures { IfOk result (λ c. app_of c ≡ with_five) }
-{
-    let drive = drive_command(alloc)?;
-    four_commands(alloc)?.subcommand(drive)
+    let about = "The driver of a cellular modem, on the basic option of 3GPP TS 27.010";
+    new_command(alloc, "modemctl", about, help::PROGRAM).subcommand_required(true)
 }
 
 /// The program with all of them.
 pub fn program<'a>(alloc: Global) -> Result<Command<'a>, AllocError>
     ensures { IfOk result (λ c. app_of c ≡ program_app) }
 {
-    let show = show_command(alloc)?;
-    five_commands(alloc)?.subcommand(show)
+    let made = add_subcommand(Ok(bare_program(alloc)), frames_command(alloc));
+    let made = add_subcommand(made, replay_command(alloc));
+    let made = add_subcommand(made, bench_command(alloc));
+    let made = add_subcommand(made, sim_command(alloc));
+    let made = add_subcommand(made, drive_command(alloc));
+    add_subcommand(made, show_command(alloc))
 }

@@ -8,6 +8,7 @@ ghost use Rattle.modemctl.specs.Drives.{AreDataPaths, AreFiles, begin_by, data_p
 ghost use Rattle.modemctl.specs.Shows.{given_for};
 ghost use Rattle.modemctl.specs.Words.{arm_rule, data_path_rule, is_set, text_path_rule};
 
+use crate::words::options::{flag_option, text_option};
 use crate::words::showing::{NoChannels, channel_of};
 use at_text::{Dialect, DialectError, Form};
 use clap::{Arg, ArgAction, ArgMatches};
@@ -26,11 +27,7 @@ pub fn data_path_option<'a>(alloc: Global, help: &'a str) -> Arg<'a>
     ensures rule { rule_of result ≡ data_path_rule }
     ensures own { result.global ≡ false }
 {
-    Arg::new(alloc, "data")
-        .long("data")
-        .value_name("D=PATH")
-        .help(help)
-        .action(ArgAction::Append)
+    text_option(alloc, "data", "D=PATH", help, ArgAction::Append)
 }
 
 /// The option `--text`.
@@ -38,13 +35,13 @@ pub fn text_path_option<'a>(alloc: Global) -> Arg<'a>
     ensures rule { rule_of result ≡ text_path_rule }
     ensures own { result.global ≡ false }
 {
-    Arg::new(alloc, "text")
-        .long("text")
-        .value_name("D=PATH")
-        .help(
-            "PATH has the text for the next prompt on connection D, as AT+CMGS gives one, and its end, 1A; as --data it may be given again",
-        )
-        .action(ArgAction::Append)
+    text_option(
+        alloc,
+        "text",
+        "D=PATH",
+        "PATH has the text for the next prompt on connection D, as AT+CMGS gives one, and its end, 1A; as --data it may be given again",
+        ArgAction::Append,
+    )
 }
 
 /// The option `--arm`.
@@ -52,10 +49,11 @@ pub fn arm_option<'a>(alloc: Global) -> Arg<'a>
     ensures rule { rule_of result ≡ arm_rule }
     ensures own { result.global ≡ false }
 {
-    Arg::new(alloc, "arm")
-        .long("arm")
-        .help("Data begins behind the CONNECT line that answers a command, not at once")
-        .action(ArgAction::SetTrue)
+    flag_option(
+        alloc,
+        "arm",
+        "Data begins behind the CONNECT line that answers a command, not at once",
+    )
 }
 
 /// Whether data begins behind a CONNECT line.

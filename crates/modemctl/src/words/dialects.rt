@@ -7,6 +7,7 @@ ghost use Rattle.modemctl.specs.Files.{IsNoText, NamesCause, text_status};
 ghost use Rattle.modemctl.specs.Words.{dialect_rule};
 
 use crate::words::file_faults::refuse_text;
+use crate::words::options::text_option;
 use crate::words::text_files::{TextFault, TextFiles};
 use at_text::Dialect;
 use clap::{Arg, ArgAction, ArgMatches};
@@ -20,11 +21,13 @@ pub fn dialect_option<'a>(alloc: Global) -> Arg<'a>
     ensures rule { rule_of result ≡ dialect_rule }
     ensures own { result.global ≡ false }
 {
-    Arg::new(alloc, "dialect")
-        .long("dialect")
-        .value_name("DIALECT")
-        .help("The codes of the modem: common, dialling, or a file with a rule a line")
-        .action(ArgAction::Set)
+    text_option(
+        alloc,
+        "dialect",
+        "DIALECT",
+        "The codes of the modem: common, dialling, or a file with a rule a line",
+        ArgAction::Set,
+    )
 }
 
 /// The dialect of the file of this path.

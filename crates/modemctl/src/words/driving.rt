@@ -1,12 +1,13 @@
 //! The words of a drive.
 ghost use Rattle.std.specs.Prelude.{◌≡◌, ◌<◌, ◌≤◌, ◌⊎◌, IfErr, IfOk, IsErr, OnOk, codes, false, is_some, true};
-ghost use Rattle.clap.specs.Words.{app_of, first_value, found_of, rule_of, with_subcommand, AddsSubcommand};
+ghost use Rattle.clap.specs.Words.{app_of, first_value, found_of, rule_of};
 ghost use Rattle.ctl_drive.specs.Entry.{entry_for, given_text};
 ghost use Rattle.modemctl.specs.Dialects.{IsShut};
 ghost use Rattle.modemctl.specs.Drives.{DrivesWith, IsDriveDialect, RanWith};
 ghost use Rattle.modemctl.specs.Files.{IsNoText, NamesCause};
 ghost use Rattle.modemctl.specs.Words.{device_rule, drive_app, entry_rule, is_set, quiet_rule, tick_rule};
 
+use crate::words::commands::{add, new_command};
 use crate::words::data_paths::{
     arm_of, arm_option, data_path_option, data_paths_of, refuse_data, text_path_option,
     with_connect,
@@ -14,11 +15,11 @@ use crate::words::data_paths::{
 use crate::words::dialects::{dialect_option, given_dialect};
 use crate::words::files::capture_option;
 use crate::words::numbers::{number_of, seconds_of};
-use crate::words::options::n1_option;
+use crate::words::options::{n1_option, needed_word, number_option, text_option};
 use crate::words::text_files::TextFiles;
 use crate::words::{help, refuse};
 use at_text::Dialect;
-use clap::{Arg, ArgAction, ArgMatches, Command, value_parser};
+use clap::{Arg, ArgAction, ArgMatches, Command};
 use ctl_drive::{Settings, drive_data_run, drive_run};
 use std::alloc::{AllocError, AllocGlobal, Global};
 use std::fs::File;
@@ -36,13 +37,15 @@ fn tick_option<'a>(alloc: Global) -> Arg<'a>
     ensures rule { rule_of result ≡ tick_rule }
     ensures own { result.global ≡ false }
 {
-    Arg::new(alloc, "tick")
-        .long("tick")
-        .value_name("MS")
-        .help("Milliseconds from tick to tick, 10 to 60000")
-        .action(ArgAction::Set)
-        .default_value("100")
-        .value_parser(value_parser!(u16).range(10..=60000))
+    number_option(
+        alloc,
+        "tick",
+        "MS",
+        "Milliseconds from tick to tick, 10 to 60000",
+        10,
+        60000,
+    )
+    .default_value("100")
 }
 
 /// The option `--quiet-for`.
@@ -50,14 +53,14 @@ fn quiet_option<'a>(alloc: Global) -> Arg<'a>
     ensures rule { rule_of result ≡ quiet_rule }
     ensures own { result.global ≡ false }
 {
-    Arg::new(alloc, "quiet-for")
-        .long("quiet-for")
-        .value_name("SECONDS")
-        .help(
-            "Closes a connection whose command has no answer for so long, 1 to 60000 (default 120)",
-        )
-        .action(ArgAction::Set)
-        .value_parser(value_parser!(u16).range(1..=60000))
+    number_option(
+        alloc,
+        "quiet-for",
+        "SECONDS",
+        "Closes a connection whose command has no answer for so long, 1 to 60000 (default 120)",
+        1,
+        60000,
+    )
 }
 
 /// The option `--entry`.
@@ -65,11 +68,13 @@ fn entry_option<'a>(alloc: Global) -> Arg<'a>
     ensures rule { rule_of result ≡ entry_rule }
     ensures own { result.global ≡ false }
 {
-    Arg::new(alloc, "entry")
-        .long("entry")
-        .value_name("TEXT")
-        .help("What enters the multiplexer, in place of AT+CMUX=0")
-        .action(ArgAction::Set)
+    text_option(
+        alloc,
+        "entry",
+        "TEXT",
+        "What enters the multiplexer, in place of AT+CMUX=0",
+        ArgAction::Set,
+    )
 }
 
 /// The word for the device.
@@ -77,31 +82,30 @@ fn device_word<'a>(alloc: Global) -> Arg<'a>
     ensures rule { rule_of result ≡ device_rule }
     ensures own { result.global ≡ false }
 {
-    Arg::new(alloc, "device")
-        .value_name("DEVICE")
-        .help("The terminal that the modem is on")
-        .required(true)
-        .action(ArgAction::Set)
+    needed_word(
+        alloc,
+        "device",
+        "DEVICE",
+        "The terminal that the modem is on",
+    )
 }
 
 /// The subcommand that drives a modem.
 pub fn drive_command<'a>(alloc: Global) -> Result<Command<'a>, AllocError>
-    ensures { IfOk result (λ c. (old new : Command) → AddsSubcommand old c new
-        → app_of new ≡ with_subcommand (app_of old) drive_app.top) }
+    ensures { IfOk result (λ c. app_of c ≡ drive_app) }
 {
-    Command::new(alloc, "drive")
-        .about("Drives a modem on a terminal")
-        .after_help(help::DRIVE)
-        .arg(n1_option(alloc))?
-        .arg(tick_option(alloc))?
-        .arg(quiet_option(alloc))?
-        .arg(entry_option(alloc))?
-        .arg(dialect_option(alloc))?
-        .arg(capture_option(alloc))?
-        .arg(data_path_option(alloc, help::DRIVE_DATA))?
-        .arg(arm_option(alloc))?
-        .arg(text_path_option(alloc))?
-        .arg(device_word(alloc))
+    let about = "Drives a modem on a terminal";
+    let made = Ok(new_command(alloc, "drive", about, help::DRIVE));
+    let made = add(made, n1_option(alloc));
+    let made = add(made, tick_option(alloc));
+    let made = add(made, quiet_option(alloc));
+    let made = add(made, entry_option(alloc));
+    let made = add(made, dialect_option(alloc));
+    let made = add(made, capture_option(alloc));
+    let made = add(made, data_path_option(alloc, help::DRIVE_DATA));
+    let made = add(made, arm_option(alloc));
+    let made = add(made, text_path_option(alloc));
+    add(made, device_word(alloc))
 }
 
 /// The time from tick to tick, and how long a connection may be without an answer.

@@ -11,6 +11,7 @@ ghost use Rattle.modemctl.specs.Sims.{IsOfScript, SaysBadStep, bad_step_of};
 ghost use Rattle.modemctl.specs.Words.{capture_rule, script_rule};
 
 use crate::words::file_faults::{FileFault, refuse_file, refuse_text};
+use crate::words::options::text_option;
 use crate::words::text_files::{TextFault, TextFiles};
 use clap::{Arg, ArgAction, ArgMatches};
 use ctl_run::{LineFault, Stop, steps_from};
@@ -28,11 +29,13 @@ pub fn script_option<'a>(alloc: Global) -> Arg<'a>
     ensures rule { rule_of result ≡ script_rule }
     ensures own { result.global ≡ false }
 {
-    Arg::new(alloc, "script")
-        .long("script")
-        .value_name("FILE")
-        .help("What the modem does of its own accord: a line for each step, as: 2 announce 1 RING")
-        .action(ArgAction::Set)
+    text_option(
+        alloc,
+        "script",
+        "FILE",
+        "What the modem does of its own accord: a line for each step, as: 2 announce 1 RING",
+        ArgAction::Set,
+    )
 }
 
 /// The option `--capture`.
@@ -40,11 +43,13 @@ pub fn capture_option<'a>(alloc: Global) -> Arg<'a>
     ensures rule { rule_of result ≡ capture_rule }
     ensures own { result.global ≡ false }
 {
-    Arg::new(alloc, "capture")
-        .long("capture")
-        .value_name("FILE")
-        .help("Writes the frames that pass to this file, for Wireshark")
-        .action(ArgAction::Set)
+    text_option(
+        alloc,
+        "capture",
+        "FILE",
+        "Writes the frames that pass to this file, for Wireshark",
+        ArgAction::Set,
+    )
 }
 
 /// The steps of the script of this path.

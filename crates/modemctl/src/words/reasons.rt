@@ -3,7 +3,8 @@ ghost use Rattle.std.specs.Prelude.{◌≡◌, ◌||◌, codes, false};
 ghost use Rattle.clap.specs.Words.{first_value, found_of, rule_of};
 ghost use Rattle.modemctl.specs.Words.{explain_rule, is_set};
 
-use clap::{Arg, ArgAction, ArgMatches};
+use crate::words::options::flag_option;
+use clap::{Arg, ArgMatches};
 use std::alloc::Global;
 
 /// The option `--explain`.
@@ -11,10 +12,11 @@ pub fn explain_option<'a>(alloc: Global) -> Arg<'a>
     ensures rule { rule_of result ≡ explain_rule }
     ensures own { result.global ≡ false }
 {
-    Arg::new(alloc, "explain")
-        .long("explain")
-        .help("Say on a second line why a line is bad or what the fault is, as on a terminal")
-        .action(ArgAction::SetTrue)
+    flag_option(
+        alloc,
+        "explain",
+        "Say on a second line why a line is bad or what the fault is, as on a terminal",
+    )
 }
 
 /// Whether the reason is wanted: standard error is a terminal, or the words ask for it.

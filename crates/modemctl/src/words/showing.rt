@@ -1,7 +1,7 @@
 //! The words of a capture that is shown.
 ghost use Rattle.std.specs.Prelude.{◌≡◌, ℕ, ◌<◌, ◌≤◌, ◌⊎◌, IfErr, IfOk, IfSome, IsErr, List, OnOk, Some, codes, false, map, option_map, true};
 ghost use Rattle.std.specs.Fmt.{decimal};
-ghost use Rattle.clap.specs.Words.{app_of, first_value, found_of, one_text, rule_of, with_subcommand, AddsSubcommand};
+ghost use Rattle.clap.specs.Words.{app_of, first_value, found_of, one_text, rule_of};
 ghost use Rattle.ctl_run.specs.Statuses.{stop_line};
 ghost use Rattle.ctl_run.specs.declared.stop.Stop.TheVariants as StopOf;
 ghost use Rattle.ctl_text.specs.Writing.{IsBegun};
@@ -15,13 +15,15 @@ ghost use Rattle.modemctl.specs.Files.{IsNoText};
 ghost use Rattle.modemctl.specs.Shows.{AreChannels, AreWantedBy, IsShutFile, SaysUnread, SaysUnreadOf, SaysUnshown, ShowsFiles, ShowsWith, TellsFiles, TellsShow, given_for};
 ghost use Rattle.modemctl.specs.Words.{data_rule, file_rule, raw_rule, show_app, strict_rule};
 
+use crate::words::commands::{add, new_command};
 use crate::words::dialects::{dialect_option, given_dialect};
 use crate::words::file_faults::{FileFault, refuse_file};
 use crate::words::numbers::Decimal;
-use crate::words::options::n1_option;
+use crate::words::options::{flag_option, n1_option, needed_word, text_option};
 use crate::words::text_files::TextFiles;
 use crate::words::{help, refuse};
-use clap::{Arg, ArgAction, ArgMatches, Command, value_parser};
+use clap::builder::ValueParser;
+use clap::{Arg, ArgAction, ArgMatches, Command};
 use ctl_run::{Stop, give_up};
 use mux_frame::Dlci;
 use show_texts::{Progress, ShowOptions, show_run, show_untimed_run};
@@ -33,12 +35,14 @@ fn data_option<'a>(alloc: Global) -> Arg<'a>
     ensures rule { rule_of result ≡ data_rule }
     ensures own { result.global ≡ false }
 {
-    Arg::new(alloc, "data")
-        .long("data")
-        .value_name("D")
-        .help("A connection whose octets are data and no lines, 1 to 61; may be given again")
-        .action(ArgAction::Append)
-        .value_parser(value_parser!(u8).range(1..=61))
+    text_option(
+        alloc,
+        "data",
+        "D",
+        "A connection whose octets are data and no lines, 1 to 61; may be given again",
+        ArgAction::Append,
+    )
+    .value_parser(ValueParser::signed(1, 61))
 }
 
 /// The option `--strict`.
@@ -46,10 +50,7 @@ fn strict_option<'a>(alloc: Global) -> Arg<'a>
     ensures rule { rule_of result ≡ strict_rule }
     ensures own { result.global ≡ false }
 {
-    Arg::new(alloc, "strict")
-        .long("strict")
-        .help("Status 3 where there is a complaint")
-        .action(ArgAction::SetTrue)
+    flag_option(alloc, "strict", "Status 3 where there is a complaint")
 }
 
 /// The option `--raw`.
@@ -57,11 +58,13 @@ fn raw_option<'a>(alloc: Global) -> Arg<'a>
     ensures rule { rule_of result ≡ raw_rule }
     ensures own { result.global ≡ false }
 {
-    Arg::new(alloc, "raw")
-        .long("raw")
-        .value_name("FROM")
-        .help("FROM has the octets from the modem, and FILE those to it: no capture, and no times")
-        .action(ArgAction::Set)
+    text_option(
+        alloc,
+        "raw",
+        "FROM",
+        "FROM has the octets from the modem, and FILE those to it: no capture, and no times",
+        ArgAction::Set,
+    )
 }
 
 /// The word for the file.
@@ -69,27 +72,26 @@ fn file_word<'a>(alloc: Global) -> Arg<'a>
     ensures rule { rule_of result ≡ file_rule }
     ensures own { result.global ≡ false }
 {
-    Arg::new(alloc, "file")
-        .value_name("FILE")
-        .help("The capture; behind --raw FROM, the octets to the modem")
-        .required(true)
-        .action(ArgAction::Set)
+    needed_word(
+        alloc,
+        "file",
+        "FILE",
+        "The capture; behind --raw FROM, the octets to the modem",
+    )
 }
 
 /// The subcommand that shows a capture.
 pub fn show_command<'a>(alloc: Global) -> Result<Command<'a>, AllocError>
-    ensures { IfOk result (λ c. (old new : Command) → AddsSubcommand old c new
-        → app_of new ≡ with_subcommand (app_of old) show_app.top) }
+    ensures { IfOk result (λ c. app_of c ≡ show_app) }
 {
-    Command::new(alloc, "show")
-        .about("Says what happened on the line, by a capture")
-        .after_help(help::SHOW)
-        .arg(n1_option(alloc))?
-        .arg(dialect_option(alloc))?
-        .arg(data_option(alloc))?
-        .arg(strict_option(alloc))?
-        .arg(raw_option(alloc))?
-        .arg(file_word(alloc))
+    let about = "Says what happened on the line, by a capture";
+    let made = Ok(new_command(alloc, "show", about, help::SHOW));
+    let made = add(made, n1_option(alloc));
+    let made = add(made, dialect_option(alloc));
+    let made = add(made, data_option(alloc));
+    let made = add(made, strict_option(alloc));
+    let made = add(made, raw_option(alloc));
+    add(made, file_word(alloc))
 }
 
 /// Why the words give no connections of data.

@@ -7,6 +7,7 @@ ghost use Rattle.modemctl.specs.Words.{echo_rule, pin_rule};
 
 use crate::words::answers::answers_of;
 use crate::words::files::steps_of;
+use crate::words::options::{flag_option, text_option};
 use crate::words::text_files::TextFiles;
 use at_cmds::Pin;
 use clap::{Arg, ArgAction, ArgMatches};
@@ -20,11 +21,13 @@ pub fn pin_option<'a>(alloc: Global) -> Arg<'a>
     ensures rule { rule_of result ≡ pin_rule }
     ensures own { result.global ≡ false }
 {
-    Arg::new(alloc, "pin")
-        .long("pin")
-        .value_name("PIN")
-        .help("The PIN that its SIM wants, 4 to 8 digits")
-        .action(ArgAction::Set)
+    text_option(
+        alloc,
+        "pin",
+        "PIN",
+        "The PIN that its SIM wants, 4 to 8 digits",
+        ArgAction::Set,
+    )
 }
 
 /// The option `--echo`.
@@ -32,10 +35,7 @@ pub fn echo_option<'a>(alloc: Global) -> Arg<'a>
     ensures rule { rule_of result ≡ echo_rule }
     ensures own { result.global ≡ false }
 {
-    Arg::new(alloc, "echo")
-        .long("echo")
-        .help("Repeat commands, until an ATE0")
-        .action(ArgAction::SetTrue)
+    flag_option(alloc, "echo", "Repeat commands, until an ATE0")
 }
 
 /// The PIN that the words give, if they give one.

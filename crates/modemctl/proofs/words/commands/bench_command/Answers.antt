@@ -1,12 +1,5 @@
-use Rattle.std.proofs.Common.{rules, ap, ap₂, codes, ◌≡◌, ◌∙◌}
-use Rattle.std.proofs.lemmas.Result.{IfOk-weaker}
-use Rattle.clap.specs.Words.{App, app_of, new_app, with_rule, with_subcommand}
-use Rattle.modemctl.specs.Words.{callers_rule, cut_rule}
 use Rattle.modemctl.proofs.words.commands.bench_command.Goals as goal
 
 pub returns : goal.returns
 returns c =
-    let none : app_of c.after_help.result ≡ new_app (codes "bench") = search rules in
-    let one : app_of c.in_ok-arg.field-0 ≡ with_rule (new_app (codes "bench")) callers_rule = c.in_ok-arg.ensures.shape c.callers_option.ensures.own ∙ ap₂ with_rule none c.callers_option.ensures.rule in
-    let two : app_of c.in_ok-arg-2.field-0 ≡ with_rule (with_rule (new_app (codes "bench")) callers_rule) cut_rule = c.in_ok-arg-2.ensures.shape c.cut_option.ensures.own ∙ ap₂ with_rule one c.cut_option.ensures.rule in
-    IfOk-weaker c.arg-3.result _ _ (λ r h old new adds. adds.shape (search rules) ∙ ap (λ (a : App). with_subcommand (app_of old) a.top) (h.shape c.explain_option.ensures.own ∙ ap₂ with_rule two c.explain_option.ensures.rule)) c.arg-3.ensures
+    c.add.ensures _ _ c.explain_option.ensures.rule (c.add-made-2.ensures _ _ c.cut_option.ensures.rule (c.add-made.ensures _ _ c.callers_option.ensures.rule (c.new_command.ensures)))

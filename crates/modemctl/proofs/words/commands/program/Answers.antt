@@ -1,9 +1,6 @@
-use Rattle.std.proofs.Common.{ap, ◌∙◌}
-use Rattle.std.proofs.lemmas.Result.{IfOk-weaker}
-use Rattle.clap.specs.Words.{App, with_subcommand}
-use Rattle.modemctl.specs.Words.{show_app}
+use Rattle.std.specs.Prelude.{refl}
 use Rattle.modemctl.proofs.words.commands.program.Goals as goal
 
 pub returns : goal.returns
 returns c =
-    IfOk-weaker c.subcommand.result _ _ (λ r h. c.in_ok-show.ensures _ r h ∙ ap (λ (a : App). with_subcommand a show_app.top) c.in_ok-five_commands.ensures) c.subcommand.ensures
+    c.add_subcommand.ensures _ _ refl (c.add_subcommand-made-5.ensures _ _ refl (c.add_subcommand-made-4.ensures _ _ refl (c.add_subcommand-made-3.ensures _ _ refl (c.add_subcommand-made-2.ensures _ _ refl (c.add_subcommand-made.ensures _ _ refl c.bare_program.ensures c.frames_command.ensures) c.replay_command.ensures) c.bench_command.ensures) c.sim_command.ensures) c.drive_command.ensures) c.show_command.ensures

@@ -1,9 +1,0 @@
-use Rattle.std.proofs.Common.{ap, ◌∙◌}
-use Rattle.std.proofs.lemmas.Result.{IfOk-weaker}
-use Rattle.clap.specs.Words.{App, with_subcommand}
-use Rattle.modemctl.specs.Words.{replay_app}
-use Rattle.modemctl.proofs.words.commands.two_commands.Goals as goal
-
-pub returns : goal.returns
-returns c =
-    IfOk-weaker c.subcommand.result _ _ (λ r h. c.in_ok-replay.ensures _ r h ∙ ap (λ (a : App). with_subcommand a replay_app.top) c.in_ok-one_command.ensures) c.subcommand.ensures
