@@ -10,7 +10,6 @@ use Rattle.at_text.specs.OpenWindow.{FitsMarks}
 use Rattle.mux_station.specs.declared.role.Role.{Role}
 use Rattle.mux_station.specs.declared.role.Role.TheVariants.{Initiator}
 use Rattle.mux_station.specs.declared.role.ChannelState.{ChannelState}
-use Rattle.mux_station.specs.declared.error.StationError.TheVariants as why
 use Rattle.mux_station.specs.Acts as station
 use Rattle.mux_station.specs.Messages.{msc}
 use Rattle.mux_station.specs.Opening.{since, is_open}
@@ -30,7 +29,6 @@ use Rattle.modem_desk.specs.declared.request.Ask.{Ask}
 use Rattle.modem_desk.specs.declared.request.Ask.TheVariants.{OpenChannel, CloseChannel, Command, Probe, Stop}
 use Rattle.modem_desk.specs.declared.request.Request.{Request}
 use Rattle.modem_desk.specs.declared.request.Answer.{Answer}
-use Rattle.modem_history.specs.declared.act.Act as code
 use Rattle.modem_core.specs.declared.telling.Happened.TheVariants as happened
 use Rattle.modem_history.specs.Acts.{Act, Took, Got, Sent, Told, Heard, Tick, Lost, Held, Freed, Given, act_of, after, wire, in_hand}
 use Rattle.modem_history.specs.Information.{accepted, texts, info_got, opens_here}

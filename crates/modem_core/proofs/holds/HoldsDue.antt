@@ -16,11 +16,9 @@ use Rattle.mux_station.specs.Tables.{has_room, have_room, octets_of}
 use Rattle.mux_station.specs.Sending as sending
 use Rattle.mux_station.specs.Sending.{queue, refused, or_else}
 use Rattle.mux_station.specs.Stations.{Station, channel_at, setting_of, seen_in}
-use Rattle.mux_station.specs.Fitting as station_fits
 use Rattle.mux_station.proofs.states.OpenedStates.{opened_is_open}
 use Rattle.modem_history.specs.declared.act.Act as code
-use Rattle.modem_core.specs.declared.telling.Happened.TheVariants as happened
-use Rattle.modem_history.specs.Acts.{Act, Sent, Held, Freed, act_of, wire}
+use Rattle.modem_history.specs.Acts.{Act, Sent, act_of, wire}
 use Rattle.modem_history.specs.Calls.{Setting, seen, all_have_room}
 use Rattle.modem_core.specs.Lanes.{turned}
 use Rattle.modem_core.specs.Cores.{Core, lane_at}

@@ -18,7 +18,7 @@ use Rattle.mux_station.specs.Acts.{Called, Offer}
 use Rattle.mux_station.specs.Opening.{is_open}
 use Rattle.mux_station.specs.States.{State, is_opened, state_of}
 use Rattle.mux_station.specs.Stages.{as_shown}
-use Rattle.mux_station.specs.Offering.{octets_offered, octets_sent, joined_octets, offered, data_out}
+use Rattle.mux_station.specs.Offering.{octets_sent, joined_octets, offered, data_out}
 use Rattle.mux_station.specs.Sending as sending
 use Rattle.mux_station.specs.Sending.{refused, or_else, sent_after, probe_of}
 use Rattle.mux_station.specs.Stations.{Station, channel_at, setting_of, seen_in, offer_refused}
@@ -47,7 +47,7 @@ use Rattle.modem_core.specs.Refusals.{told_act}
 use Rattle.modem_core.specs.Offers.{refused_command, TakesLine, Enters, OffersFirstCommand}
 use Rattle.modem_core.specs.Cores.{dialect_in, Core, MayCome, Handles, may_wait, shows_opened as channel_opened, state_shown, probe_in}
 use Rattle.modem_history.proofs.calls.CallEnds.{now_in, ended}
-use Rattle.modem_core.proofs.cores.UnchangedParts.{open_plain, called_was, offered_called, is_probe, probe_more}
+use Rattle.modem_core.proofs.cores.UnchangedParts.{open_plain, offered_called, is_probe, probe_more}
 use Rattle.modem_core.proofs.requests.TakenRequests.{Live, AllWait, none_told, all_left, asked_frames, probe_kept}
 use Rattle.modem_core.proofs.requests.AcceptedRequests.{Accepts, called_fits, once_is, state_then, refused_handles, accepted_handles, unaccepted_by}
 use Rattle.modem_core.proofs.requests.CloseRequests.{and_not}

@@ -1,5 +1,5 @@
 -- The LF stands behind the line.
-use Rattle.std.proofs.Common.{◌≡◌, ◌++◌, List, ℕ, [], ◌∷◌, take, drop, arith}
+use Rattle.std.proofs.Common.{[], ◌∷◌, arith}
 use Rattle.modem_c.proofs.Rooms.{put_both}
 use Rattle.modem_c.proofs.outcomes.put_line.Goals as goal
 

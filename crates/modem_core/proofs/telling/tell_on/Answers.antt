@@ -1,8 +1,7 @@
 -- A request that is told something is taken out, and its outcome put behind the others.
-use Rattle.std.proofs.Common.{◌≡◌, ◌<◌, ◌||◌, Bool, List, [], ◌∷◌, length, ◌∙◌, ap, sym, refl, arith}
+use Rattle.std.proofs.Common.{◌≡◌, ◌<◌, ◌||◌, Bool, List, [], ◌∷◌, length, ◌∙◌, ap, sym, arith}
 use Rattle.std.specs.Prelude.{slice_index_or, Option, option_map, find}
 use Rattle.modem_desk.specs.declared.request.Request.{Request}
-use Rattle.modem_desk.specs.declared.request.Outcome.{Outcome}
 use Rattle.modem_history.specs.Acts.{Told}
 use Rattle.modem_core.specs.declared.asker.Asker.{Asker}
 use Rattle.modem_core.specs.Stops.{asker_of, is_answered, is_stop}

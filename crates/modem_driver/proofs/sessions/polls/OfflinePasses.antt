@@ -14,7 +14,7 @@ use Rattle.modem_desk.specs.declared.request.Urc.{Urc}
 use Rattle.modem_desk.specs.Ends.{DriverView, DeskId}
 use Rattle.modem_history.specs.EveryTurn.{GivesSome, count_at}
 use Rattle.modem_history.specs.Kinds.{of_kind}
-use Rattle.modem_history.specs.Sessions.{LineView, at_place, caller_outcomes}
+use Rattle.modem_history.specs.Sessions.{at_place, caller_outcomes}
 use Rattle.modem_history.specs.Turns.{amount, counted}
 use Rattle.modem_driver.specs.declared.session.turn.Turn.{Turn}
 use Rattle.modem_core.specs.Placing.{Placed, TellsAlone, AnnouncesAlone, caller_of, place_of, IsRingOf, IsCaller, IsListenerOf, IsHeard, caller_rings, listener_rings}

@@ -1,6 +1,6 @@
 -- A session begins, and a tick.
 use Rattle.std.proofs.Common.{ap, sym, ◌∙◌, subst, arith, inl, lit<}
-use Rattle.std.specs.Prelude.{◌≡◌, Option, ◌↔◌, ℕ, ◌≤◌, true, false, List, [], ◌∷◌, length, refl, find, option_map, Contains, Result, Ok, Err, IfOk, IsErrOf, zero, suc, ◌<◌}
+use Rattle.std.specs.Prelude.{◌≡◌, Option, ◌↔◌, ℕ, ◌≤◌, true, false, List, [], ◌∷◌, length, refl, find, option_map, Contains, Result, Ok, Err, IfOk, IsErrOf, zero, suc}
 use Rattle.mux_frame.specs.Spelling.{IsBadN1}
 use Rattle.at_text.specs.declared.unsolicited.UrcKind.{UrcKind}
 use Rattle.at_text.specs.Dialects.{Dialect}

@@ -1,5 +1,5 @@
 -- Octets were fed; or nothing came; or octets came and were fed; or the call failed.
-use Rattle.std.proofs.Common.{◌≡◌, ◌≢◌, ap, sym, ◌∙◌, subst, [], ◌++◌, ◌≤◌, true, false, length, ℕ, List}
+use Rattle.std.proofs.Common.{◌≡◌, ◌≢◌, ap, sym, ◌∙◌, subst, [], ◌≤◌, true, false, length, ℕ, List}
 use Rattle.std.proofs.lemmas.List.{nil_from_length}
 use Rattle.serial_line.specs.LineViews.{after_read}
 use Rattle.line_end.specs.LineEnds.{LineEnd}
