@@ -1,11 +1,11 @@
-use Rattle.std.proofs.Common.{◌≡◌, ◌≢◌, ◌∙◌, ◌<◌, ◌⊎◌, ℕ, Bool, ⊎_elim, inl, inr, ap, arith, refl, subst, sym, true, List, [], ◌∷◌, Option, None, Some, option_map, codes, false}
+use Rattle.std.proofs.Common.{◌≡◌, ◌≢◌, ◌∙◌, ◌<◌, ◌⊎◌, ℕ, Bool, ⊎_elim, inl, inr, ap, arith, refl, subst, sym, true, List, [], Option, None, Some, option_map, codes, false}
 use Rattle.std.proofs.lemmas.Bool.{false_from_ne_true}
 use Rattle.clap.specs.Words.{App, HasKind, IsAmong, Kinds, Row, Text, fault_of, is_simple, is_simple_and_free, subcommand_of, subcommand_name_of, subcommand_rows_of}
 use Rattle.clap.specs.declared.ArgMatches.{ArgMatches}
 use Rattle.clap.specs.declared.error.ErrorKind.{ErrorKind}
 use Rattle.clap.specs.declared.error.ErrorKind.TheVariants.{DisplayHelp, DisplayVersion, OutOfMemory}
 use Rattle.clap.proofs.OnLiterals.{clap_on_literals}
-use Rattle.modemctl.specs.Words.{AsksNoHelp, HasNoNumber, is_explained, program_app, fault_in, met_in, named_in, text_in, raw_in}
+use Rattle.modemctl.specs.Words.{AsksNoHelp, HasNoNumber, is_explained, program_app, fault_in, met_in, named_in, raw_in}
 use Rattle.ctl_run.specs.declared.stop.Stop.TheVariants as Stop
 use Rattle.ctl_run.proofs.outputs.SaidLines.{begun_line}
 use Rattle.ctl_run.proofs.outputs.StoppedRuns.{gave_up}
@@ -15,7 +15,7 @@ use Rattle.modemctl.specs.Dialects.{IsShut}
 use Rattle.modemctl.specs.Drives.{PrintsDrive}
 use Rattle.modemctl.specs.Files.{NamesCause}
 use Rattle.modemctl.specs.Sims.{IsNotBegun, LeavesClient, RefusesClient, ServesClient, files_given}
-use Rattle.modemctl.specs.SimData.{AreForSim, LeavesData, SaysNoPaths, ServesData, names_files}
+use Rattle.modemctl.specs.SimData.{LeavesData, SaysNoPaths, ServesData, names_files}
 use Rattle.modemctl.specs.Shows.{IsShutFile, PrintsShow, SaysUnshown, TellsShow, all_in}
 use Rattle.modemctl.proofs.ShownFiles.{not_shown}
 use Rattle.modemctl.proofs.words.run.Goals as goal
