@@ -109,7 +109,7 @@ impl<R: Host> Played<R> {
             let Some(act) = self.next(are_lines) else {
                 return Ok(());
             };
-            print_act(&rt, &act)?;
+            print_act(&rt, act)?;
         }
         unreachable!()
     }

@@ -122,7 +122,7 @@ impl<L: SerialLine + Drop, R: Host> Near<L, R> {
         let Some(outcome) = self.next_outcome()? else {
             return Ok(false);
         };
-        print_act(&self.rt, &Act::Told(outcome))?;
+        print_act(&self.rt, Act::Told(outcome))?;
         Ok(true)
     }
 
@@ -153,7 +153,7 @@ impl<L: SerialLine + Drop, R: Host> Near<L, R> {
 
     fn listen(&mut self, word: &str) -> Result<(), Stop> {
         match self.next_urc(kind(word)?)? {
-            Some(urc) => print_act(&self.rt, &Act::Heard(urc)),
+            Some(urc) => print_act(&self.rt, Act::Heard(urc)),
             None => {
                 let _ = self.rt.println("-");
                 Ok(())

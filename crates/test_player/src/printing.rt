@@ -5,6 +5,7 @@ use futures::Future;
 use futures::executor::block_on;
 use futures::future::poll_immediate;
 use modem_driver::Act;
+use results::spent;
 use serial_line::CutLine;
 use std::fmt::{Debug, Display};
 
@@ -74,9 +75,9 @@ where
 }
 
 /// Prints an act as `modemctl replay` does.
-pub fn print_act<R: Host>(rt: &R, act: &Act) -> Result<(), Stop> {
+pub fn print_act<R: Host>(rt: &R, act: Act) -> Result<(), Stop> {
     let mut text = String::new(rt.alloc());
-    push_act(rt.alloc(), act, &mut text)?;
+    spent(push_act(rt.alloc(), &act, &mut text), act)?;
     let _ = rt.print(text.as_str());
     Ok(())
 }
