@@ -9,6 +9,12 @@ pub returns-in-Some-strip_prefix-3-clause-says : goal.returns-in-Some-strip_pref
 returns-in-Some-strip_prefix-3-clause-says c =
     (c.in-Some-strip_prefix-3.word.now, strip_prefix_is Decides-eqb c.args.line.now (codes "probe ") (Some c.in-Some-strip_prefix-3.word) c.in-Some-strip_prefix-3.ensures.cases, c.in_ok-probe_of.ensures.says.0, c.in_ok-probe_of.ensures.says.1)
 
+pub returns-in-Some-strip_prefix-2-clause-says : goal.returns-in-Some-strip_prefix-2-clause-says
+returns-in-Some-strip_prefix-2-clause-says c =
+    let cut : c.args.line.now ≡ codes "cmd " ++ c.in-Some-strip_prefix-2.words.now =
+    strip_prefix_is Decides-eqb c.args.line.now (codes "cmd ") (Some c.in-Some-strip_prefix-2.words) c.in-Some-strip_prefix-2.ensures.cases in
+    rw cut c.command_of.ensures.says
+
 pub returns-in-Some-strip_prefix-2-clause-fault : goal.returns-in-Some-strip_prefix-2-clause-fault
 returns-in-Some-strip_prefix-2-clause-fault c =
     let cut : c.args.line.now ≡ codes "cmd " ++ c.in-Some-strip_prefix-2.words.now =
