@@ -15,7 +15,7 @@ use Rattle.file_threads.specs.declared.fault.FileFault.{FileFault}
 use Rattle.file_threads.proofs.FileEnds.{said_both}
 use Rattle.ctl_text.specs.Writing.{IsBegun}
 use Rattle.ctl_sim.specs.HeldLine.{HeldState, held_view}
-use Rattle.ctl_sim.specs.DataSaying.{NamesFile, SaysFile, SaysUnopened, concerns_file, data_fault_line}
+use Rattle.ctl_sim.specs.DataSaying.{SaysUnopened, concerns_file, data_fault_line}
 use Rattle.ctl_sim.specs.declared.data_fault.DataFault.{DataFault}
 use Rattle.ctl_sim.specs.DataEnds.{EndsByDataFault, EndsFiles, HasServedOpened, SaysEndings, SaysFiles, SaysOpened, SaysUnsent, ServedTo, loss_texts, losses_texts}
 

@@ -1,5 +1,5 @@
 -- Lines and files of a modem with files beside connections.
-use Rattle.std.specs.Prelude.{◌≡◌, ℕ, ◌+◌, ◌<◌, ◌≤◌, Bool, true, List, [], ◌∷◌, ◌++◌, All, None, Result, Ok, Err, OnErr, OnOk, length, map, refl, take, slice_index_or}
+use Rattle.std.specs.Prelude.{◌≡◌, ℕ, ◌+◌, ◌<◌, ◌≤◌, Bool, List, [], ◌∷◌, ◌++◌, All, Result, Ok, Err, OnErr, OnOk, length, map, refl, take, slice_index_or}
 use Rattle.std.proofs.Common.{ap, arith, suc, sym, subst, zero, ◌∙◌}
 use Rattle.std.proofs.lemmas.List.{append-nil, map-append, take_all, take_more}
 use Rattle.mux_frame.specs.declared.dlci.Dlci.{Dlci}

@@ -1,5 +1,5 @@
 -- How a modem with files beside connections ends, and what is said of its files.
-use Rattle.std.specs.Prelude.{◌≡◌, ℕ, Bool, true, List, ◌++◌, All, Option, codes, flat_map, map}
+use Rattle.std.specs.Prelude.{◌≡◌, ℕ, Bool, true, List, All, Option, codes, flat_map, map}
 use Rattle.mux_station.specs.declared.role.Role.TheVariants.{Responder}
 use Rattle.serial_line.specs.LineViews.{LineView}
 use Rattle.serial_line.specs.StreamLine.{StreamState, stream_view}

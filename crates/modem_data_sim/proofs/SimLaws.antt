@@ -1,5 +1,5 @@
 -- A simulated modem behind a relay got and gave on the line's frames but data, and repeats no CONNECT.
-use Rattle.std.specs.Prelude.{ℕ, List}
+use Rattle.std.specs.Prelude.{List}
 use Rattle.std.proofs.Common.{sym, ◌∙◌, subst}
 use Rattle.mux_frame.specs.Frames.{Frame}
 use Rattle.mux_frame.specs.Deframing.{Deframes, IsDeframed}

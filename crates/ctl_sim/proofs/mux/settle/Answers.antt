@@ -1,6 +1,6 @@
 use Rattle.std.proofs.Common.{◌∙◌}
 use Rattle.modem_sim.proofs.sims.SimPasts.{sim_then}
-use Rattle.ctl_sim.specs.HeldLine.{HeldState, held_view}
+use Rattle.ctl_sim.specs.HeldLine.{held_view}
 use Rattle.ctl_sim.proofs.Muxes.{rests_then}
 use Rattle.ctl_sim.proofs.mux.settle.Goals as goal
 
