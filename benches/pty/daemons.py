@@ -36,6 +36,13 @@ class Build:
         self.words = [*before, f"{self.folder.name}/cimbalotyd"]
 
 
+class Built:
+    """A daemon that was built before, on a machine so many times slower."""
+
+    def __init__(self, program, slow=1):
+        self.name, self.slow, self.words = "plain", slow, [program]
+
+
 class Modem(modem.Modem):
     """Stops where an MSC says so, resets without a hang-up, and answers some commands late, long or never."""
 

@@ -1,7 +1,7 @@
-/* oFono's multiplexer and its client (gatchat/gatmux.c, gatchat.c, unchanged) on a modem on a terminal: DEVICE [COMMANDS].
+/* oFono's multiplexer and its client (gatchat/gatmux.c, gatchat.c, unchanged) on a modem on a terminal: DEVICE [COMMANDS [CHANNELS]].
  *
- * Twice: it enters the multiplexer as oFono does (ATE0, AT+CMUX=?, frames of 31 octets), asks so many commands on each of two
- * channels (100), has a change of registration reported, ends by DISC on each channel and on 0, as oFono does, and asks plain
+ * Twice: it enters the multiplexer as oFono does (ATE0, AT+CMUX=?, frames of 31 octets), asks so many commands (100) on each of so
+ * many channels (2), has a change of registration reported, ends by DISC on each channel and on 0, as oFono does, and asks plain
  * command lines. Each answer is compared with what the simulated modem has to answer. It ends by itself, within a minute. oFono's
  * source is no part of this repository: ./ofono says how it is had. */
 #include <fcntl.h>
@@ -18,7 +18,7 @@
 #include "gatmux.h"
 #include "gattty.h"
 
-enum { CHANNELS = 2, ROUNDS = 2 };
+enum { MOST_CHANNELS = 8, ROUNDS = 2 };
 
 /* A command, how the one line of its answer before OK begins, and that line; or there is none. */
 static const struct ask {
@@ -29,8 +29,8 @@ static const struct ask {
 
 static GMainLoop *loop;
 static GAtMux *mux;
-static GAtChat *chats[CHANNELS];
-static int under_way, answered, reports;
+static GAtChat *chats[MOST_CHANNELS];
+static int channels = 2, under_way, answered, reports;
 
 static void fail(const char *what, const char *said)
 {
@@ -120,15 +120,13 @@ static void enter(const char *device)
 
 static void talk(int commands)
 {
-	static const char *names[CHANNELS] = { "channel 1", "channel 2" };
+	static const char *names[MOST_CHANNELS] = { "channel 1", "channel 2", "channel 3", "channel 4", "channel 5", "channel 6", "channel 7", "channel 8" };
 
-	for (int k = 0; k < CHANNELS; k++)
+	for (int k = 0; k < channels; k++)
 		chats[k] = chat_on(g_at_mux_create_channel(mux), names[k]);
 	g_at_chat_register(chats[0], "+CREG:", on_report, FALSE, NULL, NULL);
-	for (int k = 0; k < commands; k++) {
-		ask(chats[0], &csq);
-		ask(chats[1], &cops);
-	}
+	for (int k = 0; k < commands * channels; k++)
+		ask(chats[k % channels], k % 2 ? &cops : &csq);
 	g_main_loop_run(loop);
 	ask(chats[0], &report);
 	ask(chats[0], &leave);
@@ -158,7 +156,7 @@ static void await_end(int line)
 
 static void leave_it(int line)
 {
-	for (int k = 0; k < CHANNELS; k++)
+	for (int k = 0; k < channels; k++)
 		g_at_chat_unref(chats[k]); /* which sends DISC */
 	g_at_mux_shutdown(mux);
 	g_at_mux_unref(mux);
@@ -169,8 +167,9 @@ int main(int count, char **words)
 {
 	int commands = count > 2 ? atoi(words[2]) : 100, line;
 
-	if (count < 2)
-		return fputs("usage: ofono DEVICE [COMMANDS]\n", stderr), 2;
+	channels = count > 3 ? atoi(words[3]) : channels;
+	if (count < 2 || channels < 1 || channels > MOST_CHANNELS)
+		return fputs("usage: ofono DEVICE [COMMANDS [CHANNELS]], with 1 to 8 channels\n", stderr), 2;
 	alarm(60);
 	line = open(words[1], O_RDWR | O_NOCTTY);
 	loop = g_main_loop_new(NULL, FALSE);

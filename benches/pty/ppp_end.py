@@ -1,9 +1,9 @@
 """An end of a link by PPP, in a network namespace of its own, with TCP above it. It shares nothing with the crates.
 
-  ppp_end.py serve|fetch WHERE OCTETS
+  ppp_end.py serve|fetch WHERE OCTETS [pppd]
 
 WHERE is a terminal's path, or fd:N for an open file. PPP is that of RFC 1661, 1662 and 1332, without options but the address, between WHERE
-and a tun device. `serve` is 10.9.0.2 and waits at a port of TCP. `fetch` is 10.9.0.1: it connects, then sends three ICMP echoes. Both send so
+and a tun device; or it is pppd's. `serve` is 10.9.0.2 and waits at a port of TCP. `fetch` is 10.9.0.1: it connects, then sends three ICMP echoes. Both send so
 many octets, made by chance from a seed of each end, and read as many. Then one line of JSON tells what came. It wants root.
 """
 import binascii
@@ -17,6 +17,7 @@ import re
 import select
 import socket
 import struct
+import subprocess
 import sys
 import threading
 import time
@@ -26,7 +27,7 @@ ADDRESSES = {"serve": "10.9.0.2", "fetch": "10.9.0.1"}
 SEEDS = {"serve": 1, "fetch": 2}
 PORT = 8099
 NEWNET, TUNSETIFF, TUN, NO_PI = 0x40000000, 0x400454CA, 1, 0x1000
-SETFLAGS, SETADDRESS, SETPEER, SETMTU = 0x8914, 0x8916, 0x8918, 0x8922
+GETFLAGS, SETFLAGS, SETADDRESS, SETPEER, SETMTU = 0x8913, 0x8914, 0x8916, 0x8918, 0x8922
 UP, POINT_TO_POINT, RUNNING, NO_ARP = 1, 0x10, 0x40, 0x80
 LCP, IPCP, IP = 0xC021, 0x8021, 0x0021
 REQUEST, ACK, REJECT, ECHO, ECHO_REPLY = 1, 2, 4, 9, 10
@@ -109,7 +110,7 @@ class Link:
 
     def __init__(self, fd, end):
         self.fd, self.tun, self.end = fd, Tun(), end
-        self.out, self.held, self.bad, self.packets = bytearray(), bytearray(), 0, 0
+        self.out, self.held = bytearray(), bytearray()
         self.up, self.ended = threading.Event(), threading.Event()
         self.lcp = Control(self, LCP, b"")
         self.ipcp = Control(self, IPCP, bytes([3, 6]) + socket.inet_aton(ADDRESSES[end]))
@@ -122,12 +123,8 @@ class Link:
 
     def take_frame(self, octets):
         octets = ESCAPED.sub(lambda it: bytes([it[1][0] ^ 0x20]), octets)
-        if len(octets) < 6:
+        if len(octets) < 6 or check_of(octets[:-2]) != octets[-2:]:
             return
-        if check_of(octets[:-2]) != octets[-2:]:
-            self.bad += 1
-            return
-        self.packets += 1
         protocol = struct.unpack(">H", octets[2:4])[0]
         if protocol == IP and self.up.is_set():
             os.write(self.tun.fd, octets[4:-2])
@@ -174,6 +171,35 @@ class Link:
                 self.up.set()
 
 
+class Pppd:
+    """PPP by pppd, where the kernel has it."""
+
+    def __init__(self, where, end):
+        self.up, self.ended = threading.Event(), threading.Event()
+        own, other = ADDRESSES[end], ADDRESSES["serve" if end == "fetch" else "fetch"]
+        words = ["nodetach", "nolog", "noauth", "local", "nocrtscts", "nodefaultroute", "mtu", "1500", f"{own}:{other}"]
+        if where.startswith("fd:"):
+            file = int(where[3:])
+            self.process = subprocess.Popen(["pppd", "notty", *words], stdin=file, stdout=file)
+        else:
+            self.process = subprocess.Popen(["pppd", os.path.realpath(where), *words], stdin=subprocess.DEVNULL, stdout=subprocess.DEVNULL)
+
+    @staticmethod
+    def is_up():
+        with socket.socket(socket.AF_INET, socket.SOCK_DGRAM) as it:
+            try:
+                return struct.unpack("16xH22x", fcntl.ioctl(it, GETFLAGS, struct.pack("16s24x", b"ppp0")))[0] & UP
+            except OSError:
+                return False
+
+    def run(self):
+        while self.process.poll() is None:
+            if self.is_up():
+                self.up.set()
+            time.sleep(0.05)
+        self.ended.set()
+
+
 def ones_sum(octets):
     """The checksum of RFC 1071."""
     total = sum(struct.unpack(f">{len(octets) // 2}H", octets))
@@ -191,13 +217,13 @@ def pings(count):
             body = struct.pack(">HH", 77, number) + b"cimbaloty " * 5
             head = struct.pack(">BBH", 8, 0, ones_sum(struct.pack(">BBH", 8, 0, 0) + body))
             begun = time.monotonic()
-            it.sendto(head + body, (ADDRESSES["serve"], 0))
             try:
+                it.sendto(head + body, (ADDRESSES["serve"], 0))
                 while (said := it.recv(2000))[20] != 0 or said[24:] != body:
                     pass
                 took.append(time.monotonic() - begun)
-            except TimeoutError:
-                pass
+            except OSError:
+                pass    # no answer in time, or the link has ended
     return took
 
 
@@ -252,27 +278,39 @@ def leave_at_end(link, told):
     leave(told, ended=True)
 
 
-def main():
-    end, where, count = sys.argv[1], sys.argv[2], int(sys.argv[3])
+def link_by_tun(where, end):
     fd = int(where[3:]) if where.startswith("fd:") else os.open(where, os.O_RDWR | os.O_NOCTTY)
     if os.isatty(fd):
         tty.setraw(fd)
+    return Link(fd, end)
+
+
+def carry(end, count, told):
+    """TCP over the link, behind three echoes: what came of it is told."""
+    with connection(end) as it:
+        told["pings"] = pings(3) if end == "fetch" else []
+        begun = time.monotonic()
+        came = exchange(end, it, count)
+        told.update(came=len(came), digest=digest(came), seconds=time.monotonic() - begun)
+        it.shutdown(socket.SHUT_WR)
+        it.recv(1)
+
+
+def main():
+    end, where, count = sys.argv[1], sys.argv[2], int(sys.argv[3])
     if ctypes.CDLL(None, use_errno=True).unshare(NEWNET) != 0:
         sys.exit(f"ppp_end.py: no network namespace: {os.strerror(ctypes.get_errno())}")
-    link = Link(fd, end)
+    link = Pppd(where, end) if sys.argv[4:] == ["pppd"] else link_by_tun(where, end)
     threading.Thread(target=link.run, daemon=True).start()
-    told = {"up": link.up.wait(20), "pings": [], "came": 0}
+    told = {"up": link.up.wait(60), "pings": [], "came": 0}
     threading.Thread(target=leave_at_end, args=(link, told), daemon=True).start()
     if told["up"]:
-        with connection(end) as it:
-            told["pings"] = pings(3) if end == "fetch" else []
-            begun = time.monotonic()
-            came = exchange(end, it, count)
-            told.update(came=len(came), digest=digest(came), seconds=time.monotonic() - begun, bad=link.bad)
-            it.shutdown(socket.SHUT_WR)
-            it.recv(1)
+        try:
+            carry(end, count, told)
+        except OSError:
+            pass    # the link has ended
     time.sleep(0.3)  # the last acknowledgement leaves
-    leave(told, ended=False)
+    leave(told, ended=told["came"] < count and link.ended.wait(10))
 
 
 if __name__ == "__main__":

@@ -1,6 +1,6 @@
 /* uart.c - a serial line under a program whose terminal is a pseudo-terminal, as the kernel's drivers of serial lines make one: it takes 4096
  * octets ahead and sends them at its speed, tells by TIOCOUTQ how many wait, and by poll(2) that there is room once fewer than 256 do.
- * It is preloaded; UART_TTY is the path of the terminal, UART_SPEED the octets that leave in a second. */
+ * It is preloaded; UART_TTY is the path of the terminal, or UART_FD its open file, and UART_SPEED the octets that leave in a second. */
 #define _GNU_SOURCE
 #include <dlfcn.h>
 #include <errno.h>
@@ -77,6 +77,7 @@ static void __attribute__((constructor)) begin(void)
 	real_close = (int (*)(int))dlsym(RTLD_NEXT, "close");
 	real_ioctl = (int (*)(int, unsigned long, ...))dlsym(RTLD_NEXT, "ioctl");
 	uart.speed = atof(getenv("UART_SPEED"));
+	uart.fd = getenv("UART_FD") ? atoi(getenv("UART_FD")) : -1;
 	sigfillset(&all);
 	pthread_sigmask(SIG_BLOCK, &all, &before);      /* signals are the program's */
 	pthread_create(&sender, NULL, send_on, NULL);
@@ -85,12 +86,13 @@ static void __attribute__((constructor)) begin(void)
 
 int open(const char *path, int flags, ...)
 {
+	const char *tty = getenv("UART_TTY");
 	va_list more;
 
 	va_start(more, flags);
 	int fd = real_open(path, flags, va_arg(more, int));
 	va_end(more);
-	if (fd >= 0 && strcmp(path, getenv("UART_TTY")) == 0) {
+	if (fd >= 0 && tty && strcmp(path, tty) == 0) {
 		pthread_mutex_lock(&uart.lock);
 		uart.fd = fd;
 		uart.count = 0;

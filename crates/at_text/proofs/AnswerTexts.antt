@@ -4,7 +4,7 @@ use Rattle.std.specs.Bool.{Decides}
 use Rattle.std.specs.Str.{bytes_eq}
 use Rattle.std.specs.Cmp.Lexicographic.{pointwise}
 use Rattle.std.proofs.Common.{arith, ap, ap₂, sym, subst, ◌∙◌, get_or, le_of_suc-le-suc, drop_of_length-le}
-use Rattle.std.proofs.lemmas.List.{take-append-le, drop-append-le, length-append, length-drop, length-take-le, take_all, append_assoc, map_more, take-append-drop}
+use Rattle.std.proofs.lemmas.List.{take-append-le, drop-append-le, length-append, length-drop, length-take-le, take_all, take-append-drop}
 use Rattle.std.proofs.lemmas.List.Folds.{drop_split}
 use Rattle.std.proofs.lemmas.Slice.Eq.{bytes_eq-Decides, slice_eq-Decides}
 use Rattle.std.proofs.lemmas.Bool.Decides.{same_from_decides, Decides-and}
@@ -210,15 +210,6 @@ shown_at lines ends text line i shows inside is =
     ∙ sym (line_at 0 ends text i (line_of line) (among_ends lines ends text i shows inside))
     ∙ ap (λ (ls : List AnswerLine). get_or ls i (line_of line)) shows
 
--- the first of what is left, and what is left behind it
-pub first_shown : (start end : ℕ) (ends rest text : List ℕ) → ends ≡ end ∷ rest
-    → lines_ended start ends text ≡ line_of (slice_range text start end) ∷ lines_ended end rest text
-first_shown start end ends rest text is = ap (λ (es : List ℕ). lines_ended start es text) is
-
--- the first ends behind its start, and those left fill the rest
-pub first_fills : (start end len : ℕ) (ends rest : List ℕ) → ends ≡ end ∷ rest → Fill start ends len → (start ≤ end) × Fill end rest len
-first_fills start end len ends rest is f = subst (λ (es : List ℕ). Fill start es len) is f
-
 -- a line put behind the others
 pub pushed_fills : (ends octets new_ends new_octets line : List ℕ) (end : ℕ) → new_octets ≡ octets ++ line → end ≡ length new_octets → new_ends ≡ ends ++ end ∷ []
     → Fill 0 ends (length octets) → Fill 0 new_ends (length new_octets)
@@ -235,35 +226,9 @@ pushed_shows lines ends octets new_ends new_octets line end octets_are end_is en
     ∙ ended_more ends octets line f
     ∙ ap (λ (ls : List AnswerLine). ls ++ line_of line ∷ []) shows
 
--- lines put behind the others
-pub appended_fills : (ends octets more_ends more new_ends new_octets : List ℕ) (before : ℕ) → before ≡ length octets
-    → new_octets ≡ octets ++ more → new_ends ≡ ends ++ map (λ end. before + end) more_ends
-    → Fill 0 ends (length octets) → Fill 0 more_ends (length more) → Fill 0 new_ends (length new_octets)
-appended_fills ends octets more_ends more new_ends new_octets before before_is octets_are ends_are f g =
-    let len : length new_octets ≡ length octets + length more = ap length octets_are ∙ length-append octets more in
-    rw (ends_are, before_is, len) (fill_both 0 ends more_ends (length octets) (length more) f g)
-
--- show as more lines
-pub appended_shows : (lines more_lines : List AnswerLine) (ends octets more_ends more new_ends new_octets : List ℕ) (before : ℕ) → before ≡ length octets
-    → new_octets ≡ octets ++ more → new_ends ≡ ends ++ map (λ end. before + end) more_ends
-    → Fill 0 ends (length octets) → lines_ended 0 ends octets ≡ lines → lines_ended 0 more_ends more ≡ more_lines
-    → lines_ended 0 new_ends new_octets ≡ lines ++ more_lines
-appended_shows lines more_lines ends octets more_ends more new_ends new_octets before before_is octets_are ends_are f shows more_shows =
-    ap₂ (lines_ended 0) (ends_are ∙ ap (λ (n : ℕ). ends ++ map (λ end. n + end) more_ends) before_is) octets_are
-    ∙ ended_both 0 ends more_ends octets more f
-    ∙ ap₂ (λ (ls ms : List AnswerLine). ls ++ ms) shows more_shows
-
 -- what a call left that succeeded
 pub when_ok : (ok : Bool) (items good bad : List ℕ) → ok ≡ true → items ≡ (if ok then good else bad) → items ≡ good
 when_ok ok items good bad is items_are = items_are ∙ rw is refl
-
--- ends put behind others
-pub one_end_more : (ends before_ends more : List ℕ) (before i end : ℕ) → i < length more → end ≡ get_or more i 0
-    → ends ≡ before_ends ++ map (λ e. before + e) (take i more) → ends ++ (before + end) ∷ [] ≡ before_ends ++ map (λ e. before + e) (take (i + 1) more)
-one_end_more ends before_ends more before i end inside is so_far =
-    ap₂ (λ (es : List ℕ) (e : ℕ). es ++ (before + e) ∷ []) so_far is
-    ∙ append_assoc before_ends (map (λ e. before + e) (take i more)) ((before + get_or more i 0) ∷ [])
-    ∙ ap (λ (es : List ℕ). before_ends ++ es) (sym (map_more (λ e. before + e) more i 0 inside))
 
 -- ## Equality
 

@@ -58,7 +58,7 @@ abbrev pub kind_by : Rules → List ℕ → Option UrcKind
 kind_by rules line =
     option_or (unsolicited_of line) (option_map (λ u. Own u.kind) (find (λ u. takes u.pattern line) rules.urcs))
 
--- it is of a kind other than Other
+-- an own kind is a kind other than Other
 own_called : (rule : Option Urc) → is_called (option_map (λ (u : Urc). Own u.kind) rule) ≡ true
 own_called None = refl
 own_called (Some u) = refl
@@ -67,6 +67,7 @@ either_called : (a b : Option UrcKind) → is_called a ≡ true → is_called b 
 either_called None b h k = k
 either_called (Some kind) b h k = h
 
+-- no line is of the kind Other
 pub kind_by_called : (rules : Rules) (line : List ℕ) → is_called (kind_by rules line) ≡ true
 kind_by_called rules line =
     either_called

@@ -1,14 +1,14 @@
 -- What is asked beside the lines, and told.
 use Rattle.std.specs.Prelude.{◌≡◌, ◌⊎◌, ℕ, ◌+◌, ◌<◌, true, false, List, [], ◌∷◌, ◌++◌, All, Option, None, Some, get_or, length, map, refl, slice_index_or}
 use Rattle.std.proofs.Common.{ap, sym, subst, ◌∙◌, arith, append-nil, inl, inr, ⊎_elim}
-use Rattle.std.proofs.lemmas.Bool.{false≢true}
 use Rattle.std.proofs.lemmas.List.{length-append, length-set}
 use Rattle.std.proofs.lemmas.List.Elements.{All-append}
 use Rattle.std.proofs.KnownBytes.{Appends-nil}
 use Rattle.std.specs.declared.vec.Vec.{Vec}
 use Rattle.std.specs.declared.alloc.Global.{Global}
-use mathlib.Core.Option.{some}
+use Rattle.std.proofs.lemmas.Bool.{false≢true}
 use lib.ListN.{get_elem?}
+use mathlib.Core.Option.{some}
 use Rattle.modem_desk.specs.Ends.{CallerView, ListenerView, Place, subscription_of}
 use Rattle.modem_desk.specs.declared.request.Answer.{Answer}
 use Rattle.modem_desk.specs.declared.request.Ask.TheVariants as ask
@@ -53,11 +53,6 @@ looks out old c v place submitted before got way = record {
       submitted before k.long (λ e is. inl is) k;
   places = record { caller = place; listeners = refl; dialect = refl };
 }
-
--- the users stay as they are, but for the room for their lines
-pub looks_same : (out : Option (List ℕ)) (old : Users) (c : CallerView) (v : Vec UnderWay Global) → c ≡ old.caller → v.items ≡ old.under_way.items → GoOn out out old (record old { caller = c; under_way = v })
-looks_same out old c v same way =
-    looks out old c v (ap (λ (x : CallerView). x.place) same) (ap (λ (x : CallerView). x.submitted) same) (ap (λ (x : CallerView). x.got_before) same) (ap (λ (x : CallerView). x.got) same) way
 
 -- ## Something is asked
 

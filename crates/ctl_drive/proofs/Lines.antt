@@ -108,7 +108,7 @@ count_more d rs r is = count_one d rs r true is ∙ length-append (filter (λ (q
 pub count_same : (d : ℕ) (rs : List Request) (r : Request) → is_on d r.ask ≡ false → count_on d (rs ++ r ∷ []) ≡ count_on d rs
 count_same d rs r is = count_one d rs r false is ∙ ap (length {A = Request}) (append-nil (filter (λ (q : Request). is_on d q.ask) rs))
 
--- one line more was submitted on the connection e
+-- one line more was submitted, on its connection
 pub record Submits (old new : Users) (r : Request) (u : UnderWay) : Type 0 where
   pub one : SubmitsOne old.caller new.caller r
   pub number : u.number ≡ old.caller.place.first + length old.caller.submitted

@@ -1,42 +1,11 @@
 -- Whose turn it is.
-use Rattle.std.specs.Prelude.{◌≡◌, ◌⊎◌, ℕ, ◌+◌, ◌<◌, ◌≤◌, ◌==◌, not, Bool, true, false, List, is_some, length, refl}
-use Rattle.std.proofs.Common.{ap, arith, sym, subst, inl, inr, true≢false, ◌∙◌}
-use Rattle.std.proofs.lemmas.Bool.{and_parts}
-use Rattle.ctl_drive.specs.Asking.{PlanView, waits_at}
-use Rattle.ctl_drive.specs.Channels.{is_told, state_at, told_at}
-use Rattle.ctl_drive.specs.Turns.{ComesBefore, IsNext, MayRest, NoneWants, is_unopened, one_if, steps_of, wants}
-use Rattle.ctl_drive.specs.Showing.{is_busy}
-use Rattle.ctl_drive.specs.declared.channels.ChannelState.{ChannelState}
-use Rattle.ctl_drive.specs.declared.channels.ChannelState.TheVariants as state
+use Rattle.std.specs.Prelude.{◌≡◌, ◌⊎◌, ℕ, ◌+◌, ◌<◌, ◌≤◌, Bool, true, false, List, is_some, length}
+use Rattle.std.proofs.Common.{arith, sym, subst, inl, inr, true≢false}
+use Rattle.ctl_drive.specs.Asking.{PlanView}
+use Rattle.ctl_drive.specs.Turns.{ComesBefore, IsNext, MayRest, NoneWants, one_if, steps_of, wants}
 use Rattle.ctl_drive.specs.declared.turns.Want.{Want}
 use Rattle.ctl_drive.specs.declared.turns.Want.TheVariants as want
 use Rattle.ctl_drive.specs.declared.users.Users.{Users}
-
-told_if : (s : ChannelState) → not (is_unopened s) ≡ true → is_told s ≡ true
-told_if state.Untold e = absurd (true≢false (sym e))
-told_if state.Wanted e = absurd (true≢false (sym e))
-told_if state.Shut e = absurd (true≢false (sym e))
-told_if state.Refused e = refl
-told_if state.Open e = refl
-
-is_not : (b : Bool) → not b ≡ true → b ≡ false
-is_not true e = absurd (true≢false (sym e))
-is_not false e = refl
-
--- a command may be submitted where its connection wants that
-pub wanted_told : (waiting : List (List (List ℕ))) (u : Users) (d : ℕ) → wants want.Submission waiting u d ≡ true → told_at u.channels d ≡ true
-wanted_told waiting u d e =
-    told_if (state_at u.channels d) (and_parts (not (is_unopened (state_at u.channels d))) (not (is_busy d u.under_way.items)) (and_parts (not (length (waits_at waiting d) == 0)) _ e).1).0
-
--- none of that connection is under way then
-pub wanted_free : (waiting : List (List (List ℕ))) (u : Users) (d : ℕ) → wants want.Submission waiting u d ≡ true → is_busy d u.under_way.items ≡ false
-wanted_free waiting u d e =
-    is_not (is_busy d u.under_way.items) (and_parts (not (is_unopened (state_at u.channels d))) (not (is_busy d u.under_way.items)) (and_parts (not (length (waits_at waiting d) == 0)) _ e).1).1
-
--- and there is one
-pub wanted_some : (waiting : List (List (List ℕ))) (u : Users) (d : ℕ) → wants want.Submission waiting u d ≡ true → length (waits_at waiting d) ≡ 0 → ⊥
-wanted_some waiting u d e none =
-    true≢false (sym (and_parts (not (length (waits_at waiting d) == 0)) _ e).0 ∙ ap (λ (n : ℕ). not (n == 0)) none)
 
 module _ (w : Want) (waiting : List (List (List ℕ))) (u : Users) where
   -- none of these connections wants it
@@ -66,6 +35,7 @@ module _ (w : Want) (waiting : List (List (List ℕ))) (u : Users) where
       by_case e few (inl x) = let a = x.0 in let b = x.1 in let c = h.1.1 in absurd (omega (arith, a, b, c))
       by_case e few (inr x) = later e few x.1
 
+  -- where none behind the last wants it, and none up to the last, no connection does
   pub none_round : (last : ℕ) → NoneIn (last + 1) 62 → NoneIn 0 (last + 1) → NoneWants w waiting u
   none_round last behind before e few = search (behind, before, arith)
 

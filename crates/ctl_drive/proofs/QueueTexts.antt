@@ -11,6 +11,7 @@ use Rattle.ctl_drive.proofs.Aparts.{equal, unequal}
 module _ {Q : Type 0} (texts : Q → List (List ℕ)) where
   -- ## None waits
 
+  -- so many queues, none of which has a text, are seen as so many empty lists
   pub none_made : (qs : List Q) (n : ℕ) → length qs ≡ n → ((i : ℕ) (q : Q) → i < n → texts (slice_index_or qs i q) ≡ []) → map texts qs ≡ replicate n []
   none_made [] zero long h = refl
   none_made [] (suc n) long h = absurd (omega (arith, long))
@@ -22,6 +23,7 @@ module _ {Q : Type 0} (texts : Q → List (List ℕ)) where
 
   -- ## One connection's queue changes
 
+  -- the texts of a connection's queue are those that wait there
   pub waits_here : (qs : List Q) (d : ℕ) (q : Q) → d < length qs → q ≡ get_or qs d q → waits_at (map texts qs) d ≡ texts q
   waits_here qs d q within is = get_or-map texts qs d q [] within ∙ ap texts (sym is)
 
@@ -72,6 +74,7 @@ module _ {Q : Type 0} (texts : Q → List (List ℕ)) where
       subst (λ (x : List (List (List ℕ)) × ℕ). MatchOption o (length (waits_at x.0 x.1) ≡ 0) (λ text. (e : ℕ) → waits_at x.0 e ≡ (if x.1 == e then text ∷ [] else []) ++ waits_at (map texts (set qs n r)) e))
       (λ i. (was i, same i)) (taken qs n (get_or qs n q) r o within (ap (get_or qs n) is) items rest)
 
+  -- one text more in a queue waits behind those that were seen there before, and elsewhere nothing changes
   pub pushed_of : (qs : List Q) (w : List (List (List ℕ))) (n d : ℕ) (q r : Q) (text : List ℕ) → map texts qs ≡ w → n ≡ d → n < length qs → q ≡ get_or qs n q → texts r ≡ texts (get_or qs n q) ++ text ∷ [] → (e : ℕ)
       → waits_at (map texts (set qs n r)) e ≡ waits_at w e ++ (if d == e then text ∷ [] else [])
   pushed_of qs w n d q r text was same within is more e =

@@ -4,7 +4,7 @@ use Rattle.std.proofs.Common.{sym, ap, arith, inl, inr, ◌∙◌}
 use Rattle.std.specs.Str.Iter.{LacksByte}
 use Rattle.at_text.specs.Commands.{refusal_of}
 use Rattle.at_text.specs.declared.error.TextError.{TextError}
-use Rattle.ctl_text.specs.LineFaults.{CommandFault, ConnectionFault, IsConnection, Wants, behind_word, first_word}
+use Rattle.ctl_text.specs.LineFaults.{CommandFault, IsConnection, behind_word, first_word}
 use Rattle.ctl_text.specs.Words.{IsCommand, IsNoCommand, number_text}
 use Rattle.ctl_text.specs.declared.line_fault.LineFault.{LineFault}
 use Rattle.ctl_text.proofs.CutTexts.{lacks_cons, lacks_head, lacks_nil, lacks_tail}
@@ -75,11 +75,6 @@ pub command_parts : (words : List ℕ) (d : ℕ) (line : List ℕ) → IsCommand
 command_parts words d line c =
     rw c.words_are (first_front (number_text d) line (lacks_number (nat_lt d 10) d), behind_front (number_text d) line (lacks_number (nat_lt d 10) d))
 
--- the first word is no connection
-pub unknown_fault : (words : List ℕ) (Later : LineFault → Type 0) → ((n : ℕ) → n < 62 → first_word words ≢ number_text n)
-    → Wants (IsConnection (first_word words)) LineFault.Connection Later LineFault.Connection
-unknown_fault words Later unknown = inl (λ h. unknown h.number h.known h.word_is, refl)
-
 -- it is one
 pub is_connection : (words : List ℕ) (d : ℕ) → first_word words ≡ number_text d → d < 62 → IsConnection (first_word words)
 is_connection words d e known = record { number = d; known = known; word_is = e }
@@ -87,10 +82,6 @@ is_connection words d e known = record { number = d; known = known; word_is = e 
 -- words that go on behind a connection are none
 pub no_last : (words : List ℕ) → length (first_word words) < length words → (n : ℕ) → n < 62 → words ≢ number_text n
 no_last words l n known e = shorter words l (ap first_word e ∙ first_number n ∙ sym e)
-
--- and their fault is that the line doesn't end there
-pub last_fault : (words : List ℕ) (d : ℕ) → first_word words ≡ number_text d → d < 62 → length (first_word words) < length words → ConnectionFault words LineFault.End
-last_fault words d e known l = inr (is_connection words d e known, inl (shorter words l, refl))
 
 -- words that end with it are its number
 pub last_number : (words word : List ℕ) (d : ℕ) → word ≡ first_word words → word ≡ number_text d → length words ≤ length word → words ≡ number_text d
@@ -103,10 +94,6 @@ no_first words unknown n known e = unknown n known (ap first_word e ∙ first_nu
 -- the first word is no connection that carries commands
 pub no_carrier : (words : List ℕ) → ((n : ℕ) → 1 ≤ n → n < 62 → first_word words ≢ number_text n) → IsNoCommand words
 no_carrier words unknown d line c = unknown d c.carries c.known (command_parts words d line c).0
-
--- and that is their fault
-pub carrier_fault : (words : List ℕ) → ((n : ℕ) → 1 ≤ n → n < 62 → first_word words ≢ number_text n) → CommandFault words LineFault.Carrier
-carrier_fault words unknown = inl (λ h. unknown h.number h.carries h.known h.word_is, refl)
 
 -- what follows it is no command line
 pub no_line : (words : List ℕ) → refusal_of (behind_word words) ≢ None → IsNoCommand words

@@ -75,11 +75,3 @@ begun_first a b first second h = record {
   split = rw (h.split, append_assoc h.part h.left second) refl;
   appended = h.appended;
 }
-
--- a writer that keeps what it has
-pub begun_kept : (a b c : Option (List ℕ)) (octets : List ℕ) → IsBegun a b octets → Keeps b c → IsBegun a c octets
-begun_kept a b c octets h k = record { part = h.part; left = h.left; split = h.split; appended = appends_kept a b c h.part h.appended k }
-
--- or, if it had taken all, has all still
-pub whole_kept : (a b c : Option (List ℕ)) (octets : List ℕ) → Appends a b octets → Keeps b c → Appends a c octets
-whole_kept a b c octets p k = appends_kept a b c octets p k

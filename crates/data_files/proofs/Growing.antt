@@ -1,12 +1,12 @@
 -- A file goes on, and has its turn.
 use Rattle.std.specs.Prelude.{◌≡◌, ◌≢◌, ◌==◌, ◌&&◌, ℕ, ◌+◌, ◌-◌, ◌<◌, ◌≤◌, nat_lt, Bool, true, false, List, [], ◌∷◌, ◌++◌, drop, length, min, Result, Ok, Err, IfOk, OnErr, OnOk, if◌then◌else◌, refl}
-use Rattle.std.proofs.Common.{ap, arith, inl, inr, sym, subst, true≢false, ◌∙◌}
+use Rattle.std.proofs.Common.{ap, arith, inl, inr, sym, subst, ◌∙◌, true≢false}
 use Rattle.std.proofs.lemmas.Bool.{lt-ltb}
 use Rattle.std.proofs.lemmas.List.{length-append, length-drop}
 use Rattle.mux_station.specs.declared.role.Role.{Role}
 use Rattle.serial_line.specs.Counts.{one_more, counted_if_none}
 use Rattle.serial_line.specs.declared.line.LineFault.{LineFault}
-use Rattle.serial_line.specs.LineViews.{LineView, after_fault, after_read}
+use Rattle.serial_line.specs.LineViews.{LineView}
 use Rattle.modem_data.specs.declared.error.DataError.{DataError}
 use Rattle.modem_data.specs.DataLanes.{most_to_go}
 use Rattle.modem_data.specs.Passing.{Gave, IsOver, to_go, unread}
@@ -15,7 +15,7 @@ use Rattle.modem_data.specs.Hops.{Hop, Passed, passes}
 use Rattle.modem_data_line.specs.DataLines.{Before, DataLineState, LineFits}
 use Rattle.data_files.specs.Files.{FileState}
 use Rattle.data_files.specs.Moves.{FileGrows, GaveFirst, GivesOn, HasRoom, IsAskedFile, IsKept, IsOfferedFile, IsUnread, KeepsUnread, ReadsOn, StaysOver}
-use Rattle.data_files.proofs.FileSteps.{came_by, lane_leads, none_went}
+use Rattle.data_files.proofs.FileSteps.{lane_leads}
 
 -- ## Counts
 
@@ -37,11 +37,6 @@ none_stalled could n e0 e1 e none some =
     let rises : e1 ≡ one_more e0 = e ∙ (ap (λ (k : ℕ). counted_if_none could k e0) none ∙ ap (λ (b : Bool). if b && (0 == 0) then one_more e0 else e0) (lt-ltb 0 could some)) in
     omega (arith, rises)
 
-kept_read : {Y : Type 0} (look : Y → LineView) (f h : Y) (more : List ℕ) (r : Result ℕ LineFault) → IfOk r (λ n. look h ≡ after_read 512 n more (look f))
-    → OnErr r (look h ≡ after_fault (look f)) → IsKept (look f).empty_reads (look h).empty_reads
-kept_read look f h more (Ok n) gave fault = kept_counted 512 n (look f).empty_reads (look h).empty_reads (ap (λ (l : LineView). l.empty_reads) gave)
-kept_read look f h more (Err why) gave fault = kept_same (look f).empty_reads (look h).empty_reads (ap (λ (l : LineView). l.empty_reads) fault)
-
 -- ## One step
 
 -- nothing happened to the file
@@ -57,28 +52,6 @@ grows_none look f = record {
   ended = λ q. q;
   broken = λ q. q;
 }
-
--- a read of the file
-pub read_grows : {Y : Type 0} (look : Y → LineView) (f h : FileState Y) (r : Result ℕ LineFault) → f.ungiven ≡ [] → IfOk r (λ n. n ≡ length h.ungiven) → OnErr r (h.ungiven ≡ [])
-    → IfOk r (λ n. look h.file ≡ after_read 512 n h.ungiven (look f.file)) → OnErr r (look h.file ≡ after_fault (look f.file)) → (f.has_ended ≡ true → h.has_ended ≡ true)
-    → h ≡ record f { file = h.file; ungiven = h.ungiven; has_ended = h.has_ended } → FileGrows look f h
-read_grows look f h r none count empty gave fault ended is =
-    let came = came_by look f.file h.file h.ungiven r count empty gave fault in
-    let still = none_went look f.file h.file h.ungiven r gave fault in
-    let more : length (look h.file).received ≡ length (look f.file).received + length h.ungiven = ap length came ∙ length-append (look f.file).received h.ungiven in
-    let went : length (look h.file).sent ≡ length (look f.file).sent = ap length still.0 in
-    let waits : length h.unwritten ≡ length f.unwritten = ap (λ (x : FileState _). length x.unwritten) is in
-    record {
-      came = omega (arith, more);
-      given = omega (arith, more);
-      went = omega (arith, went);
-      read = omega (arith, went, waits);
-      empty = kept_read look f.file h.file h.ungiven r gave fault;
-      stalled = kept_same (look f.file).stalled_writes (look h.file).stalled_writes still.1;
-      renewed = kept_same f.renewals h.renewals (ap (λ (x : FileState _). x.renewals) is);
-      ended = ended;
-      broken = λ q. ap (λ (x : FileState _). x.is_broken) is ∙ q;
-    }
 
 -- fewer of its octets wait
 pub fewer_grows : {Y : Type 0} (look : Y → LineView) (f h : FileState Y) → h ≡ record f { ungiven = h.ungiven }

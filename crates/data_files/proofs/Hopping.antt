@@ -269,12 +269,6 @@ fits_beside look f hops past e h = record {
   dropped_are = h.dropped_are ∙ ap (λ (n : ℕ). min n (2 ^ 64 - 1)) (sym (unsent_stays f.dlci hops past e));
 }
 
--- so does any file beside hops that may pass
-pub fits_passing : {Y : Type 0} (look : Y → LineView) (f : FileState Y) (hops : List Hop) (past : List Pass) → list_all (may_pass false) hops ≡ true
-    → FileFits look past f → FileFits look (passes hops ++ past) f
-fits_passing look f hops past e h =
-    fits_beside look f hops past (all_kind (may_pass false) (is_beside f.dlci) hops (passes_beside f.dlci) e) h
-
 -- ## What decides of the data of d
 
 -- octets given and read on other connections leave it as it was

@@ -15,14 +15,6 @@ use Rattle.data_files.proofs.FileSteps.{lane_leads, same_dlci}
 
 -- ## Octets behind others
 
--- what is written of a piece leaves what is kept behind it where it is
-pub split_front : (a b p q k : List ℕ) → b ++ q ≡ a ++ p → b ++ (q ++ k) ≡ a ++ (p ++ k)
-split_front a b p q k e = sym (append_assoc b q k) ∙ (ap (λ (xs : List ℕ). xs ++ k) e ∙ append_assoc a p k)
-
--- so many written octets of a piece are the first of all that wait
-pub count_front : (n : ℕ) (p q k : List ℕ) → n ≤ length p → q ≡ drop n p → q ++ k ≡ drop n (p ++ k)
-count_front n p q k few e = ap (λ (xs : List ℕ). xs ++ k) e ∙ sym (drop-append-le n p k few)
-
 both_nil : (xs ys : List ℕ) → xs ++ ys ≡ [] → (xs ≡ []) × (ys ≡ [])
 both_nil [] [] e = (refl, refl)
 both_nil [] (y ∷ ys) e = cc
@@ -51,13 +43,6 @@ pub tail_is : (start : ℕ) (xs ys : List ℕ) → xs ≡ ys → take (length xs
 tail_is start xs ys e =
     let long = length-drop start xs in
     take_all (length xs - start) (drop start xs) (omega (arith, long)) ∙ ap (λ (l : List ℕ). drop start l) e
-
--- a piece has at most 512 octets
-pub piece_few : (start end : ℕ) (octets : List ℕ) → start ≤ end → end ≤ 512 → length (drop start (take end octets)) ≤ 512
-piece_few start end octets a b =
-    let one = length-drop start (take end octets) in
-    let two = length-take end octets in
-    omega (arith, one, two, a, b)
 
 -- behind the last octet none waits
 pub none_left : (start len : ℕ) (items : List ℕ) → start ≡ len → len ≡ length items → drop start items ≡ []

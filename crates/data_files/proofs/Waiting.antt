@@ -1,7 +1,7 @@
 -- Octets that were read of a connection and wait for its file.
 use Rattle.std.specs.Prelude.{◌≡◌, ◌⊎◌, ℕ, ◌+◌, ◌-◌, ◌<◌, ◌≤◌, Result, Err, false, List, ◌++◌, drop, take, length, min}
-use Rattle.std.proofs.Common.{ap, sym, ◌∙◌, subst, arith, inl, inr, true≢false, take-append-drop}
-use Rattle.std.proofs.lemmas.List.{append_assoc, length-append, length-drop, length-take, take_min}
+use Rattle.std.proofs.Common.{ap, sym, ◌∙◌, subst, arith, inl, inr, take-append-drop, true≢false}
+use Rattle.std.proofs.lemmas.List.{append_assoc, length-append, length-take, take_min}
 use Rattle.mux_station.specs.Opening.{is_open}
 use Rattle.modem_data.specs.declared.error.DataError.{DataError}
 use Rattle.modem_data.specs.declared.error.DataError.TheVariants as error
@@ -41,10 +41,6 @@ grew a b xs n e few some =
     let part = length-take n xs in
     let long : length b ≡ length a + length (take n xs) = ap length e ∙ length-append a (take n xs) in
     omega (arith, part, long, few, some)
-
--- and no more are left for it
-pub drop_fewer : (n : ℕ) (xs ys : List ℕ) → ys ≡ drop n xs → length ys ≤ length xs
-drop_fewer n xs ys e = let long = ap length e ∙ length-drop n xs in omega (arith, long)
 
 -- ## Octets that wait to be given
 

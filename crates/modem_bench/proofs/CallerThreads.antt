@@ -6,10 +6,9 @@ use Rattle.std.specs.declared.alloc.Global.{Global}
 use Rattle.modem_desk.specs.declared.request.Ask.{Ask}
 use Rattle.modem_desk.specs.declared.request.Outcome.{Outcome}
 use Rattle.modem_desk.specs.Ends.{CallerView, Place, place_of}
-use Rattle.modem_sim.specs.declared.script.Script.{Script}
 use Rattle.modem_bench.specs.Asks.{asks_for}
 use Rattle.modem_bench.specs.Calling.{OpensAll, Stops, Works}
-use Rattle.modem_bench.specs.Running.{AllWork, AreBack, AreCalled, AreOut, ComesBack, GoesOut, IsBack, IsOut, OpensFirst, Ran, StopsFirst, Work}
+use Rattle.modem_bench.specs.Running.{AllWork, AreBack, AreCalled, AreOut, ComesBack, GoesOut, IsBack, IsOut, OpensFirst, StopsFirst, Work}
 use Rattle.modem_bench.specs.declared.calling.Worked.{Worked}
 use Rattle.modem_bench.specs.declared.signals.Fault.{Fault}
 use Rattle.modem_bench.specs.declared.submission.Submission.{Submission}
@@ -159,7 +158,3 @@ kept_ok P ended (Err e) x h done same = tt
 pub on_given : {A E : Type 0} (P : Type 0) (ended r s : Result A E) → OnOk ended P → IfOk r (λ v. ended ≡ Ok v) → s ≡ r → OnOk s P
 on_given {A} {E} P ended (Ok v) s h is same = subst (λ (t : Result A E). OnOk t P) (sym same) (subst (λ (t : Result A E). OnOk t P) is h)
 on_given {A} {E} P ended (Err e) s h is same = subst (λ (t : Result A E). OnOk t P) (sym same) tt
-
--- a bench that ran has a list of outcomes for each of its callers
-pub ran_many : (all : List Submission) (count cut : ℕ) (script : Script) (os : List (List Outcome)) → Ran all count cut script os → length os ≡ count
-ran_many all count cut script os h = h.ran.one_each ∙ h.fresh.many

@@ -12,14 +12,14 @@ use Rattle.modem_desk.specs.declared.settling.Settled.{Settled}
 use Rattle.modem_desk.specs.Ends.{AreSubscribed, CallerView, DeskId, DriverView, IsWhole, ListenerView, Opened, subscription_of, place_of}
 use Rattle.modem_history.specs.Sessions.{EndView, LineView, at_place, taken_since}
 use Rattle.modem_history.specs.Turns.{TurnAnswer}
-use Rattle.modem_driver.specs.Headline.{IsHeadline, IsSettled, Run}
+use Rattle.modem_driver.specs.DeskHeadline.{DeskRun, IsDeskHeadline, IsDeskSettled, RestsOf, Spell, whole_rest}
 use Rattle.modem_driver.specs.OneSession.{CallKind, HasCalls, HasOne, LivedGrows, OneSession, call_of, none_called, poll_called, seen_by_calls, turn_called}
 use Rattle.modem_driver.specs.declared.session.ending.Ended.TheVariants.{Stopped}
 use Rattle.modem_driver.specs.declared.session.polling.Progress.{Progress}
 use Rattle.modem_driver.specs.declared.session.polling.Progress.TheVariants as progress
 use Rattle.modem_driver.specs.SessionStates.{FitsAll, SessionState, beginning_of, end_of, session_view}
 use Rattle.modem_driver.proofs.law_proofs.GrownHistories.{lived_grows}
-use Rattle.modem_driver.proofs.law_proofs.Headlines.{headline}
+use Rattle.modem_driver.proofs.law_proofs.DeskHeadlines.{desk_headline}
 use Rattle.modem_driver.proofs.law_proofs.OneSessions.{one_session}
 use Rattle.modem_sim.specs.Sims.{SimState}
 use Rattle.modem_bench.specs.Driving.{Continues, Goes, GoesByStandard, IsBegun, IsOver, MakesPolls, MovesAndPolls, moves, no_poll, one_more, stays}
@@ -38,6 +38,7 @@ none_at (suc n) (suc i) = none_at n i
 module _ {X : Type 0} (look : X → LineView) where
   -- ## It begins, and goes on
 
+  -- a session with N1 31 and an empty history, on a desk as it was opened, has just begun
   pub begins : (l : LineView) (count : ℕ) (kinds : List UrcKind) (first : ℕ) (d : DriverView) (cs : List CallerView) (ls : List ListenerView) (s : SessionState X)
       → Opened count kinds first d cs ls → FitsAll (beginning_of 31 l d) look s [] → s.driver ≡ d → IsBegun look s
   begins l count kinds first d cs ls s o fits same = record {
@@ -61,11 +62,13 @@ module _ {X : Type 0} (look : X → LineView) where
     called = turn_called old m.mid h.calls TurnAnswer.Moved h.called m.turn;
   }
 
+  -- a turn that moved something and the poll behind it are two calls more
   pub poll_then : (first old new : SessionState X) (given : Progress) → HasCalls look first old → MovesAndPolls look old new given → HasCalls look first new
   poll_then first old new given h m =
       let w = turn_before first old new given h m in
       record { calls = call_of look CallKind.Polled new ∷ w.calls; called = poll_called m.mid new w.calls given w.called m.polls }
 
+  -- a poll of the bench that gave no end adds its calls, whether it moved something or not
   pub goes_then : (first old new : SessionState X) (quiet later : ℕ) → HasCalls look first old → Goes look old quiet new later → HasCalls look first new
   goes_then first old new quiet later h (moves after given m none) = poll_then first old after given h m
   goes_then first old new quiet later h (stays after s) = record {
@@ -73,6 +76,7 @@ module _ {X : Type 0} (look : X → LineView) where
     called = turn_called old after h.calls s.says h.called s.turn;
   }
 
+  -- polls of the bench that gave no end, one after the other, are calls of its session
   pub made_calls : (first last : SessionState X) (count quiet : ℕ) → MakesPolls look first count quiet last → HasCalls look first last
   made_calls first last count quiet no_poll = record { calls = []; called = none_called }
   made_calls first last count quiet (one_more before was later mid new made goes) = goes_then first mid new was later (made_calls first mid before was made) goes
@@ -88,18 +92,28 @@ module _ {X : Type 0} (look : X → LineView) where
       let w = before_of s0 s1 h in
       record { calls = call_of look CallKind.Polled s1 ∷ w.calls; called = poll_called h.stops.mid s1 w.calls (progress.Ended (Ok Stopped)) w.called h.stops.polls }
 
+  -- a session that had just begun, and went on until it stopped, has one history by all its calls
   pub one_of : (s0 s1 : SessionState X) (begun : IsBegun look s0) (h : Continues look s0 s1) → HasOne look begun.start s0 s1 (calls_of s0 s1 h).calls
   unfolding OneSession
   one_of s0 s1 begun h = one_session look begun.start s0 s1 (calls_of s0 s1 h).calls begun.fits (calls_of s0 s1 h).called
 
-  -- the run that it was
-  abbrev pub run_of : (s0 s1 : SessionState X) (cs : List CallerView) (ls : List ListenerView) (settled : Settled) → IsBegun look s0 → Continues look s0 s1 → IsOver look s1 cs ls settled → Run
-  run_of s0 s1 cs ls settled begun h over = record {
+  -- the session as it was
+  abbrev pub spell_of : (s0 s1 : SessionState X) (cs : List CallerView) (ls : List ListenerView) (settled : Settled) → IsBegun look s0 → Continues look s0 s1 → IsOver look s1 cs ls settled → Spell
+  spell_of s0 s1 cs ls settled begun h over = record {
     start = begun.start;
     session = session_view look s1;
     earlier = seen_by_calls (session_view look s0) (before_of s0 s1 h).calls;
     past = (one_of s0 s1 begun h).past;
     leftovers = over.leftovers;
+    rest = whole_rest over.leftovers;
+  }
+
+  -- the run that it was
+  abbrev pub run_of : (s0 s1 : SessionState X) (cs : List CallerView) (ls : List ListenerView) (settled : Settled) → IsBegun look s0 → Continues look s0 s1 → IsOver look s1 cs ls settled → DeskRun
+  run_of s0 s1 cs ls settled begun h over = record {
+    first = begun.start.desk;
+    spells = spell_of s0 s1 cs ls settled begun h over ∷ [];
+    last = over.leftovers.desk;
     driver = s1.driver;
     callers = cs;
     listeners = ls;
@@ -115,34 +129,43 @@ module _ {X : Type 0} (look : X → LineView) where
       ap (list_all (λ (q : Request). nat_lt q.caller (length s1.driver.desk.rings))) since
       ∙ subst (λ (d : DeskId). list_all (λ (q : Request). nat_lt q.caller (length d.rings)) h.takes.more ≡ true) (sym h.takes.desk) h.takes.callers
 
+  -- a session that stopped and is over, with all callers of its desk, makes a run whose desk is settled
   pub settles : (s0 s1 : SessionState X) (cs : List CallerView) (ls : List ListenerView) (settled : Settled) (begun : IsBegun look s0) (h : Continues look s0 s1)
-      → IsWhole s1.driver.desk (map place_of cs) → AreSubscribed s1.driver.desk (map subscription_of ls) → (over : IsOver look s1 cs ls settled) → IsSettled (run_of s0 s1 cs ls settled begun h over)
+      → IsWhole s1.driver.desk (map place_of cs) → AreSubscribed s1.driver.desk (map subscription_of ls) → (over : IsOver look s1 cs ls settled) → IsDeskSettled (run_of s0 s1 cs ls settled begun h over)
   unfolding LivedGrows
   settles s0 s1 cs ls settled begun h whole subscribed over =
       record {
         none_taken = begun.none_taken;
         none_told = begun.none_told;
         none_announced = begun.none_announced;
-        callers = of_callers s0 s1 begun h;
-        history =
+        follow =
             let o = one_of s0 s1 begun h in
-            record { grown = lived_grows begun.start (session_view look s0) (calls_of s0 s1 h).calls o.past o.lived; finishes = over.ends begun.start o.past o.fits };
-        desk = over.desk;
+            (
+              record {
+                begins = refl;
+                kinds_are = sym (ap (λ (d : DeskId). d.kinds) h.takes.desk ∙ begun.kinds);
+                callers_are = of_callers s0 s1 begun h;
+                grown = lived_grows begun.start (session_view look s0) (calls_of s0 s1 h).calls o.past o.lived;
+                finishes = over.ends begun.start o.past o.fits;
+                rests = RestsOf.rests_whole over.leftovers;
+              },
+              refl,
+            );
         taken = ap (λ (e : EndView). e.taken) (sym over.desk);
         told = ap (λ (e : EndView). e.told) (sym over.desk);
         announced = ap (λ (e : EndView). e.announced) (sym over.desk);
-        kinds = ap (λ (d : DeskId). d.kinds) h.takes.desk ∙ begun.kinds;
         whole = whole;
         subscribed = subscribed;
         books = over.books;
       }
 
+  -- where the callers worked, the session stopped and is over, and the modem came to its end, the bench ran for them
   pub ran_for : (all : List Submission) (fresh cs : List CallerView) (ws : List Worked) (vs : List (Vec Outcome Global)) (s0 s1 : SessionState X) (m : SimState X) (ls : List ListenerView) (settled : Settled)
       → AreCalled all fresh ws → cs ≡ map (λ (w : Worked). w.caller) ws → vs ≡ map (λ (w : Worked). w.outcomes) ws
       → IsBegun look s0 → Continues look s0 s1 → IsSimulated look m
       → IsWhole s1.driver.desk (map place_of cs) → AreSubscribed s1.driver.desk (map subscription_of ls) → IsOver look s1 cs ls settled
       → RanFor look all fresh s0 m (map vec_items vs)
-  unfolding IsHeadline
+  unfolding IsDeskHeadline
   ran_for all fresh cs ws vs s0 s1 m ls settled h callers e begun on simulated whole subscribed over =
       let done = settles s0 s1 cs ls settled begun on whole subscribed over in
       record {
@@ -155,14 +178,17 @@ module _ {X : Type 0} (look : X → LineView) where
         driven = on;
         simulated = simulated;
         calls = calls_of s0 s1 on;
-        run = run_of s0 s1 cs ls settled begun on over;
+        spell = spell_of s0 s1 cs ls settled begun on over;
         start_is = refl;
         session_is = refl;
-        earlier_are = refl;
+        seen_are = refl;
+        rest_is = refl;
+        run = run_of s0 s1 cs ls settled begun on over;
+        spells_are = refl;
         driver_is = refl;
         callers_are = callers;
         settled = done;
-        headline = headline (run_of s0 s1 cs ls settled begun on over) done;
+        headline = desk_headline (run_of s0 s1 cs ls settled begun on over) done;
       }
 
 -- the core of a bench's session goes by the standard's codes, with N1 31

@@ -100,6 +100,7 @@ module _ {X : Type 0} (look : X → LineView) where
 
   -- ## One poll
 
+  -- a turn that answered otherwise than Moved is a poll that moves nothing
   pub advances_still : (old new : SessionState X) (says : TurnAnswer) → TakesTurn look old new says → HasTurned (standing_of look old) (standing_of look new) → TakesMore old.driver new.driver
       → says_moved says ≡ false → Advances look old new (Ok None)
   advances_still old new says turn turned takes still = record {
@@ -108,6 +109,7 @@ module _ {X : Type 0} (look : X → LineView) where
     polled = record { says = says; turn = turn; not_moved = still; nothing = nothing_moves old new says turn still };
   }
 
+  -- a turn that answered Moved, and what the session does behind it, are a poll that comes to what that gave
   pub advances_moved : (old mid new : SessionState X) (says : TurnAnswer) (given : Progress) → TakesTurn look old mid says → HasTurned (standing_of look old) (standing_of look mid) → TakesMore old.driver mid.driver
       → says_moved says ≡ true → Polls look mid new given → SessionGoesOn look mid new → TakesMore mid.driver new.driver → Advances look old new (Ok (Some given))
   advances_moved old mid new says given turn turned takes moved polls goes more = record {
@@ -116,6 +118,7 @@ module _ {X : Type 0} (look : X → LineView) where
     polled = record { mid = mid; turn = subst (TakesTurn look old mid) (moved_is says moved) turn; polls = polls };
   }
 
+  -- a turn that gave a fault is a poll that gives it
   pub advances_fails : (old new : SessionState X) (why : SessionFault) → Faults look old new (fault_of why) → HasTurned (standing_of look old) (standing_of look new) → TakesMore old.driver new.driver
       → Advances look old new (Err why)
   advances_fails old new why faults turned takes = record {
@@ -126,6 +129,7 @@ module _ {X : Type 0} (look : X → LineView) where
 
   -- ## One poll that is counted
 
+  -- a counted poll that moved something leads where its progress does, and polls that move nothing count anew
   pub steps_moved : (old new : SessionState X) (limit counted later : Limit) (given : Progress) (led : Result Bool Halt) → Advances look old new (Ok (Some given)) → IsCounted limit counted → later ≡ record counted { quiet = 0 }
       → led ≡ led_to given → Steps look old new limit later led
   steps_moved old new limit counted later given led a is reset e = subst (Steps look old new limit later) (sym e) (by given a)
@@ -145,6 +149,7 @@ module _ {X : Type 0} (look : X → LineView) where
       by More h = goes_on More h.polled h.takes h.goes (moves new More h.polled refl)
       by Idle h = goes_on Idle h.polled h.takes h.goes (moves new Idle h.polled refl)
 
+  -- by a counted poll that moved nothing the multiplexer hasn't ended
   pub steps_still : (old new : SessionState X) (limit later : Limit) → Advances look old new (Ok None) → IsCounted limit later → Steps look old new limit later (Ok false)
   steps_still old new limit later a is = record {
     takes = a.takes;
@@ -154,9 +159,11 @@ module _ {X : Type 0} (look : X → LineView) where
     most = is.most;
   }
 
+  -- a poll that gave a fault ends the bench with the fault that it tells for that
   pub steps_fails : (old new : SessionState X) (limit later : Limit) (why : SessionFault) → Advances look old new (Err why) → Steps look old new limit later (Err (halt.Failed (session_fault why)))
   steps_fails old new limit later why a = at_once why a.polled
 
+  -- where no poll may be made, the bench ends for that reason, and the session stays
   pub steps_refused : (old new : SessionState X) (limit later : Limit) (why : Halt) → IsRefused limit why → new ≡ old → Steps look old new limit later (Err why)
   steps_refused old new limit later (halt.Told given) is same = tt
   steps_refused old new limit later (halt.Failed fault) is same = absurd is
@@ -173,9 +180,11 @@ module _ {X : Type 0} (look : X → LineView) where
     pub takes : TakesMore old.driver new.driver
     pub goes : SessionGoesOn look old new
 
+  -- before the first poll nothing was done, and all polls are left
   pub driven_none : (limits : Limits) (s : SessionState X) → Driven limits s s (fresh_limit limits)
   driven_none limits s = record { count = 0; made = no_poll; left = omega arith; most = refl; takes = takes_none s.driver; goes = goes_none look s }
 
+  -- a step by which the multiplexer hasn't ended is one poll more within the limits
   pub driven_on : (limits : Limits) (old mid new : SessionState X) (limit later : Limit) → Driven limits old mid limit → Steps look mid new limit later (Ok false) → Driven limits old new later
   driven_on limits old mid new limit later d g =
       let was = d.left in
@@ -189,6 +198,7 @@ module _ {X : Type 0} (look : X → LineView) where
         goes = goes_then look old mid new d.goes g.goes;
       }
 
+  -- where the next step ends the multiplexer, the session went on until it stopped
   pub driven_stops : (limits : Limits) (old mid new : SessionState X) (limit later : Limit) → Driven limits old mid limit → Steps look mid new limit later (Ok true) → Continues look old new
   driven_stops limits old mid new limit later d s = record {
     count = d.count;
@@ -220,6 +230,7 @@ module _ {X : Type 0} (look : X → LineView) where
           (record { count = d.count; quiet = limit.quiet; fewer = omega (arith, some, was); many = omega (arith, most, many); made = d.made })
       by false false l q h = absurd (let x : None ≡ Some cause = h in cc)
 
+  -- where the next step gives a reason to end the bench, all that was done bears that reason out
   pub driven_halts : (limits : Limits) (old mid new : SessionState X) (limit later : Limit) (why : Halt) → Driven limits old mid limit → Steps look mid new limit later (Err why) → Halts look limits old new why
   driven_halts limits old mid new limit later (halt.Told given) d s = tt
   driven_halts limits old mid new limit later (halt.Failed told) d s = record { count = d.count; quiet = limit.quiet; mid = mid; waits = d.made; fails = s }

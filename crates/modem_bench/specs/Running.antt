@@ -5,7 +5,7 @@ use Rattle.serial_line.specs.ThreadLine.{AreEnds, EndState, IsNew, thread_view}
 use Rattle.modem_desk.specs.declared.request.Ask.{Ask}
 use Rattle.modem_desk.specs.declared.request.Outcome.{Outcome}
 use Rattle.modem_desk.specs.Ends.{CallerView, Each, IsFresh}
-use Rattle.modem_driver.specs.Headline.{Headline, IsSettled, Run}
+use Rattle.modem_driver.specs.DeskHeadline.{DeskHeadline, DeskRun, IsDeskSettled, Spell, whole_rest}
 use Rattle.modem_driver.specs.OneSession.{HasCalls, seen_by_calls}
 use Rattle.modem_driver.specs.SessionStates.{SessionState, session_view}
 use Rattle.modem_history.specs.Sessions.{LineView}
@@ -96,9 +96,9 @@ AreCalled all (c ∷ cs) (w ∷ ws) = Leads all c w.caller w.outcomes.items × A
 
 -- These callers did what the submissions ask of them, and these are the outcomes that each took for it, each
 -- for the line at its place. The session was polled in its thread until it stopped, and the simulated modem
--- until it had ended. The session had done nothing before, and neither had its desk, of which these are all
--- the callers; it was finished, and then its desk was settled with the driver's end and with them: so the
--- headline holds of that run.
+-- until it had ended. The session, the only one of its desk, had done nothing before, and neither had the desk, of which
+-- these are all the callers; it was finished, nothing was done with what that gave, and then the desk was settled with the
+-- driver's end and with them: so the headline holds of that run.
 pub record RanFor {X : Type 0} (look : X → LineView) (all : List Submission)
     (fresh : List CallerView) (session : SessionState X) (sim : SimState X)
     (outcomes : List (List Outcome)) : Type 0 where
@@ -111,14 +111,17 @@ pub record RanFor {X : Type 0} (look : X → LineView) (all : List Submission)
   pub driven : Continues look session stopped
   pub calls : HasCalls look session stopped
   pub simulated : IsSimulated look sim
-  pub run : Run
-  pub start_is : run.start ≡ begun.start
-  pub session_is : run.session ≡ session_view look stopped
-  pub earlier_are : run.session ∷ run.earlier ≡ seen_by_calls (session_view look session) calls.calls
+  pub spell : Spell
+  pub start_is : spell.start ≡ begun.start
+  pub session_is : spell.session ≡ session_view look stopped
+  pub seen_are : spell.session ∷ spell.earlier ≡ seen_by_calls (session_view look session) calls.calls
+  pub rest_is : spell.rest ≡ whole_rest spell.leftovers
+  pub run : DeskRun
+  pub spells_are : run.spells ≡ spell ∷ []
   pub driver_is : run.driver ≡ stopped.driver
   pub callers_are : run.callers ≡ map (λ (w : Worked). w.caller) worked
-  pub settled : IsSettled run
-  pub headline : Headline run
+  pub settled : IsDeskSettled run
+  pub headline : DeskHeadline run
 
 -- so many callers, which have done nothing yet
 pub record AreFresh (count : ℕ) (cs : List CallerView) : Type 0 where

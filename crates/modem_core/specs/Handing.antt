@@ -1,9 +1,7 @@
 -- The next command of a connection is handed to the station.
-use Rattle.std.specs.Prelude.{◌≡◌, ℕ, ◌≤◌, Bool, true, false, List, [], ◌∷◌, length, Option, None, Some, option_map}
+use Rattle.std.specs.Prelude.{◌≡◌, ℕ, ◌≤◌, Bool, true, false, List, [], ◌∷◌, ◌++◌, length, Option, None, Some, option_map}
 use Rattle.mux_frame.specs.Frames.{Frame}
-use Rattle.mux_station.specs.Acts as station
-use Rattle.mux_station.specs.Stations.{Station, setting_of, offer_refused}
-use Rattle.mux_station.specs.Fitting as station_fits
+use Rattle.mux_station.specs.Stations.{Station, setting_of}
 use Rattle.at_text.specs.declared.unsolicited.UrcKind.{UrcKind}
 use Rattle.modem_history.specs.Acts.{Act, Got}
 use Rattle.modem_history.specs.Information.{line_of}
@@ -11,20 +9,14 @@ use Rattle.modem_history.specs.Calls.{first_on}
 use Rattle.modem_history.specs.Requests.{commands_on, without_first}
 use Rattle.modem_core.specs.Lanes.{Lane}
 use Rattle.modem_core.specs.Cores.{dialect_in, Core, lane_at}
+use Rattle.modem_core.specs.Offers.{TakesLine}
 use Rattle.modem_core.specs.Stops.{asker_of}
 use Rattle.modem_core.specs.Reports.{Listens, read_each}
 
--- octets are offered on d: the station takes them where it doesn't refuse them
-pub record Offers (old new : Station) (d : ℕ) (octets : List ℕ) : Type 0 where
-  pub setting : setting_of new ≡ setting_of old
-  pub taken : None ≡ offer_refused old d octets
-      → station_fits.StationHandles old new (station.Called (station.Offer d octets))
-
--- a command line is offered, and its CR
+-- a command line is offered with its CR
 pub record OffersLine (old new : Station) (d : ℕ) (line : List ℕ) : Type 0 where
-  pub between : Station
-  pub text : Offers old between d line
-  pub end : Offers between new d (13 ∷ [])
+  pub setting : setting_of new ≡ setting_of old
+  pub takes : TakesLine old new d (line ++ 13 ∷ [])
   pub short : length line ≤ 256
 
 abbrev pub HandsOn : Station → Station → ℕ → Option (List ℕ) → Type 0

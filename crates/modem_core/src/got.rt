@@ -14,7 +14,7 @@ ghost use Rattle.modem_history.specs.Acts.{Act as Happening, act_of, Got};
 ghost use Rattle.modem_core.specs.Running.{CoreIsIdle};
 ghost use Rattle.modem_core.specs.Cores.{Handles, shows_opened, lane_at};
 ghost use Rattle.modem_core.specs.Lanes.{new_lane};
-ghost use Rattle.modem_core.specs.Handing.{Offers, OffersLine, EndsCommand, EndedBy};
+ghost use Rattle.modem_core.specs.Handing.{OffersLine, EndsCommand, EndedBy};
 ghost use Rattle.modem_core.specs.Settling.{tells_lines};
 ghost use Rattle.std.specs.List.{list_any};
 ghost use Rattle.modem_core.specs.Receiving.{HasRoom, answer_room, cut_to, sent_in, afresh_if, brings_data};
@@ -29,6 +29,7 @@ use crate::line_queue::LineQueue;
 use crate::reports::Reading;
 use crate::settling::Draft;
 use crate::telling::{Happened, tell_on};
+use crate::took::offer_line;
 use crate::waiting::Waiting;
 use at_text::CommandLine;
 use modem_desk::Outcome;
@@ -213,7 +214,7 @@ impl Core {
     {
         remove_command(&mut self.hand, dlci);
         if let Some(line) = first_line(self.hand.from_first(dlci), dlci) {
-            offer_line(&mut self.station, dlci, line);
+            offer_next(&mut self.station, dlci, line);
         }
     }
 
@@ -365,17 +366,11 @@ fn is_opened(state: ChannelState) -> bool
     matches!(state, ChannelState::Opened)
 }
 
-/// Octets are put into the send ring.
-fn offer(station: &mut Station, dlci: Dlci, octets: &[u8])
-    ensures { Offers station.old station.new dlci.number octets.now }
-{
-    let _ = station.offer(dlci, octets);
-}
-
-/// A command goes out as its text and CR (V.250, 5.2.1).
-fn offer_line(station: &mut Station, dlci: Dlci, line: &CommandLine)
+/// The next command goes out as its text and CR (V.250, 5.2.1).
+#[tactic(auto, using(crate::proofs::requests::CommandRequests::short_line))]
+fn offer_next(station: &mut Station, dlci: Dlci, line: &CommandLine)
     ensures { OffersLine station.old station.new dlci.number line.now }
 {
-    offer(station, dlci, line.text());
-    offer(station, dlci, b"\r");
+    let _text = line.text();
+    offer_line(station, dlci, line.with_cr());
 }

@@ -363,7 +363,7 @@ fn refuses_command(station: &Station, dlci: Dlci) -> Option<Answer>
 
 /// Offers a command's text and its CR.
 #[tactic(auto, using(crate::proofs::requests::CommandRequests::offer_setting, crate::proofs::requests::CommandRequests::line_taken))]
-fn offer_line(station: &mut Station, dlci: Dlci, line: &[u8])
+pub(crate) fn offer_line(station: &mut Station, dlci: Dlci, line: &[u8])
     ensures setting { setting_of station.new ≡ setting_of station.old }
     ensures takes { TakesLine station.old station.new dlci.number line.now }
 {

@@ -37,7 +37,7 @@ more_are m n old new few = ap (λ k. take (k + n) (take m old ++ new)) (sym (len
 pub more_goes : (v w x : Relay) (m n : ℕ) (old new : List ℕ) → m ≤ length old → GoesOut v w (take m old) → GoesOut w x (take n new) → GoesOut v x (take (m + n) (take m old ++ new))
 more_goes v w x m n old new few first more = subst (λ xs. GoesOut v x xs) (sym (more_are m n old new few)) (wrote_more v w x (take m old) (take n new) first more)
 
--- the room is as long as before, and what stands behind the frames is as before
+-- the room is as long as before
 pub long_more : (m : ℕ) (old new : List ℕ) → m ≤ length old → length new ≡ length (drop m old) → length (take m old ++ new) ≡ length old
 long_more m old new few same =
     let joined = length-append (take m old) new in
@@ -45,6 +45,7 @@ long_more m old new few same =
     let rest = length-drop m old in
     omega (arith, joined, first, rest, same)
 
+-- behind the frames and the one more, the room is as it was at first
 pub behind_more : (m n : ℕ) (old new initial : List ℕ) → m ≤ length old → drop n new ≡ drop n (drop m old) → drop m old ≡ drop m initial → drop (m + n) (take m old ++ new) ≡ drop (m + n) initial
 behind_more m n old new initial few same before =
     ap (λ k. drop (k + n) (take m old ++ new)) (sym (length-take-le m old few))

@@ -7,7 +7,6 @@ pub mod DataErrors
 pub mod Splits
 pub mod SwitchRows
 pub mod PromptRows
-pub mod Messages
 pub mod Standings
 pub mod Watching
 pub mod Passing

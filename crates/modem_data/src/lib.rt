@@ -4,7 +4,7 @@
 //!
 //! # Layout
 //!
-//! - `relay`, `octets`, `passing`, `writing`, `message`: frames that pass. `pipe_set`: the connections that carry data.
+//! - `relay`, `octets`, `passing`, `writing`: frames that pass. `pipe_set`: the connections that carry data.
 //! - `pipe`: one of them. Under it `lane` has its data, `switch` where data begins, `watch` whether it may send.
 //! - `begin`, `error`, `laws`.
 #![tactic(auto)]
@@ -13,7 +13,6 @@ mod begin;
 mod error;
 mod lane;
 pub mod laws;
-mod message;
 mod octets;
 mod passing;
 mod pipe;

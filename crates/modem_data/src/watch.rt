@@ -3,17 +3,16 @@ ghost use Rattle.std.specs.Prelude.{◌≡◌, ◌==◌, ◌&&◌, ◌||◌, not
 ghost use Rattle.mux_frame.specs.Frames.{frame_of};
 ghost use Rattle.mux_station.specs.Acts.{Got, Sent, Lost};
 ghost use Rattle.mux_station.specs.Messages.{message_of, message_in, brings_command, msc_dlci, msc_stops};
+ghost use Rattle.mux_station.specs.MessagesRead.{message_read};
 ghost use Rattle.mux_station.specs.Opening.{ends, ends_itself, is_mode_frame_on, opens, standing_after};
 ghost use Rattle.mux_station.specs.Stopping.{got_says, msc_says, flow_says};
 ghost use Rattle.mux_station.specs.Written.{is_on, written_cr};
 ghost use Rattle.mux_frame.specs.declared.frame.Kind.TheVariants.{Sabm, Uih};
-ghost use Rattle.modem_data.specs.Watching.{dv_says, new_watch, watched, watch_opens, watch_ends, watch_loses, said_last, Watches, SaysMayLeave, HasWatched};
-ghost use Rattle.modem_data.specs.Messages.{message_read};
+ghost use Rattle.modem_data.specs.Watching.{dv_says, msc_dv, new_watch, watched, watch_opens, watch_ends, watch_loses, said_last, Watches, SaysMayLeave, HasWatched};
 ghost use Rattle.modem_data.specs.Standings.{standing_of};
 
-use crate::message::{Message, msc_dlci, msc_dv, msc_stops};
 use mux_frame::{Dlci, FrameView, Kind};
-use mux_station::Role;
+use mux_station::{Message, Role, msc_dlci, msc_stops};
 use std::marker::Model;
 
 /// Whether a connection is open, and whether this end has asked for it.
@@ -196,6 +195,16 @@ fn own_said(dlci: u8, frame: FrameView<'_>) -> Option<bool>
         return Some(msc_stops(message.value));
     }
     None
+}
+
+/// Whether the DV bit of an MSC says that there is a carrier (27.010, 5.4.6.3.7).
+fn msc_dv(value: &[u8]) -> bool
+    ensures { result ≡ msc_dv value.now }
+{
+    match value.get(1) {
+        Some(signals) => signals / 128 % 2 == 1,
+        None => false,
+    }
 }
 
 /// What a frame says of the carrier of a connection.

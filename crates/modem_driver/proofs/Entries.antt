@@ -179,6 +179,7 @@ gave_none old new was came made first h = record {
   sound = ap (λ (l : LineView). l.failures) came ∙ h.sound;
 }
 
+-- the same of a read's octet as the code sees it, where there is none
 pub none_came : (old new : LineView) (was : Entry) (o : Option ℕ) → o ≡ None → new ≡ after_read 1 (length (octet_in o)) (octet_in o) old → EntryGoesOn old new was was None
 none_came old new was o is came = gave_none old new was (came ∙ ap (λ (x : Option ℕ). after_read 1 (length (octet_in x)) (octet_in x) old) is)
 

@@ -1,4 +1,4 @@
--- The headline of a desk: what all sessions on it come to, one after the other, from its opening to its
+-- The headline: what a desk and its sessions, one or several, one after the other, come to, from its opening to its
 -- settlement.
 use Rattle.std.specs.Prelude.{◌≡◌, ℕ, true, List, [], ◌∷◌, ◌++◌, length, map, flat_map, slice_index_or, nat_lt, Contains}
 use Rattle.std.specs.List.{list_all, list_any}
@@ -38,12 +38,14 @@ pub record Spell : Type 0 where
   pub leftovers : Leftovers
   pub rest : Rest
 
+-- all that `finish` gave
+abbrev pub whole_rest : Leftovers → Rest
+whole_rest f = record { desk = f.desk; in_hand = f.in_hand; unplaced = f.unplaced; unannounced = f.unannounced }
+
 -- what rests is all that `finish` gave; or what is left where a desk without a line, which began with that, has
 -- turned away what it could
 pub data RestsOf (kinds : List UrcKind) (callers : ℕ) : Leftovers → Rest → Type 0 where
-  rests_whole : (f : Leftovers)
-      → RestsOf kinds callers f
-      (record { desk = f.desk; in_hand = f.in_hand; unplaced = f.unplaced; unannounced = f.unannounced })
+  rests_whole : (f : Leftovers) → RestsOf kinds callers f (whole_rest f)
   turned_away : (f : Leftovers) (left : Offline) (before after : DriverView) (taken : List Request)
       → end_of before ≡ f.desk → before.desk.kinds ≡ kinds → length before.desk.rings ≡ callers
       → TurnsAway (offline_from f.in_hand f.unplaced f.unannounced) left before after taken

@@ -2,7 +2,7 @@
 use Rattle.std.specs.Prelude.{◌≡◌, ℕ, Bool, true, false, List, ◌++◌, Result, Ok, Err}
 use Rattle.modem_history.specs.Acts.{Act, after}
 use Rattle.modem_history.specs.Calls.{is_lost}
-use Rattle.modem_history.specs.Wholes.{outcomes}
+use Rattle.modem_history.specs.Wholes.{IsPrefixOf, outcomes}
 use Rattle.modem_history.specs.Sessions.{Beginning, SessionView, sents, octets_of_frames, caller_outcomes, at_place}
 use Rattle.modem_core.specs.Stops.{has_stopped}
 use Rattle.modem_driver.specs.declared.machine.course.Course.{Course}
@@ -12,11 +12,6 @@ use Rattle.modem_driver.specs.declared.session.ending.Ended.TheVariants as ended
 use Rattle.modem_driver.specs.declared.session.error.SessionFault.{SessionFault}
 use Rattle.modem_driver.specs.declared.session.error.SessionFault.TheVariants as fault
 
--- the one list begins the other
-pub record Begins {X : Type 0} (xs ys : List X) : Type 0 where
-  pub rest : List X
-  pub joins : xs ++ rest ≡ ys
-
 -- A session has ended: in some beginning of its history a Stop was answered by Stopped or NoAnswer, all
 -- frames sent in that beginning are written, and each caller has all outcomes told in it. It stays so, whatever else
 -- happens.
@@ -25,8 +20,8 @@ pub record HasEnded (b : Beginning) (v : SessionView) (past : List Act) : Type 0
   pub since : List Act
   pub past_is : past ≡ after before since
   pub stopped : has_stopped before ≡ true
-  pub written : Begins (b.line.sent ++ octets_of_frames (sents before)) v.line.sent
-  pub placed : (c : ℕ) → Begins (at_place c b.desk.told ++ caller_outcomes c (outcomes before))
+  pub written : IsPrefixOf (b.line.sent ++ octets_of_frames (sents before)) v.line.sent
+  pub placed : (c : ℕ) → IsPrefixOf (at_place c b.desk.told ++ caller_outcomes c (outcomes before))
       (at_place c v.desk.told)
 
 -- What an end says of the session: it has ended, or its line is lost. Want of memory is no end.

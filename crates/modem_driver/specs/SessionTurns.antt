@@ -9,9 +9,10 @@ use Rattle.modem_desk.specs.Ends.{DriverView}
 use Rattle.modem_history.specs.Sessions.{LineView, at_place}
 use Rattle.modem_history.specs.Turns.{TurnAnswer, TurnFault}
 use Rattle.modem_history.specs.EveryTurn.{GoesTurn, GoesFault}
+use Rattle.modem_history.specs.Wholes.{IsPrefixOf}
 use Rattle.modem_driver.specs.declared.session.error.SessionFault.{SessionFault}
 use Rattle.modem_driver.specs.declared.session.turn.Turn.{Turn}
-use Rattle.modem_driver.specs.Endings.{Begins, KeepsEnd}
+use Rattle.modem_driver.specs.Endings.{KeepsEnd}
 use Rattle.modem_core.specs.WaitingLists.{IsLeast, IsFirstOf}
 use Rattle.modem_driver.specs.SessionStates.{Machine, MachineLoses, SessionState, FitsInside, has_lost_line, session_view}
 use Rattle.modem_driver.specs.TurnSteps.{TurnState, Writes, ReadsOn}
@@ -78,9 +79,9 @@ Faults look old new says =
 -- each caller and what it announced to each listener, and an end that a poll gave stays.
 pub record HasTurned (old new : TurnState) : Type 0 where
   pub calls : new.line.calls ≤ old.line.calls + 2
-  pub taken : Begins old.driver.taken new.driver.taken
-  pub told : (c : ℕ) → Begins (at_place c old.driver.told) (at_place c new.driver.told)
-  pub announced : (i : ℕ) → Begins (at_place i old.driver.announced) (at_place i new.driver.announced)
+  pub taken : IsPrefixOf old.driver.taken new.driver.taken
+  pub told : (c : ℕ) → IsPrefixOf (at_place c old.driver.told) (at_place c new.driver.told)
+  pub announced : (i : ℕ) → IsPrefixOf (at_place i old.driver.announced) (at_place i new.driver.announced)
   pub ended : KeepsEnd old.machine.course new.machine.course
 
 -- an outcome waits only where its caller's ring has no place that the desk's end knows to be free, and a line

@@ -6,7 +6,7 @@ ghost use Rattle.modem_driver.specs.OneSession.{LivedGrows, OneSession};
 ghost use Rattle.modem_driver.specs.GrownRows.{CountsBehind, CountsNotBefore};
 ghost use Rattle.modem_driver.specs.EndingRows.{ends_in, going_rows, stopped_rows, AreNoEndings, IsNoGoing, IsRightEnding, StaysEnded};
 ghost use Rattle.modem_driver.specs.DeskHeadline.{DeskRun, IsDeskHeadline};
-ghost use Rattle.modem_driver.specs.Headline.{IsHeadline, Run, SendsFull};
+ghost use Rattle.modem_driver.specs.Headline.{SendsFull};
 ghost use Rattle.modem_driver.specs.HeadlineRows.{AreRight, AreWrong, IsOtherOrder, right_places, wrong_places};
 ghost use Rattle.modem_history.specs.Acts.{Act};
 ghost use Rattle.modem_history.specs.Sessions.{Beginning, LineView, SessionView};
@@ -15,29 +15,21 @@ ghost use Rattle.modem_driver.specs.LivePollRows.{AreNoLivePolls, AsksPerTurn, I
 ghost use Rattle.modem_driver.specs.TurningAway.{TurnsOn};
 ghost use Rattle.modem_driver.specs.PollLaws.{RunsInHistories, LostFails, NoLossIsKeptBack, NoLossIsStopped, CallsTheLine, LostGivesFailed};
 
-/// The headline, of every run whose desk was settled with the driver's end that `finish` gave and with all its callers.
-/// At every moment the octets that left on a connection since it opened are a prefix of its callers' command lines
-/// taken since then: each line once, each caller's in its submitted order, none after a close. Each answered command
-/// has just its solicited lines up to its final code. Each subscribed unsolicited line was announced once. Every caller
-/// holds each of its outcomes once. In every history of a session all data frames of a command but the last have N1
-/// octets of information. The definitions refuse a request with two places or with none, and commands that left in
-/// another order.
-#[tactic(auto, using(crate::proofs::law_proofs::Headlines::headline, crate::proofs::law_proofs::Headlines::sends_full, crate::proofs::rows::HeadlineRowFacts::all_right_places, crate::proofs::rows::HeadlineRowFacts::all_wrong_places, crate::proofs::rows::HeadlineRowFacts::other_order))]
+/// The headline, of every desk that had one session or several in turn, whether or not their lines failed, and was settled
+/// with the driver's end as the last one left it and with all its callers. In each session, at every moment the octets that
+/// left on a connection since it opened are a prefix of its callers' command lines taken since then: each line once, each
+/// caller's in its submitted order, none after a close. Each answered command has just its solicited lines up to its final
+/// code. Over all sessions each subscribed unsolicited line was announced once, and every caller holds each of its outcomes
+/// once, those of requests turned away between two sessions included. In every history of a session all data frames of a
+/// command but the last have N1 octets of information. The definitions refuse a request with two places or with none, and
+/// commands that left in another order.
+#[tactic(auto, using(crate::proofs::law_proofs::DeskHeadlines::desk_headline, crate::proofs::law_proofs::Headlines::sends_full, crate::proofs::rows::HeadlineRowFacts::all_right_places, crate::proofs::rows::HeadlineRowFacts::all_wrong_places, crate::proofs::rows::HeadlineRowFacts::other_order))]
 pub fn headlines()
-    ensures headline { (run : Run) → IsHeadline run }
+    ensures headline { (run : DeskRun) → IsDeskHeadline run }
     ensures full { (b : Beginning) (v : SessionView) (past : List Act) → SendsFull b v past }
     ensures right { AreRight right_places }
     ensures wrong { AreWrong wrong_places }
     ensures order { IsOtherOrder }
-{}
-
-/// The headline of a desk that had several sessions in turn on the same driver's end, whether or not their lines
-/// failed. Each session keeps what the headline says of one. Over all of them each subscribed unsolicited line was
-/// announced once, and every caller holds each of its outcomes once, those of requests turned away between two sessions
-/// included.
-#[tactic(auto, using(crate::proofs::law_proofs::DeskHeadlines::desk_headline))]
-pub fn desks()
-    ensures headline { (run : DeskRun) → IsDeskHeadline run }
 {}
 
 /// Passes of a desk without a line, one after the other, lose nothing and invent nothing. Of each caller, what was told

@@ -1,7 +1,8 @@
 -- Worked rows of histories, sessions, turns and entries, computed.
 pub mod ConnectionRowFacts
 pub mod HistoryTests
-pub mod HistoryRowFacts
+pub mod GoodRowFacts
+pub mod BadRowFacts
 pub mod SessionTests
 pub mod SessionRowFacts
 pub mod TurnTests

@@ -75,8 +75,9 @@ CallGoesOn s past a =
     is_first a ≡ true → OnHeld s.role past a → Lawful s past → Complete s past
     → GoesOn s past (a ∷ calls s past a)
 
-pub record IsPrefixOf (xs ys : List ℕ) : Type 0 where
-  pub rest : List ℕ
+-- the one list begins the other
+pub record IsPrefixOf {A : Type 0} (xs ys : List A) : Type 0 where
+  pub rest : List A
   pub joins : xs ++ rest ≡ ys
 
 -- what left since d opened is a prefix of the commands accepted since then, each as it goes out

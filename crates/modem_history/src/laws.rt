@@ -111,7 +111,7 @@ pub fn two_ends()
 /// Worked histories, computed by the definitions. Those of a right driver are accepted. Those of a wrong one are refused,
 /// lack something, or leave a command waiting that could leave. Of two commands with the same text the answer of the
 /// first is not the second's own.
-#[tactic(auto, using(crate::proofs::rows::HistoryRowFacts::all_good, crate::proofs::rows::HistoryRowFacts::all_refused, crate::proofs::rows::HistoryRowFacts::all_incomplete, crate::proofs::rows::HistoryRowFacts::all_unquiet, crate::proofs::rows::HistoryRowFacts::not_its_own))]
+#[tactic(auto, using(crate::proofs::rows::GoodRowFacts::all_good, crate::proofs::rows::BadRowFacts::all_refused, crate::proofs::rows::BadRowFacts::all_incomplete, crate::proofs::rows::BadRowFacts::all_unquiet, crate::proofs::rows::BadRowFacts::not_its_own))]
 pub fn worked_examples()
     ensures good { AllAre IsGood good_rows }
     ensures refused { AllAre IsRefused refused_rows }

@@ -62,7 +62,7 @@ new_end r = record { each = λ d l. get_or-replicate 62 d shut_place shut_place 
     none : (r : Role) (d : ℕ) → shut_place ≡ place_of r d []
     none r d = refl
 
--- what is kept says what is open and stopped
+-- what is kept says what is open
 pub open_fits : (e : End) (past : List Act) (d : ℕ) → EndFits e past → d < 62 → is_open_at e d ≡ is_open e.role d past
 open_fits e past d fits l = ap (λ (p : Place). p.is_open) (fits.each d l)
 

@@ -11,6 +11,7 @@ use Rattle.at_text.specs.Dialects.{standard, is_solicited}
 use Rattle.at_text.specs.Commands.{has_at}
 use Rattle.at_text.specs.Lines.{lines}
 use Rattle.modem_history.specs.TwoEnds.{frames_got}
+use Rattle.modem_history.specs.Wholes.{IsPrefixOf}
 use Rattle.modem_sim.specs.declared.modem.ModemStart.{ModemStart}
 use Rattle.modem_sim.specs.declared.script.StepAct.TheVariants.{Announce}
 use Rattle.modem_sim.specs.declared.state.ModemState.{ModemState}
@@ -64,11 +65,6 @@ IsAskedOnce d past = length (filter (is_on Sabm d) (frames_got (wire past))) ≤
 
 -- ## Laws
 
--- the one list is the beginning of the other
-pub record IsFirstOf {A : Type 0} (xs ys : List A) : Type 0 where
-  pub later : List A
-  pub joins : xs ++ later ≡ ys
-
 -- each line of an answer is one line as the other end reads it, and no command line
 abbrev pub is_answer_line : AnswerLine → Bool
 is_answer_line line = is_line line.text && not (has_at line.text)
@@ -84,5 +80,5 @@ AnswersInLines start =
 unfoldable pub SendsReplies : End → List Act → Type 0
 SendsReplies e past =
     SimLawful e past → IsModem e.modem → AnnouncesUnsolicited past → (d : ℕ) → IsAskedOnce d past
-    → IsFirstOf (filter (is_solicited standard) (lines (data_out Responder d (wire past))))
+    → IsPrefixOf (filter (is_solicited standard) (lines (data_out Responder d (wire past))))
     (filter (is_solicited standard) (all_of (replied_on e.echo d e.modem (heard past))))

@@ -11,7 +11,8 @@ use Rattle.serial_line.specs.LineViews.{LineView}
 use Rattle.modem_sim.specs.Acts.{Act, Wire, End, is_handing}
 use Rattle.modem_sim.specs.Cores.{Core, Fits, GoesFrom, HasNoneToDo, HasReleased, IsGivenOn, IsHandedOn, IsLater, SaysNext, Wired, after_wire_act, box_at, holds_over}
 use Rattle.modem_sim.specs.Sims.{SimMachine, SimMachineFits, SimState, FitsSim}
-use Rattle.modem_sim.specs.Turns.{DoesEach, Exchanges, Exchange, HandsOn, Leaves, NoneIsThere, ReadHasRoom, Offers, Read, Write, calls_made, count_after, empty_after, has_moved, left_of, octets_read, octets_written, stalled_after}
+use Rattle.modem_sim.specs.Turns.{DoesEach, Exchanges, Exchange, HandsOn, Leaves, NoneIsThere, ReadHasRoom, Offers, count_after, empty_after, has_moved, left_of, stalled_after}
+use Rattle.modem_history.specs.Turns.{Read, Write, calls_made, octets_read, octets_written}
 
 -- a machine still fits whatever past it fitted
 abbrev pub SimMachineStays : SimMachine → SimMachine → Type 0

@@ -1,6 +1,6 @@
 -- What a turn of a simulated modem asks of its line, what it does, and what its answers mean: Moved, Idle and
 -- Ended.
-use Rattle.std.specs.Prelude.{◌≡◌, ◌≢◌, ℕ, zero, suc, ◌+◌, ◌<◌, ◌≤◌, ◌==◌, ◌||◌, nat_lt, Bool, true, false, List, [], ◌++◌, length, take, drop, Option, Some, None, is_none, option_to_list}
+use Rattle.std.specs.Prelude.{◌≡◌, ◌≢◌, ℕ, zero, suc, ◌+◌, ◌<◌, ◌≤◌, ◌==◌, ◌||◌, nat_lt, Bool, true, false, List, [], ◌++◌, length, drop, Option, Some, None, is_none}
 use Rattle.std.specs.List.{list_all, list_any}
 use Rattle.mux_frame.specs.Frames.{Frame}
 use Rattle.mux_frame.specs.Spelling as spelling
@@ -11,6 +11,7 @@ use Rattle.mux_station.specs.Offering.{offered, data_out}
 use Rattle.mux_station.specs.Acts as station
 use Rattle.mux_station.specs.Sending as sending
 use Rattle.modem_history.specs.Wholes.{IsPrefixOf}
+use Rattle.modem_history.specs.Turns.{Read, Write, calls_made, octets_read, octets_written}
 use Rattle.serial_line.specs.LineViews.{LineView}
 use Rattle.modem_sim.specs.declared.script.StepAct.{StepAct}
 use Rattle.modem_sim.specs.declared.sim.SimTurn.{SimTurn}
@@ -26,28 +27,10 @@ use Rattle.modem_sim.specs.Sims.{SimMachine, SimState, FitsSim, is_ended}
 
 -- ## A turn's calls on the line
 
--- octets were offered to the line, and it took so many of them
-pub record Write : Type 0 where
-  pub offered : List ℕ
-  pub count : ℕ
-
--- the line was given so much room, and these octets came
-pub record Read : Type 0 where
-  pub room : ℕ
-  pub octets : List ℕ
-
 -- what a turn asked of its line, and what that answered
 pub record Exchange : Type 0 where
   pub write : Option Write
   pub read : Option Read
-
-abbrev pub octets_written : Option Write → List ℕ
-octets_written None = []
-octets_written (Some w) = take w.count w.offered
-
-abbrev pub octets_read : Option Read → List ℕ
-octets_read None = []
-octets_read (Some r) = r.octets
 
 -- a write offers the first of the octets that wait, at least one; the line takes some or none of them
 pub record IsOffer (w : Write) (unwritten : List ℕ) : Type 0 where
@@ -68,9 +51,6 @@ pub record IsRoom (r : Read) : Type 0 where
 abbrev pub ReadHasRoom : Option Read → Type 0
 ReadHasRoom None = Unit {0}
 ReadHasRoom (Some r) = IsRoom r
-
-abbrev pub calls_made : {A : Type 0} → Option A → ℕ
-calls_made o = length (option_to_list o)
 
 -- a line's count after so many calls
 abbrev pub count_after : ℕ → ℕ → ℕ

@@ -2,9 +2,9 @@
 use Rattle.std.specs.Prelude.{◌≡◌, ◌≢◌, ℕ, zero, suc, ◌+◌, ◌-◌, ◌==◌, ◌<◌, ◌≤◌, Bool, true, false, List, [], ◌∷◌, ◌++◌, length, take, drop, refl, if◌then◌else◌}
 use Rattle.std.specs.List.{flat_map}
 use Rattle.std.proofs.Common.{sym, ap, subst, arith, ◌∙◌}
-use Rattle.std.proofs.lemmas.Bool.{false≢true}
 use Rattle.std.proofs.lemmas.List.{append_assoc, append-nil, length-append, take-append-drop}
 use Rattle.std.proofs.lemmas.Grind.{flat_map-append}
+use Rattle.std.proofs.lemmas.Bool.{false≢true}
 use Rattle.mux_frame.specs.Reading.{Reads}
 use Rattle.mux_frame.specs.Spelling.{flag, Indicates, long, short}
 use Rattle.mux_capture.specs.declared.packet.Direction.{Direction}
@@ -15,9 +15,9 @@ use Rattle.mux_capture.specs.FirstFrame as first_frame
 use Rattle.mux_capture.specs.FrontFrames.{IsFrameText, PassesOver}
 use Rattle.mux_capture.specs.Passing.{piece_packet}
 use Rattle.mux_capture.specs.Pcap.{packet}
-use Rattle.mux_capture.specs.Pieces.{AreDamage, IsAll, Piece, Shows, ShowsAll, ShowsFrames, behind_flags, damage, framed, frames_of, most_damage, octets_of, unflagged}
+use Rattle.mux_capture.specs.Pieces.{AreDamage, Piece, Shows, ShowsAll, ShowsFrames, behind_flags, damage, framed, frames_of, most_damage, octets_of, unflagged}
 use Rattle.mux_capture.specs.Pieces as shows
-use Rattle.mux_capture.specs.Pushing.{ArePushed, PushesAll, PushesDamage, PushesFirst}
+use Rattle.mux_capture.specs.Pushing.{ArePushed, PushesDamage, PushesFirst}
 use Rattle.mux_capture.proofs.FirstFrames.{spelled_size}
 use Rattle.mux_capture.proofs.FirstLaws.{first_is_read}
 
@@ -44,10 +44,6 @@ pub record DamageSoFar (stamp : Stamp) (direction : Direction) (whole left befor
   pub pieces : List Piece
   pub leads : (more : List Piece) → AreDamage left more → AreDamage whole (pieces ++ more)
   pub pushed : ArePushed stamp direction pieces before now
-
--- of octets that are no frame nothing is written yet
-pub damage_none : (stamp : Stamp) (direction : Direction) (whole out : List ℕ) → DamageSoFar stamp direction whole whole out out
-damage_none stamp direction whole out = record { pieces = []; leads = λ more are. are; pushed = pushed_none stamp direction out }
 
 -- and then a packet of as many as one may have
 pub damage_more : (stamp : Stamp) (direction : Direction) (whole left part rest before now after : List ℕ) → left ≢ [] → part ≡ take most_damage left → rest ≡ drop most_damage left
@@ -156,15 +152,6 @@ pushes_frame n1 stamp direction text front frame behind left before between afte
         subst (λ (l : List ℕ). ReadsFirst n1 l t.frame behind) (append-nil text ∙ joins)
         (passes.first [] behind t.frame (subst (λ (l : List ℕ). ReadsFirst n1 l t.frame behind) (sym (append-nil (frame ++ behind))) at_first))
 
--- behind that less is left
-pub left_shorter : (n1 : ℕ) (text front frame behind left : List ℕ) → text ≡ front ++ (frame ++ behind) → (t : IsFrameText n1 frame) → left ≡ drop (length front + length frame - 1) text → length left < length text
-left_shorter n1 text front frame behind left is t left_from =
-    let one : length left ≡ length (flag ∷ behind) = ap length (left_from ∙ left_is text front frame t.octets behind is t.text_is) in
-    let all : length text ≡ length front + length (frame ++ behind) = ap length is ∙ length-append front (frame ++ behind) in
-    let two : length (frame ++ behind) ≡ length frame + length behind = length-append frame behind in
-    let size : length frame ≡ length (flag ∷ t.octets) + 1 = ap length t.text_is ∙ length-append (flag ∷ t.octets) (flag ∷ []) in
-    omega (arith, one, all, two, size)
-
 info_short : (octets : List ℕ) (n : ℕ) → Indicates octets n → n < 32768
 info_short _ _ (short n l) = omega (arith, l)
 info_short _ _ (long n l) = l
@@ -203,10 +190,6 @@ first_more n1 stamp direction text left rest so_far more a b c is p q = record {
   ends = λ e. p.goes_on q.pieces rest is (q.ends e);
   pushed = pushed_more stamp direction p.pieces q.pieces a b c p.pushed q.pushed;
 }
-
--- where there is no frame more all of it is written
-pub first_all : (n1 : ℕ) (stamp : Stamp) (direction : Direction) (text rest : List ℕ) (more : Bool) (before after : List ℕ) → more ≡ false → PushesFirst n1 stamp direction text rest more before after → PushesAll n1 stamp direction text rest before after
-first_all n1 stamp direction text rest more before after is p = record { pieces = p.pieces; shows = p.ends is; pushed = p.pushed }
 
 -- ## Laws
 

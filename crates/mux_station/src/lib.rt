@@ -37,8 +37,10 @@ pub mod written;
 
 pub use control_frame::ControlFrame;
 pub use error::StationError;
+pub use message::Message;
 pub use noted::Noted;
 pub use outgoing::Outgoing;
+pub use reading::{msc_dlci, msc_stops};
 pub use role::{ChannelState, Role};
 pub use station::Station;
 pub use tick::{GivenUp, Noticed};

@@ -6,8 +6,8 @@ ghost use Rattle.mux_station.specs.MessagesRead.{message_read};
 use crate::message::Message;
 use crate::written::{MSC, MSC_RESPONSE};
 
-/// The connection that an MSC names; 0 where the MSC has no value.
-pub(crate) fn msc_dlci(value: &[u8]) -> u8
+/// The connection that an MSC names (27.010, 5.4.6.3.7); 0 where the MSC has no value.
+pub fn msc_dlci(value: &[u8]) -> u8
     ensures { result ≡ msc_dlci value.now }
 {
     match value.first() {
@@ -16,8 +16,8 @@ pub(crate) fn msc_dlci(value: &[u8]) -> u8
     }
 }
 
-/// Whether the FC bit of an MSC says that no frames can be accepted.
-pub(crate) fn msc_stops(value: &[u8]) -> bool
+/// Whether the FC bit of an MSC says that no frames can be accepted (27.010, 5.4.6.3.7).
+pub fn msc_stops(value: &[u8]) -> bool
     ensures { result ≡ msc_stops value.now }
 {
     match value.get(1) {

@@ -95,13 +95,6 @@ pub not_none : (frames : List FrameBuf) (n : ℕ) (b : Bool) → length frames �
 not_none [] n b e f g h = zero_is b (f ∙ ap (λ (k : ℕ). k == 0) (sym e)) g
 not_none (x ∷ frames) n b e f g h = cc
 
--- a packet in which no frame is read is told as damage
-pub packet_damage : (old new : Teller) (p : Passed) (frames : List Frame) (rest : List ℕ) → Reads 32767 p.octets frames rest → frames ≡ []
-    → Tells old new (Damage p) → TellsPacket old new kind.Frame p
-packet_damage old new p [] rest r e t =
-    record { setting = t.setting; frames = []; reads = record { rest = rest; reads = r }; fits = t.fits }
-packet_damage old new p (f ∷ frames) rest r e t = cc
-
 -- a packet of damage is told as that
 pub damage_packet : (old new : Teller) (p : Passed) → Tells old new (Damage p) → TellsPacket old new kind.Damage p
 damage_packet old new p t = record { setting = t.setting; frames = []; reads = refl; fits = t.fits }

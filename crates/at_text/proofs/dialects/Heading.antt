@@ -43,10 +43,6 @@ head_same Quoted text line e h = head_long (pattern Quoted text) line h (leb-tru
 head_same Report text line e h = head_long (pattern Report text) line h (leb-true 4 (length text) e)
 head_same OpenReport text line e h = head_long (pattern OpenReport text) line h (leb-true 4 (length text) e)
 
--- a line's head is one of 64
-pub head_below : (line : List ℕ) → head line < 64
-head_below line = omega arith
-
 -- ## Spans that get one more place
 
 -- each new span has at least the places of the old one

@@ -153,10 +153,6 @@ all_lines behind left lines l read lacks is = inr (read.said (l ∷ []) (AreSome
 pub is_starred : (front command : List ℕ) → front ≡ command ++ codes "*" → IsStarred front command true
 is_starred front command is = record { front_is = is; no_star = λ no c e. absurd (false≢true (sym no)) }
 
--- without a star it means itself alone
-pub not_starred : (front : List ℕ) → ((c : List ℕ) → front ≢ c ++ codes "*") → IsStarred front front false
-not_starred front none = record { front_is = sym (append-nil front); no_star = λ _. none }
-
 lacks_front : (c : ℕ) (xs ys : List ℕ) → LacksByte c (xs ++ ys) → LacksByte c xs
 lacks_front c [] ys h = lacks_nil c
 lacks_front c (x ∷ xs) ys h = lacks_cons c x xs (lacks_head c x (xs ++ ys) h) (lacks_front c xs ys (lacks_tail c x (xs ++ ys) h))

@@ -1,6 +1,6 @@
 -- Octets written as pairs of digits, read word by word and line by line.
 use Rattle.std.specs.Prelude.{◌≡◌, ◌≢◌, ℕ, ◌+◌, ◌*◌, ◌%◌, ◌==◌, ◌<◌, Bool, true, false, List, [], ◌∷◌, ◌++◌, length, Option, None, Some, Result, Ok, Err, refl, if◌then◌else◌}
-use Rattle.std.proofs.Common.{sym, ap, arith, inl, ◌∙◌}
+use Rattle.std.proofs.Common.{sym, ap, arith, ◌∙◌}
 use Rattle.std.proofs.lemmas.Bool.{ne_eqb, eqb-true}
 use Rattle.std.proofs.lemmas.List.{append_assoc, append-nil}
 use denote.Ref.{Bor}
@@ -12,7 +12,6 @@ use Rattle.hex.specs.declared.error.FromHexError.{FromHexError}
 use Rattle.hex.specs.declared.error.FromHexError.TheVariants.{OddLength}
 use Rattle.ctl_run.specs.Dump.{IsNoDump, dump_octets, joined, line_octets, octet_of}
 use Rattle.ctl_text.specs.Input.{input_lines}
-use Rattle.ctl_text.specs.declared.line_fault.LineFault.{LineFault}
 use Rattle.ctl_text.proofs.CutTexts.{IsCutAt, lacks_head, lacks_tail}
 use Rattle.ctl_run.specs.LineFaults.{DumpFault}
 use Rattle.ctl_run.proofs.inputs.ReadLines.{IsRead, read_more}
@@ -130,16 +129,6 @@ word_more octets more line word rest later e d n =
 none_joined : (x : List ℕ) (o : Option (List ℕ)) → joined (Some x) o ≡ None → o ≡ None
 none_joined x None e = refl
 none_joined x (Some y) e = absurd (some_isnt_none (x ++ y) e)
-
--- a word is read that isn't pairs
-pub no_pairs : (octets first left line word rest : List ℕ) → joined (Some octets) (line_octets left) ≡ joined (Some first) (line_octets line) → line_octets left ≡ joined (result_ok (decode_of word)) (line_octets rest) → result_ok (decode_of word) ≡ None → IsNoDump line
-no_pairs octets first left line word rest same cut none =
-    none_joined first (line_octets line)
-    (sym same ∙ ap (joined (Some octets)) (cut ∙ ap (λ (o : Option (List ℕ)). joined o (line_octets rest)) none))
-
--- a line that stands for no octets has pairs that aren't as they must be
-pub pairs_fault : (line : List ℕ) → IsNoDump line → DumpFault line LineFault.Pairs
-pairs_fault line none = inl (λ h. some_isnt_none h.octets (sym h.are ∙ none), refl)
 
 -- so many lines are read, and their octets with them
 pub record AreOctets (dump left octets : List ℕ) (place : ℕ) : Type 0 where

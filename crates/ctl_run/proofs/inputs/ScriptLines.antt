@@ -23,17 +23,6 @@ second_of text = head_of (drop 1 text)
 abbrev AreNoCommand : List ℕ → Type 0
 AreNoCommand words = (n : ℕ) (text : List ℕ) → n < 62 → refusal_of text ≡ None → words ≢ number_text n ++ 32 ∷ text
 
--- behind `cmd` they say nothing
-pub cmd_nothing : (words : List ℕ) → AreNoCommand words → SaysNothing (codes "cmd " ++ words)
-cmd_nothing words h (order.Ask (ask.OpenChannel d)) s = absurd (let e = ap head_of s in omega (arith, e))
-cmd_nothing words h (order.Ask (ask.CloseChannel d)) s = absurd (let e = ap second_of s in omega (arith, e))
-cmd_nothing words h (order.Ask (ask.Command d text)) s = h d.number text d.in_range s.0 (ap (drop 4) s.1)
-cmd_nothing words h (order.Ask (ask.Probe x)) s = absurd (let e = ap head_of s.1 in omega (arith, e))
-cmd_nothing words h (order.Ask ask.Stop) s = absurd (let e = ap head_of s in omega (arith, e))
-cmd_nothing words h (order.Octets x) s = absurd (let e = ap head_of s.1 in omega (arith, e))
-cmd_nothing words h order.Tick s = absurd (let e = ap head_of s in omega (arith, e))
-cmd_nothing words h order.Lost s = absurd (let e = ap head_of s in omega (arith, e))
-
 -- the first word is no connection
 pub no_connection : (words : List ℕ) → ((n : ℕ) → n < 62 → first_word words ≢ number_text n) → AreNoCommand words
 no_connection words unknown n text s r e = unknown n s (ap first_word e ∙ first_front (number_text n) text (lacks_number (nat_lt n 10) n))

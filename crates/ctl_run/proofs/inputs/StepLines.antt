@@ -1,5 +1,5 @@
 -- The lines of a modem's script, read line by line.
-use Rattle.std.specs.Prelude.{◌≡◌, ◌≢◌, ℕ, suc, ◌+◌, ◌<◌, ◌%◌, ◌^◌, nat_lt, Bool, true, false, List, [], ◌∷◌, ◌++◌, length, drop, codes, refl, Option, IfSome, Result, Ok, Err, MatchResult, if◌then◌else◌}
+use Rattle.std.specs.Prelude.{◌≡◌, ◌≢◌, ℕ, ◌+◌, ◌<◌, ◌%◌, ◌^◌, nat_lt, Bool, true, false, List, [], ◌∷◌, ◌++◌, length, drop, codes, refl, Option, IfSome, Result, Ok, Err, MatchResult, if◌then◌else◌}
 use Rattle.std.specs.Fmt.{decimal}
 use Rattle.std.specs.Str.Iter.{LacksByte}
 use Rattle.std.proofs.Common.{sym, ap, arith, eqb, subst, inl, inr, ◌⊎◌, ◌∙◌}
@@ -9,7 +9,7 @@ use Rattle.std.proofs.lemmas.Str.{IsUtf8-from_ascii}
 use Rattle.std.specs.Cmp.Lexicographic.{pointwise}
 use Rattle.std.specs.Str.{IsUtf8}
 use Rattle.std.specs.Str.Parse.{ParsesUnsigned}
-use Rattle.std.proofs.lemmas.List.{append_assoc, append-nil, length-append}
+use Rattle.std.proofs.lemmas.List.{append_assoc, append-nil}
 use Rattle.modem_sim.specs.declared.script.Step.{Step}
 use Rattle.modem_sim.specs.declared.script.StepAct.{StepAct}
 use Rattle.modem_sim.specs.declared.script.StepAct.TheVariants.{Announce, Flow, Hold, Disconnect, CloseDown}
@@ -23,7 +23,7 @@ use Rattle.ctl_run.proofs.inputs.ReadLines.{IsRead, read_more}
 use Rattle.ctl_text.specs.LineFaults.{HasFault, behind_word, first_word}
 use Rattle.ctl_text.specs.declared.refusal.Refusal.{Refusal}
 use Rattle.ctl_text.specs.declared.line_fault.LineFault.{LineFault}
-use Rattle.ctl_text.proofs.CommandWords.{is_connection, joined_words, lacks_number}
+use Rattle.ctl_text.proofs.CommandWords.{is_connection, joined_words}
 use Rattle.ctl_text.proofs.FirstWords.{as_long, behind_front, first_front, whole}
 use Rattle.ctl_text.proofs.CutTexts.{lacks_cons, lacks_head, lacks_nil, lacks_tail}
 
@@ -66,27 +66,6 @@ head_of (c ∷ text) = c
 abbrev AreNoText : List ℕ → Type 0
 AreNoText words = (n : ℕ) (text : List ℕ) → n < 62 → words ≢ number_text n ++ 32 ∷ text
 
--- behind `announce` they say nothing
-pub announces_nothing : (words : List ℕ) → AreNoText words → SaysNoAct (codes "announce " ++ words)
-announces_nothing words h (Announce d text) s = h d.number text d.in_range (ap (drop 9) s)
-announces_nothing words h (Flow d false) s = absurd (let e = ap head_of s in omega (arith, e))
-announces_nothing words h (Flow d true) s = absurd (let e = ap head_of s in omega (arith, e))
-announces_nothing words h (Hold d x) s = absurd (let e = ap head_of s in omega (arith, e))
-announces_nothing words h (Disconnect d) s = absurd (let e = ap head_of s in omega (arith, e))
-announces_nothing words h CloseDown s = absurd (let e = ap head_of s in omega (arith, e))
-
--- the first word is no connection
-pub no_connection_text : (words : List ℕ) → ((n : ℕ) → n < 62 → first_word words ≢ number_text n) → AreNoText words
-no_connection_text words unknown n t r e = unknown n r (ap first_word e ∙ first_front (number_text n) t (lacks_number (nat_lt n 10) n))
-
--- nothing stands behind it, not even a blank
-pub no_text_behind : (words : List ℕ) → length (first_word words) ≡ length words → AreNoText words
-no_text_behind words l n t r e =
-    let first : length (first_word words) ≡ length (number_text n) = ap length (ap first_word e ∙ first_front (number_text n) t (lacks_number (nat_lt n 10) n)) in
-    let all : length words ≡ length (number_text n) + length (32 ∷ t) = ap length e ∙ length-append (number_text n) (32 ∷ t) in
-    let more : length (32 ∷ t) ≡ suc (length t) = refl in
-    omega (arith, l, first, all, more)
-
 -- it is the text that is missing behind the connection
 pub text_fault : (words : List ℕ) (d : ℕ) → first_word words ≡ number_text d → d < 62 → length (first_word words) ≡ length words → AnnouncementFault words LineFault.Text
 text_fault words d e known l = inr (is_connection words d e known, inl (λ n. n (as_long words (omega (arith, l))), refl))
@@ -103,14 +82,6 @@ holds_nothing words h (Flow d true) s = absurd (let e = ap head_of s in omega (a
 holds_nothing words h (Hold d x) s = h d.number x.number d.in_range x.in_range (ap (drop 5) s)
 holds_nothing words h (Disconnect d) s = absurd (let e = ap head_of s in omega (arith, e))
 holds_nothing words h CloseDown s = absurd (let e = ap head_of s in omega (arith, e))
-
--- the first word is no connection
-pub no_first_of_two : (words : List ℕ) → ((n : ℕ) → n < 62 → first_word words ≢ number_text n) → AreNotTwo words
-no_first_of_two words unknown n m r s e = unknown n r (ap first_word e ∙ first_front (number_text n) (number_text m) (lacks_number (nat_lt n 10) n))
-
--- what follows it is none
-pub no_second_of_two : (words : List ℕ) → ((n : ℕ) → n < 62 → behind_word words ≢ number_text n) → AreNotTwo words
-no_second_of_two words unknown n m r s e = unknown m s (ap behind_word e ∙ behind_front (number_text n) (number_text m) (lacks_number (nat_lt n 10) n))
 
 number_at : (b : Bool) (one high low : ℕ) → (if b then one ∷ [] else high ∷ low ∷ []) ≡ [] → ⊥
 number_at true one high low e = cc
@@ -151,10 +122,6 @@ step_parts line s c =
 -- a line that doesn't begin with a count says no step
 pub no_number_step : (line : List ℕ) → ((n : ℕ) → n < 2 ^ 64 → first_word line ≢ decimal n) → SaysNoStep line
 no_number_step line unknown s c = unknown s.after c.few (step_parts line s c).0
-
--- and it is the count that isn't as it must be
-pub number_fault : (line : List ℕ) → ((n : ℕ) → n < 2 ^ 64 → first_word line ≢ decimal n) → StepFault line LineFault.Count
-number_fault line unknown = inl (λ h. unknown h.number h.small h.word_is, refl)
 
 -- a number is there, and this is wrong behind it
 pub behind_count : (line word words : List ℕ) (n : ℕ) (why : Refusal) → word ≡ first_word line → words ≡ behind_word line → word ≡ decimal n → n < 2 ^ 64 → HasFault (DeedFault words) why → HasFault (StepFault line) why

@@ -1,14 +1,12 @@
 -- What the lines of a bench's input submit, read line by line.
 use Rattle.std.specs.Prelude.{◌≡◌, ◌≢◌, ℕ, ◌+◌, ◌<◌, nat_lt, List, [], ◌∷◌, ◌++◌, length, refl}
-use Rattle.std.proofs.Common.{sym, inl, inr, subst, ◌∙◌}
+use Rattle.std.proofs.Common.{sym, subst, ◌∙◌}
 use Rattle.std.proofs.lemmas.List.{append_assoc, append-nil}
 use Rattle.modem_bench.specs.declared.submission.Submission.{Submission}
 use Rattle.ctl_text.specs.Words.{IsCommand, IsNoCommand, number_text}
 use Rattle.ctl_run.specs.Bench.{AreSubmitted, IsNoSubmission, Submits, SubmitsNothing}
 use Rattle.ctl_text.specs.Input.{input_lines}
-use Rattle.ctl_text.specs.LineFaults.{CommandFault, HasFault, behind_word, first_word}
-use Rattle.ctl_text.specs.declared.line_fault.LineFault.{LineFault}
-use Rattle.ctl_text.specs.declared.refusal.Refusal.{Refusal}
+use Rattle.ctl_text.specs.LineFaults.{behind_word, first_word}
 use Rattle.ctl_text.proofs.CommandWords.{joined_words, lacks_number}
 use Rattle.ctl_text.proofs.FirstWords.{behind_front, first_front}
 use Rattle.ctl_run.specs.LineFaults.{SubmissionFault}
@@ -52,22 +50,9 @@ parts : (callers : ℕ) (line : List ℕ) (s : Submission) (c : Submits callers 
 parts callers line s c =
     rw c.line_is (first_front (number_text s.caller) c.words (lacks_number (nat_lt s.caller 10) s.caller), behind_front (number_text s.caller) c.words (lacks_number (nat_lt s.caller 10) s.caller))
 
--- the first word is no caller
-pub no_caller : (callers : ℕ) (line : List ℕ) → ((n : ℕ) → n < callers → first_word line ≢ number_text n) → SubmitsNothing callers line
-no_caller callers line unknown s c = unknown s.caller c.caller (parts callers line s c).0
-
--- and it is the caller that isn't as it must be
-pub caller_fault : (callers : ℕ) (line : List ℕ) → ((n : ℕ) → n < callers → first_word line ≢ number_text n) → SubmissionFault callers line LineFault.Caller
-caller_fault callers line unknown = inl (λ h. unknown h.number h.below h.word_is, refl)
-
 -- what follows it is no command on a connection
 pub no_command : (callers : ℕ) (line : List ℕ) → IsNoCommand (behind_word line) → SubmitsNothing callers line
 no_command callers line none s c = none s.dlci.number s.line (rw (parts callers line s c).1 c.command)
-
--- a caller is there, and this is wrong behind it
-pub behind_caller : (callers : ℕ) (line : List ℕ) (n : ℕ) (why : Refusal) → first_word line ≡ number_text n → n < callers → HasFault (CommandFault (behind_word line)) why → HasFault (SubmissionFault callers line) why
-behind_caller callers line n (Refusal.Bad fault) e below h = inr (record { number = n; below = below; word_is = e }, h)
-behind_caller callers line n Refusal.NoMemory e below h = tt
 
 command_some : (words : List ℕ) (d : ℕ) (line : List ℕ) → IsCommand words d line → words ≢ []
 command_some words d line c e = cut_some (number_text d) line (sym e ∙ c.words_are)

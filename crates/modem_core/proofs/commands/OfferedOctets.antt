@@ -1,30 +1,25 @@
 -- Octets are handed to a station: what it has seen then.
-use Rattle.std.specs.Prelude.{◌≡◌, ℕ, ◌+◌, ◌<◌, ◌≤◌, ◌==◌, ◌&&◌, ◌||◌, not, nat_le, Bool, true, false, List, [], ◌∷◌, ◌++◌, length, refl, Option, option_map, None, Some, is_none, if◌then◌else◌}
+use Rattle.std.specs.Prelude.{◌≡◌, ℕ, ◌+◌, ◌<◌, ◌≤◌, ◌==◌, ◌&&◌, ◌||◌, not, nat_le, Bool, true, false, List, [], ◌∷◌, ◌++◌, length, refl, None, Some, is_none, if◌then◌else◌}
 use Rattle.std.specs.List.{list_any}
-use Rattle.std.proofs.Common.{ap, sym, ◌∙◌, subst, arith, append-nil, append_assoc, length-append}
+use Rattle.std.proofs.Common.{ap, sym, ◌∙◌, subst, arith, append-nil, length-append}
 use Rattle.std.proofs.lemmas.Bool.{le-leb, eq-eqb}
 use Rattle.mux_frame.specs.Frames.{Frame}
 use Rattle.mux_station.specs.declared.role.Role.{Role}
 use Rattle.mux_station.specs.declared.role.Role.TheVariants.{Initiator}
 use Rattle.mux_station.specs.declared.error.StationError.TheVariants.{NotOpen, ControlChannel, NoRoom}
 use Rattle.mux_station.specs.Acts.{Offer, Act, Called}
-use Rattle.mux_station.specs.Opening.{Standings, standings, since, since_after, belongs, is_open, ends}
+use Rattle.mux_station.specs.Opening.{standings, since, since_after, belongs, is_open, ends}
 use Rattle.mux_station.specs.States.{is_opened}
-use Rattle.mux_station.specs.Offering.{octets_offered, joined_octets, offered, data_out}
+use Rattle.mux_station.specs.Offering.{octets_offered, joined_octets, offered}
 use Rattle.mux_station.specs.Sending.{StationSetting, is_loss, station_view, refused, called_frames, sent_after, probe_of, or_else}
 use Rattle.mux_station.specs.Stations.{Station, channel_at, setting_of, offer_refused}
 use Rattle.mux_station.specs.Fitting.{StationFits}
 use Rattle.mux_station.specs.Traces.{without_calls}
-use Rattle.mux_station.proofs.law_proofs.PastsWithoutCalls.{same_standings, same_given}
 use Rattle.mux_station.proofs.states.StationPasts.{open_fits}
 use Rattle.mux_station.proofs.user_calls.CallFrames.{probe_called}
-use Rattle.modem_core.specs.Handing.{Offers, OffersLine, HandsOn, EndedBy}
-use Rattle.modem_core.specs.Cores.{Core}
-use Rattle.modem_history.specs.Information.{line_of}
-use Rattle.modem_history.specs.Calls.{first_on}
-use Rattle.modem_history.specs.Requests.{commands_on, without_first}
+use Rattle.modem_core.specs.Handing.{OffersLine}
+use Rattle.modem_core.specs.Offers.{TakesLine}
 use Rattle.modem_core.proofs.outgoing.LanesAfterFrame.{offered_after}
-use Rattle.mux_station.specs.Sending as station_sending
 
 -- what it comes to: the station has seen calls, and these octets more are offered on d
 pub record Handed (old new : Station) (before : List Act) (d : ℕ) (octets : List ℕ) : Type 0 where
@@ -46,9 +41,9 @@ none_called : (s : StationSetting) (past : List Act) (d : ℕ) (octets : List �
 none_called s past d octets = if_either (list_any is_loss past) (is_none (refused s (station_view s past) (Offer d octets)))
 
 -- it is taken on a connection that is open, where it fits
-taken : (v : Station) (d : ℕ) (octets : List ℕ) → (d == 0) ≡ false → is_opened (channel_at v d).state ≡ true → length (channel_at v d).waiting + length octets ≤ 1024 → None ≡ offer_refused v d octets
+taken : (v : Station) (d : ℕ) (octets : List ℕ) → (d == 0) ≡ false → is_opened (channel_at v d).state ≡ true → length (channel_at v d).waiting + length octets ≤ 1024 → offer_refused v d octets ≡ None
 taken v d octets z o l =
-    sym (by_tests (d == 0) (is_opened (channel_at v d).state) (nat_le (length (channel_at v d).waiting + length octets) 1024) z o (le-leb (length (channel_at v d).waiting + length octets) 1024 l))
+    by_tests (d == 0) (is_opened (channel_at v d).state) (nat_le (length (channel_at v d).waiting + length octets) 1024) z o (le-leb (length (channel_at v d).waiting + length octets) 1024 l)
   where
     by_tests : (a b c : Bool) → a ≡ false → b ≡ true → c ≡ true
         → or_else (or_else (if a then Some ControlChannel else (if not b then Some NotOpen else None)) None) (if c then None else Some NoRoom) ≡ None
@@ -74,9 +69,9 @@ offered_own : (b : Bool) (d : ℕ) (octets : List ℕ) (rest : List Act) → b �
 offered_own true d octets rest h = ap (λ (x : Bool). joined_octets (octets_offered d) rest ++ (if x then octets else [])) (eq-eqb d d refl)
 offered_own false d octets rest h = cc
 
-offer_on : (old new : Station) (d : ℕ) (octets : List ℕ) (past : List Act) → old.role ≡ Initiator → Offers old new d octets → StationFits old past → d < 62 → (d == 0) ≡ false → is_open Initiator d past ≡ true
+offer_on : (old new : Station) (d : ℕ) (octets : List ℕ) (past : List Act) → old.role ≡ Initiator → setting_of new ≡ setting_of old → TakesLine old new d octets → StationFits old past → d < 62 → (d == 0) ≡ false → is_open Initiator d past ≡ true
     → length (channel_at old d).waiting + length octets ≤ 1024 → Handed old new past d octets
-offer_on old new d octets past r f h k z o l =
+offer_on old new d octets past r keeps f h k z o l =
     let opened : is_opened (channel_at old d).state ≡ true = sym (subst (λ (x : Role). is_open x d past ≡ is_opened (channel_at old d).state) r (open_fits old past d h k)) ∙ o in
     let handles = f.taken (taken old d octets z opened l) in
     let s = setting_of old in
@@ -87,19 +82,11 @@ offer_on old new d octets past r f h k z o l =
       seen = Called (Offer d octets) ∷ past;
       fits = there;
       same = refl;
-      setting = f.setting;
-      probe = sym there.probe_is ∙ (ap (λ (x : StationSetting). probe_of x (Called (Offer d octets) ∷ past)) f.setting ∙ (probe_called s past (Offer d octets) refl ∙ h.probe_is));
+      setting = keeps;
+      probe = sym there.probe_is ∙ (ap (λ (x : StationSetting). probe_of x (Called (Offer d octets) ∷ past)) keeps ∙ (probe_called s past (Offer d octets) refl ∙ h.probe_is));
       own = offered_own (belongs Initiator d past (Called (Offer d octets))) d octets (since Initiator d past) here;
       others = λ e n. offered_after (belongs Initiator e past (Called (Offer d octets))) (Called (Offer d octets)) e (since Initiator e past) (ap (λ (b : Bool). if b then octets else []) n);
     }
-
--- the same is given on, and the same are open, where only calls are more
-same_sent : (d : ℕ) (past later : List Act) → without_calls later ≡ without_calls past → data_out Initiator d later ≡ data_out Initiator d past
-same_sent d past later h = sym (same_given Initiator d later) ∙ (ap (data_out Initiator d) h ∙ same_given Initiator d past)
-
-same_open : (d : ℕ) (past later : List Act) → without_calls later ≡ without_calls past → is_open Initiator d later ≡ is_open Initiator d past
-same_open d past later h =
-    ap (λ (s : Standings). s.own.is_open) (sym (same_standings Initiator d later)) ∙ (ap (is_open Initiator d) h ∙ ap (λ (s : Standings). s.own.is_open) (same_standings Initiator d past))
 
 -- a command and its CR, where nothing waits
 pub line_on : (old new : Station) (d : ℕ) (line : List ℕ) (past : List Act) → old.role ≡ Initiator → OffersLine old new d line → StationFits old past → d < 62 → (d == 0) ≡ false → is_open Initiator d past ≡ true
@@ -107,30 +94,8 @@ pub line_on : (old new : Station) (d : ℕ) (line : List ℕ) (past : List Act) 
 line_on old new d line past r f h k z o w =
     let short = f.short in
     let none : length (channel_at old d).waiting ≡ 0 = ap length w in
-    let one = offer_on old f.between d line past r f.text h k z o (omega (arith, short, none)) in
-    let role : f.between.role ≡ Initiator = ap (λ (s : StationSetting). s.role) f.text.setting ∙ r in
-    let still : is_open Initiator d one.seen ≡ true = same_open d past one.seen one.same ∙ o in
-    let opened : is_opened (channel_at old d).state ≡ true = sym (subst (λ (x : Role). is_open x d past ≡ is_opened (channel_at old d).state) r (open_fits old past d h k)) ∙ o in
-    let opened_then : is_opened (channel_at f.between d).state ≡ true
-    = sym (subst (λ (x : Role). is_open x d one.seen ≡ is_opened (channel_at f.between d).state) role (open_fits f.between one.seen d one.fits k)) ∙ still in
-    let ring : offered Initiator d past ≡ data_out Initiator d past ++ (channel_at old d).waiting = subst (λ (x : Role). offered x d past ≡ data_out x d past ++ (channel_at old d).waiting) r ((h.channels_are d k).ring_is opened) in
-    let ring_then : offered Initiator d one.seen ≡ data_out Initiator d one.seen ++ (channel_at f.between d).waiting
-    = subst (λ (x : Role). offered x d one.seen ≡ data_out x d one.seen ++ (channel_at f.between d).waiting) role ((one.fits.channels_are d k).ring_is opened_then) in
-    let a = ap length ring ∙ length-append (data_out Initiator d past) (channel_at old d).waiting in
-    let b = ap length ring_then ∙ length-append (data_out Initiator d one.seen) (channel_at f.between d).waiting in
-    let c = ap length (same_sent d past one.seen one.same) in
-    let e = ap length one.own ∙ length-append (offered Initiator d past) line in
-    let room : length (channel_at f.between d).waiting + 1 ≤ 1024 = omega (arith, a, b, c, e, none, short) in
-    let two = offer_on f.between new d (13 ∷ []) one.seen role f.end one.fits k z still room in
-    record {
-      seen = two.seen;
-      fits = two.fits;
-      same = two.same ∙ one.same;
-      setting = two.setting ∙ one.setting;
-      probe = two.probe ∙ one.probe;
-      own = two.own ∙ (ap (λ (v : List ℕ). v ++ 13 ∷ []) one.own ∙ append_assoc (offered Initiator d past) line (13 ∷ []));
-      others = λ g n. two.others g n ∙ one.others g n;
-    }
+    let long = length-append line (13 ∷ []) in
+    offer_on old new d (line ++ 13 ∷ []) past r f.setting f.takes h k z o (omega (arith, short, none, long))
 
 -- a station that stays as it is was offered nothing
 pub nothing_on : (old new : Station) (d : ℕ) (past : List Act) → StationFits old past → new ≡ old → Handed old new past d []
@@ -143,15 +108,3 @@ nothing_on old new d past h e = record {
   own = sym (append-nil (offered Initiator d past));
   others = λ g n. refl;
 }
-
--- ## N1 stays
-
-handed_n1 : (old new : Station) (d : ℕ) (o : Option (List ℕ)) → HandsOn old new d o → new.n1 ≡ old.n1
-handed_n1 old new d None h = ap (λ (v : Station). v.n1) h
-handed_n1 old new d (Some line) h = ap (λ (s : station_sending.StationSetting). s.n1) (h.end.setting ∙ h.text.setting)
-
--- a command that ends or goes on leaves N1 as it is
-pub ended_n1 : (b : Bool) (kept new : Core) (d : ℕ) → EndedBy b kept new d → new.station.n1 ≡ kept.station.n1
-ended_n1 false kept new d h = ap (λ (v : Core). v.station.n1) h
-ended_n1 true kept new d h =
-    ap (λ (v : Core). v.station.n1) h.new_is ∙ handed_n1 kept.station h.station d (option_map line_of (first_on d (without_first (commands_on d) kept.hand))) h.next

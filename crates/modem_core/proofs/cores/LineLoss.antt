@@ -39,14 +39,6 @@ lost_now s past d = ap (λ (fs : List Frame). states_now s (seen s past) (Lost �
 lost_calls : (s : Setting) (past : List Act) → calls s past Lost ≡ tolds (seen s past) (now_in s past Lost) Lost
 lost_calls s past = ap (λ (fs : List Frame). map Sent fs ++ tolds (seen s past) (now_in s past Lost) Lost) (lost_frames s past)
 
--- everyone is told the same, however it came about
-pub lost_says : (v : Station) (b c : Bool) (ask : Ask) → told_by happened.Lost b (λ d. state_shown v true d) ask ≡ told_by happened.Lost c (λ d. state_shown v true d) ask
-lost_says v b c (OpenChannel d) = refl
-lost_says v b c (CloseChannel d) = refl
-lost_says v b c (Command d line) = refl
-lost_says v b c (Probe octets) = refl
-lost_says v b c Stop = refl
-
 none_left : (v : Station) (ended : Bool) (rs : List Request) → left_by (told_by happened.Lost ended (λ d. state_shown v true d)) rs ≡ []
 none_left v ended [] = refl
 none_left v ended (r ∷ rs) = by_ask r.ask (none_left v ended rs)

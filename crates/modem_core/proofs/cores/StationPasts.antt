@@ -1,5 +1,5 @@
 -- A driver's past and that of its station say the same.
-use Rattle.std.specs.Prelude.{zero, suc, ◌≡◌, ℕ, ◌+◌, List, [], ◌∷◌, ◌++◌, map, refl, if◌then◌else◌}
+use Rattle.std.specs.Prelude.{◌≡◌, ℕ, ◌+◌, List, [], ◌∷◌, ◌++◌, map, refl, if◌then◌else◌}
 use Rattle.std.proofs.Common.{ap, sym, ◌∙◌}
 use Rattle.mux_frame.specs.Frames.{Frame}
 use Rattle.mux_frame.specs.declared.frame.Kind.TheVariants.{Uih}
@@ -9,7 +9,7 @@ use Rattle.mux_station.specs.Written.{is_on}
 use Rattle.mux_station.specs.Opening.{Standings, is_open}
 use Rattle.mux_station.specs.States.{State, States, state_of}
 use Rattle.mux_station.specs.Stopping.{is_stopped}
-use Rattle.mux_station.specs.Tables.{by_table, by_message, by_frame, ticked, by_tick, again, if_room, octets_of}
+use Rattle.mux_station.specs.Tables.{by_table, by_message, by_frame}
 use Rattle.mux_station.specs.Sending.{queue, sent_after}
 use Rattle.mux_station.specs.Traces.{without_calls}
 use Rattle.mux_station.proofs.law_proofs.PastsWithoutCalls.{same_states, same_standings, same_stopped, same_queue}
@@ -42,16 +42,6 @@ pub by_frame_seen : (r : Role) (f : Frame) (x y : ℕ → State) → x 0 ≡ y 0
 by_frame_seen r f x y z o =
     ap (λ (s : State). if is_on Uih 0 f then by_message r s f else by_table r f.dlci s (x f.dlci) f.kind) z
     ∙ ap (λ (s : State). if is_on Uih 0 f then by_message r (y 0) f else by_table r f.dlci (y 0) s f.kind) o
-
-ticked_seen : (r : Role) (n1 : ℕ) (x y : ℕ → State) → ((d : ℕ) → x d ≡ y d) → (queued d count : ℕ) → ticked r n1 x queued d count ≡ ticked r n1 y queued d count
-ticked_seen r n1 x y h queued d zero = refl
-ticked_seen r n1 x y h queued d (suc count) =
-    ap (λ (s : State). if_room n1 queued (again r d s) ++ ticked r n1 x (queued + octets_of (if_room n1 queued (again r d s))) (d + 1) count) (h d)
-    ∙ ap (λ (fs : List Frame). if_room n1 queued (again r d (y d)) ++ fs) (ticked_seen r n1 x y h (queued + octets_of (if_room n1 queued (again r d (y d)))) (d + 1) count)
-
--- and what a tick calls for on the states of all
-pub by_tick_seen : (r : Role) (n1 : ℕ) (x y : ℕ → State) → ((d : ℕ) → x d ≡ y d) → (queued : ℕ) → by_tick r n1 x queued ≡ by_tick r n1 y queued
-by_tick_seen r n1 x y h queued = ticked_seen r n1 x y h queued 0 62
 
 -- ## Frames that are sent
 

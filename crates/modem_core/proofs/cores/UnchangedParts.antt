@@ -43,10 +43,6 @@ pub all_was : (r : Role) (d : ℕ) (fs : List Frame) (x : List station.Act) → 
 all_was r d [] x h = h
 all_was r d (f ∷ fs) x h = sent_was r d f x (all_was r d fs (station.Sent f ∷ x) h)
 
--- and one that is open after a call
-pub called_was : (r : Role) (d : ℕ) (c : station.Call) (x : List station.Act) → is_open r d (station.Called c ∷ x) ≡ true → is_open r d x ≡ true
-called_was r d c x h = was_open _ (is_open r d x) (not (ends (standings r d x).zero.is_open d (station.Called c))) h (opens_called r d x c)
-
 -- a tick opens no connection
 pub opens_tick : (r : Role) (d : ℕ) (x : List station.Act) → opens_now r d x station.Tick ≡ false
 opens_tick Initiator d x = refl
@@ -56,7 +52,7 @@ opens_tick Responder d x = refl
 pub tick_was : (r : Role) (d : ℕ) (x : List station.Act) → is_open r d (station.Tick ∷ x) ≡ true → is_open r d x ≡ true
 tick_was r d x h = was_open _ (is_open r d x) (not (ends (standings r d x).zero.is_open d station.Tick)) h (opens_tick r d x)
 
--- a tick brings no information, and offers none
+-- a tick brings no information
 pub info_tick : (r : Role) (d : ℕ) (x : List station.Act) → is_open r d (station.Tick ∷ x) ≡ true → info_got d (since r d (station.Tick ∷ x)) ≡ info_got d (since r d x)
 info_tick r d x h = ap (info_got d) (since_goes_on r d x station.Tick (opens_tick r d x) h)
 

@@ -1,5 +1,5 @@
 -- A frame that isn't data of an open connection: the acts are what it calls for, and the core fits them.
-use Rattle.std.specs.Prelude.{◌≡◌, ℕ, ◌<◌, ◌≤◌, ◌&&◌, not, Bool, true, false, List, [], ◌∷◌, ◌++◌, length, map, take, drop, filter, filter_map, slice_get, refl, None, Some, if◌then◌else◌}
+use Rattle.std.specs.Prelude.{◌≡◌, ℕ, ◌<◌, ◌≤◌, ◌&&◌, not, Bool, true, false, List, [], ◌∷◌, ◌++◌, length, map, take, drop, filter, filter_map, slice_get, refl, Some, if◌then◌else◌}
 use Rattle.std.specs.List.{list_all}
 use Rattle.std.proofs.Common.{ap, sym, ◌∙◌, subst, arith}
 use Rattle.std.proofs.lemmas.Bool.{and_parts}
@@ -13,9 +13,9 @@ use Rattle.mux_station.specs.Written.{is_data_frame}
 use Rattle.mux_station.specs.Messages.{message_in}
 use Rattle.mux_station.specs.States.{State, IsShut, IsOpening, IsOpened, IsClosing, IsStopping, is_opened, state_of}
 use Rattle.mux_station.specs.Stages.{as_shown}
-use Rattle.mux_station.specs.Sending.{Waiting, queue, got_refused, station_view as station_seen, called_frames as station_calls}
+use Rattle.mux_station.specs.Sending.{Waiting, queue, station_view as station_seen, called_frames as station_calls}
 use Rattle.mux_station.specs.Noting.{noted_of, says_open}
-use Rattle.mux_station.specs.Stations.{Station, channel_at, setting_of, seen_in}
+use Rattle.mux_station.specs.Stations.{Station, channel_at, setting_of}
 use Rattle.mux_station.specs.Fitting as station_fits
 use Rattle.at_text.specs.Lines.{lines}
 use Rattle.at_text.specs.declared.unsolicited.UrcKind.{UrcKind}
@@ -27,10 +27,9 @@ use Rattle.modem_history.specs.Acts.{Act, Took, Got, Sent, Told, Heard, Tick, Lo
 use Rattle.modem_history.specs.Calls.{Setting, HistoryView, seen, calls, is_lost, ticks_since, lines_said, by_lines, first_on, tolds, told_later, probe_answer}
 use Rattle.modem_core.specs.Telling.{told_by, told_to, left_by, probe_noted}
 use Rattle.modem_core.specs.Cores as cores
-use Rattle.modem_core.specs.Cores.{Core, Runs, RunsUnless, Fits, IsRun, IsSettingOf, MayCome, GoesOn, Handles, state_shown, may_wait, probe_or, probe_in}
+use Rattle.modem_core.specs.Cores.{Core, Runs, RunsUnless, Fits, IsRun, IsSettingOf, MayCome, GoesOn, Handles, state_shown, probe_or, probe_in}
 use Rattle.modem_core.specs.Doing.{QueuesAtMost, new_frames}
 use Rattle.modem_core.specs.Receiving.{sent_in, answer_room, afresh_if, brings_data, cut_to, reads_data, fits_in, HasRoom}
-use Rattle.mux_station.specs.declared.error.StationError.TheVariants.{NoRoom}
 use Rattle.mux_station.specs.Tables.{have_room, octets_of, by_frame}
 use Rattle.modem_history.proofs.calls.CalledActs.{Saids, calls_said}
 use Rattle.modem_history.specs.Wholes.{is_said}
@@ -258,12 +257,3 @@ room_is v f b i n k e s past m =
     ∙ (ap (λ (c : Bool). have_room v.station.n1 (octets_of (queue (wire past))) (if c then [] else by_frame Initiator (λ d. state_of Initiator d (wire past)) f)) live
     ∙ (ap (λ (q : List Frame). have_room v.station.n1 (octets_of q) (by_frame Initiator (λ d. state_of Initiator d (wire past)) f)) queue_is
     ∙ (ap (have_room v.station.n1 (octets_of v.station.queue)) frames_are ∙ e)))
-
--- what the station says of it
-has_room_by : (b : Bool) → None ≡ (if b then None else Some NoRoom) → b ≡ true
-has_room_by true h = refl
-has_room_by false h = cc
-
--- a frame that the station doesn't refuse has room for what it calls for
-pub taken_room : (v : Core) (f : Frame) → IsSound v → v.lost ≡ false → f.dlci < 62 → None ≡ got_refused (setting_of v.station) (seen_in v.station) f → HasRoom v (Got f) true
-taken_room v f i n k h = room_is v f true i n k (has_room_by (have_room v.station.n1 (octets_of v.station.queue) (by_frame v.station.role (λ d. (channel_at v.station d).state) f)) h)

@@ -1,5 +1,5 @@
 -- Whether a hold or its end is due, as the code decides it.
-use Rattle.std.specs.Prelude.{◌≡◌, ℕ, ◌<◌, ◌==◌, ◌&&◌, ◌||◌, not, nat_le, nat_lt, Bool, true, false, List, [], ◌∷◌, length, map, refl, Option, Some, None, if◌then◌else◌}
+use Rattle.std.specs.Prelude.{◌≡◌, ℕ, ◌<◌, ◌==◌, ◌&&◌, ◌||◌, not, Bool, true, false, List, [], ◌∷◌, length, map, refl, Option, Some, None, if◌then◌else◌}
 use Rattle.std.proofs.Common.{ap, sym, ◌∙◌, subst}
 use Rattle.std.proofs.lemmas.Bool.{lt-leb}
 use Rattle.mux_frame.specs.Frames.{Frame, kept_frame}
@@ -195,10 +195,3 @@ held_so false false few go h = cc
 held_so true many true true h = refl
 held_so true many true false h = cc
 held_so true many false go h = cc
-
--- whatever is due is so
-pub due_facts : (lost zero opened held : Bool) (lines : ℕ) (go : Bool) → (if lost || zero then None else flow_due opened held lines) ≡ Some go → IsDue lost zero opened held go
-due_facts true zero opened held lines go h = cc
-due_facts false true opened held lines go h = cc
-due_facts false false false held lines go h = cc
-due_facts false false true held lines go h = record { live = refl; not_zero = refl; opened_is = refl; held_is = held_so held (nat_le 256 lines) (nat_lt lines 128) go h }

@@ -2,7 +2,6 @@
 use Rattle.std.specs.Prelude.{◌≡◌, ◌≤◌, ◌<◌, ℕ, zero, suc, ◌+◌, ◌||◌, Bool, true, false, List, [], ◌∷◌, length, take, drop, refl, if◌then◌else◌, Option, Some, None, position, slice_index_or, unwrap_or, IfSome}
 use Rattle.std.specs.List.{list_any, position_from}
 use Rattle.std.proofs.lemmas.Iterator.Adapters.{position_from-zero}
-use Rattle.std.proofs.lemmas.List.Folds.{list_any_more}
 use Rattle.std.proofs.Common.{ap, sym, ◌∙◌, arith}
 use Rattle.modem_desk.specs.declared.request.Request.{Request}
 use Rattle.modem_history.specs.Calls.{first_on}
@@ -31,11 +30,6 @@ first_dropped d (suc n) (q ∷ qs) h = by_test (commands_on d q) h (first_droppe
     by_test false h f = f h
 
 -- ## Its place
-
--- where the request at the place doesn't pass, none passes before the next place
-pub none_further : (test : Request → Bool) (qs : List Request) (i : ℕ) (q : Request) → list_any test (take i qs) ≡ false → i < length qs → q ≡ slice_index_or qs i q → test q ≡ false → list_any test (take (i + 1) qs) ≡ false
-none_further test qs i q none inside is fails =
-    list_any_more test qs i q inside ∙ (ap (λ (b : Bool). b || test (slice_index_or qs i q)) none ∙ (ap test (sym is) ∙ fails))
 
 found_from : (test : Request → Bool) (qs : List Request) (k i : ℕ) (q : Request) → list_any test (take i qs) ≡ false → i < length qs → test (slice_index_or qs i q) ≡ true → position_from test k qs ≡ Some (i + k)
 found_from test [] k i q none inside passes = let x : ⊥ = omega (arith, inside) in absurd x

@@ -14,13 +14,11 @@ use Rattle.modem_desk.specs.declared.request.Request.{Request}
 use Rattle.modem_core.specs.declared.event.Event.{Event}
 use Rattle.modem_core.specs.declared.event.Event.TheVariants as event
 use Rattle.modem_history.specs.Acts.{Act, Took, Got, Sent, Told, Heard, Tick, Lost, Held, Freed, Given, after}
-use Rattle.at_text.specs.Rules.{Rules}
 use Rattle.modem_history.specs.Calls.{Setting, replaying}
 use Rattle.modem_history.specs.Lawful.{Lawful, Complete}
 use Rattle.modem_history.specs.Wholes.{UsesOnce, taken_requests, is_same, is_said}
 use Rattle.modem_core.specs.Cores.{Core}
 use Rattle.modem_core.specs.Replays.{Piece, acts_in, first_of, marks_for, with_piece, past_of, ArePieces, BegunBy, ends, asks, hears, ticks, loses, Replays, request_in, requests, event_octets, octets}
-use Rattle.modem_core.specs.DialectReplays.{ReplaysBy, replaying_by}
 use Rattle.modem_core.specs.Running.{Running, Drained, Goes, Steps, StepAll, none_more, one_more, HandlesEvent, RunsReplay, SoFar}
 
 -- ## Events
@@ -303,12 +301,5 @@ so_far_step s events k e v v' d d' h is so handles idle = after_event s events k
 pub so_far_end : (n1 : ℕ) (events : List Event) (v : Running) (d : Deframing) (acts : List Act)
     → take (length events) events ≡ events → v.acts ≡ acts → SoFar (replaying n1) events (length events) v d → UsesOnce (requests events) → Replays n1 events acts
 so_far_end n1 events v d acts all same so f =
-    let run = so.runs f in
-    record { pieces = run.pieces; joins = run.joins ∙ same; begins = subst (λ (es : List Event). BegunBy n1 [] es (map first_of run.pieces)) all run.begins; are_pieces = run.are_pieces }
-
--- at a modem with rules of its own
-pub so_far_end_by : (rules : Rules) (n1 : ℕ) (events : List Event) (v : Running) (d : Deframing) (acts : List Act)
-    → take (length events) events ≡ events → v.acts ≡ acts → SoFar (replaying_by rules n1) events (length events) v d → UsesOnce (requests events) → ReplaysBy rules n1 events acts
-so_far_end_by rules n1 events v d acts all same so f =
     let run = so.runs f in
     record { pieces = run.pieces; joins = run.joins ∙ same; begins = subst (λ (es : List Event). BegunBy n1 [] es (map first_of run.pieces)) all run.begins; are_pieces = run.are_pieces }

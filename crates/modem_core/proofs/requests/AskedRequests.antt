@@ -110,11 +110,6 @@ told_stop_once v new q why role lost few asks h n =
 
 -- ## Any request
 
--- nobody else was told
-pub asks_alone : (old new : Core) (was : List Outcome) (q : Request) (answer : Option Answer) → Handles old new (Took q) (taken_acts q answer) → Asks old new was was q answer
-asks_alone old new was q (Some why) h = (h, refl)
-asks_alone old new was q None h = record { told = []; few = omega arith; past = subst (Handles old new (Took q)) (sym (append-nil (taken_acts q None))) h; adds = λ few. sym (append-nil was) }
-
 outcomes_asked : (fs : List Frame) (os : List Outcome) → outcomes_told (map Sent fs ++ map Told os) ≡ os
 outcomes_asked [] [] = refl
 outcomes_asked [] (o ∷ os) = ap (λ (x : List Outcome). o ∷ x) (outcomes_asked [] os)

@@ -18,15 +18,14 @@ use Rattle.mux_station.specs.Acts.{Called, Offer}
 use Rattle.mux_station.specs.Opening.{is_open}
 use Rattle.mux_station.specs.States.{State, is_opened, state_of}
 use Rattle.mux_station.specs.Stages.{as_shown}
-use Rattle.mux_station.specs.Offering.{octets_sent, joined_octets, offered, data_out}
+use Rattle.mux_station.specs.Offering.{offered}
 use Rattle.mux_station.specs.Sending as sending
 use Rattle.mux_station.specs.Sending.{refused, or_else, sent_after, probe_of}
 use Rattle.mux_station.specs.Stations.{Station, channel_at, setting_of, seen_in, offer_refused}
 use Rattle.mux_station.specs.Fitting as station_fits
 use Rattle.mux_station.specs.Traces.{without_calls}
 use Rattle.mux_station.proofs.states.OpenedStates.{opened_is_open}
-use Rattle.mux_station.proofs.states.StatesAfterActs.{since_goes_on}
-use Rattle.mux_station.proofs.user_calls.CallFrames.{state_called, opens_called, probe_called}
+use Rattle.mux_station.proofs.user_calls.CallFrames.{state_called, probe_called}
 use Rattle.at_text.specs.Dialects.{Dialect}
 use Rattle.at_text.specs.Windows.{answered}
 use Rattle.at_text.specs.declared.error.TextError.TheVariants.{TooLong, BadOctet, NoAt}
@@ -116,9 +115,6 @@ offer_taken v d octets z o = by_tests (d == 0) (is_opened (channel_at v d).state
     by_tests false true h k = refl
     by_tests true x h k = cc
     by_tests false false h k = cc
-
-given_called : (r : Role) (d : ℕ) (c : station.Call) (x : List station.Act) → is_open r d (Called c ∷ x) ≡ true → data_out r d (Called c ∷ x) ≡ data_out r d x
-given_called r d c x h = ap (joined_octets (octets_sent d)) (since_goes_on r d x (Called c) (opens_called r d x c) h) ∙ append-nil (data_out r d x)
 
 -- ## Who is in hand
 

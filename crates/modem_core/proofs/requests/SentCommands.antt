@@ -1,5 +1,5 @@
 -- A command that goes into hand and isn't told at once.
-use Rattle.std.specs.Prelude.{◌≡◌, ℕ, ◌<◌, ◌||◌, nat_le, Bool, true, false, List, length, is_some, refl, Option, None, Some, if◌then◌else◌}
+use Rattle.std.specs.Prelude.{◌≡◌, ℕ, ◌<◌, ◌||◌, nat_le, Bool, true, false, length, is_some, refl, Option, None, Some, if◌then◌else◌}
 use Rattle.std.proofs.Common.{ap, sym, ◌∙◌, arith}
 use Rattle.std.proofs.lemmas.Bool.Decides.{nat_tests}
 use Rattle.mux_frame.specs.declared.dlci.Dlci.{Dlci}
@@ -9,7 +9,6 @@ use Rattle.modem_desk.specs.declared.request.Ask.TheVariants.{OpenChannel, Close
 use Rattle.modem_history.specs.Information.{line_in}
 use Rattle.modem_core.specs.Cores.{Core}
 use Rattle.modem_core.specs.Offers.{refused_command, sends_on}
-use Rattle.modem_core.proofs.requests.AcceptedRequests.{few_not}
 
 pub record GoesInHand (v : Core) (ask : Ask) (d : Dlci) : Type 0 where
   pub asks : ask ≡ Command d (line_in ask)
@@ -41,11 +40,3 @@ goes_in_hand v (OpenChannel e) d h = cc
 goes_in_hand v (CloseChannel e) d h = cc
 goes_in_hand v (Probe octets) d h = cc
 goes_in_hand v Stop d h = cc
-
--- and where it is so, it goes into hand
-pub sends_so : (v : Core) (ask : Ask) (d : Dlci) (line : List ℕ) → ask ≡ Command d line → v.lost ≡ false → length v.hand < 128 → refused_command v.station d.number ≡ None → sends_on v ask ≡ Some d
-sends_so v ask d line a live few free =
-    ap (sends_on v) a
-    ∙ (ap (λ (b : Bool). if b || (nat_le 128 (length v.hand) || is_some (refused_command v.station d.number)) then None else Some d) live
-    ∙ (ap (λ (b : Bool). if b || is_some (refused_command v.station d.number) then None else Some d) (few_not (length v.hand) few)
-    ∙ ap (λ (o : Option Answer). if is_some o then None else Some d) free))

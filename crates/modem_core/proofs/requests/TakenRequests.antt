@@ -220,9 +220,6 @@ took_all s past q shown h rs = all_say (seen s past) (now_in s past (Took q)) (T
 abbrev said : Setting → List Act → Request → List Frame → Option Answer → List Act
 said s past q fs once = map Sent fs ++ (said_of q once ++ tolds (seen s past) (states_now s (seen s past) (Took q ∷ map Sent fs)) (Took q))
 
-calls_said_so : (s : Setting) (past : List Act) (q : Request) → calls s past (Took q) ≡ said s past q (frames_in s past (Took q)) (at_once s (seen s past) q)
-calls_said_so s past q = refl
-
 none_either : (b : Bool) → (let none : List Frame = [] in if b then none else none) ≡ []
 none_either true = refl
 none_either false = refl

@@ -15,7 +15,7 @@ use Rattle.modem_core.specs.ActLists.{ActList}
 use Rattle.modem_core.specs.Doing.{Adds, outcomes_to, TellingOn}
 use Rattle.modem_core.specs.Stops.{is_answered, is_end_of}
 use Rattle.modem_core.specs.Telling.{said_to, told_to, left_by, Telling}
-use Rattle.modem_core.proofs.requests.ToldRequests.{Says, begins, waits_on, told_on, all_told}
+use Rattle.modem_core.proofs.requests.ToldRequests.{Says, begins, waits_on, told_on}
 use Rattle.modem_core.proofs.sessions.steps.CollectedActs.{told_both}
 
 -- before the first is looked at
@@ -96,17 +96,6 @@ pub record AllToldOn (says : Says) (stop : Option Asker) (hand hand0 : List Requ
   pub left_is : hand ≡ left_by says hand0
   pub adds : Adds told0 told (outcomes_to says hand0)
   pub answered_is : answered ≡ is_answered stop (map act_of (told_to says hand0))
-
--- behind the last all were told
-pub all_told_on : (says : Says) (stop : Option Asker) (place : ℕ) (hand hand0 : List Request) (told told0 : List Outcome) (answered : Bool) → TellingOn says stop place hand hand0 told told0 answered → length hand ≤ place
-    → AllToldOn says stop hand hand0 told told0 answered
-all_told_on says stop place hand hand0 told told0 answered t l =
-    let all = all_told says place hand hand0 t.acts (record { acts = []; left = length hand0 }) t.telling l in
-    record {
-      left_is = all.left_is;
-      adds = λ few. t.told_is few ∙ ap (λ (xs : List code.Act). told0 ++ outcomes_told (map act_of xs)) all.acts_are;
-      answered_is = t.answered_is ∙ ap (λ (xs : List code.Act). is_answered stop (map act_of xs)) all.acts_are;
-    }
 
 -- the acts that tell them are their outcomes
 pub told_back : (says : Says) (rs : List Request) → map Told (outcomes_to says rs) ≡ map act_of (told_to says rs)

@@ -1,7 +1,7 @@
 -- How a core goes over what its station has at a tick.
-use Rattle.std.specs.Prelude.{suc, ◌≡◌, ℕ, ◌+◌, ◌-◌, ◌<◌, ◌≤◌, nat_lt, Bool, true, false, List, [], ◌∷◌, ◌++◌, length, map, take, drop, slice_get, get_or, min, refl, Option, Some, None, option_map, if◌then◌else◌}
+use Rattle.std.specs.Prelude.{suc, ◌≡◌, ℕ, ◌+◌, ◌-◌, ◌<◌, ◌≤◌, nat_lt, Bool, true, false, List, [], ◌∷◌, ◌++◌, length, map, take, drop, slice_get, get_or, refl, Option, Some, None, option_map, if◌then◌else◌}
 use Rattle.std.proofs.Common.{ap, sym, ◌∙◌, arith, append_assoc}
-use Rattle.std.proofs.lemmas.List.{map-append, take_more, take_min, take_all, length-drop, get_or-drop}
+use Rattle.std.proofs.lemmas.List.{map-append, take_more, take_all, length-drop, get_or-drop}
 use Rattle.std.proofs.lemmas.Option.{slice_get_within, get_or_from_slice_get, slice_get-get_or}
 use Rattle.std.proofs.lemmas.Bool.Decides.{nat_tests}
 use Rattle.mux_frame.specs.declared.frame.Kind.TheVariants.{Uih}
@@ -113,9 +113,3 @@ pushed_none fs place i old now o n h inv = inv ∙ ap (λ (xs : List Frame). map
     by_place : (p : Option Frame) → slice_get fs (place + i) ≡ p → slice_get fs (place + i) ≡ None
     by_place None k = k
     by_place (Some g) k = absurd (let x : None ≡ Some (bared g) = sym (ap (option_map kept_frame) n) ∙ (h ∙ ap (option_map bared) k) in cc)
-
--- all that there are, or as many as there is room for
-pub all_queued : (fs : List Frame) (place most len : ℕ) → len ≡ length fs → queued_from fs place (min most (len - place)) ≡ queued_from fs place most
-all_queued fs place most len e =
-    let size : len - place ≡ length (drop place fs) = let d = length-drop place fs in omega (arith, d, e) in
-    ap (λ (n : ℕ). map bared (take (min most n) (drop place fs))) size ∙ ap (map bared) (take_min most (drop place fs))

@@ -13,9 +13,11 @@ use Rattle.ring_id.specs.Rings.{RingId, ring_of_producer, ring_of_consumer}
 use Rattle.modem_desk.proofs.queue_rule.CallerPasses.{below_length}
 
 module _ {T P : Type 0} where
+  -- a producer that is still the same is of the same ring
   pub same_ring : (p q : Producer T Global P) → SameProducer p q → ring_of_producer q ≡ ring_of_producer p
   same_ring p q s = let r = s.0 in λ i. record { words = r.0 i; slots = r.1 i; names = r.2 i; heap = r.3 i }
 
+  -- where a producer that is still the same is put back, the rings are as before
   pub same_rings : (ps : List (Producer T Global P)) (i : ℕ) (p q : Producer T Global P) → p ≡ get_or ps i p → SameProducer p q
       → map (ring_of_producer {T = T} {P = P}) (set ps i q) ≡ map (ring_of_producer {T = T} {P = P}) ps
   same_rings ps i p q at s = map-set_same (ring_of_producer {T = T} {P = P}) ps i q p (same_ring p q s ∙ ap (ring_of_producer {T = T} {P = P}) at)
@@ -37,6 +39,7 @@ module _ {T P : Type 0} where
         others = λ k apart. ap (λ (l : List (List T)). get_or l k []) e ∙ get_or-set_other old i k (get_or old i [] ++ x ∷ []) [] apart;
       }
 
+  -- where nothing more was pushed to a ring, what was pushed to each one is as before
   pub sent_same : (ps : List (Producer T Global P)) (i : ℕ) (p q : Producer T Global P) → p ≡ get_or ps i p → sent q ≡ sent p
       → map (sent {T = T} {A = Global} {P = P}) (set ps i q) ≡ map (sent {T = T} {A = Global} {P = P}) ps
   sent_same ps i p q at same = map-set_same (sent {T = T} {A = Global} {P = P}) ps i q p (same ∙ ap (sent {T = T} {A = Global} {P = P}) at)
@@ -50,13 +53,16 @@ module _ {T P : Type 0} where
   pub pair_at : (ps : List (Producer T Global P)) (i : ℕ) (c : Consumer T Global P) (p : Producer T Global P) → get_elem? (map (ring_of_producer {T = T} {P = P}) ps) i ≡ some (ring_of_consumer c) → p ≡ get_or ps i p → IsPair p c
   pair_at ps i c p e at = let r = sym (ring_at ps i (ring_of_consumer c) p e at) in ((λ k. (r k).words), (λ k. (r k).slots), (λ k. (r k).names), (λ k. (r k).heap))
 
+  -- a place at which a ring is found is below the number of producers
   pub place_below : (ps : List (Producer T Global P)) (i : ℕ) (r : RingId) → get_elem? (map (ring_of_producer {T = T} {P = P}) ps) i ≡ some r → i < length ps
   place_below ps i r e = let h : i < length (map (ring_of_producer {T = T} {P = P}) ps) = below_length (map (ring_of_producer {T = T} {P = P}) ps) i r e in subst (λ n. i < n) (length-map ps (ring_of_producer {T = T} {P = P})) h
 
+  -- where a producer of the same ring is put at a place, the rings of all places are as before
   pub ring_kept : (ps : List (Producer T Global P)) (i : ℕ) (p q : Producer T Global P) → p ≡ get_or ps i p → ring_of_producer q ≡ ring_of_producer p
       → map (ring_of_producer {T = T} {P = P}) (set ps i q) ≡ map (ring_of_producer {T = T} {P = P}) ps
   ring_kept ps i p q at s = map-set_same (ring_of_producer {T = T} {P = P}) ps i q p (s ∙ ap (ring_of_producer {T = T} {P = P}) at)
 
+  -- what was pushed to the ring at a place is the list at that place
   pub sent_at : (ps : List (Producer T Global P)) (i : ℕ) (p : Producer T Global P) → i < length ps → p ≡ get_or ps i p → sent p ≡ get_or (map (sent {T = T} {A = Global} {P = P}) ps) i []
   sent_at ps i p lt at = ap (sent {T = T} {A = Global} {P = P}) at ∙ sym (get_or-map (sent {T = T} {A = Global} {P = P}) ps i p [] lt)
 

@@ -31,6 +31,7 @@ module _ {A : Type 0} where
   elem_at (x ∷ l) zero a d lt e = ap some e
   elem_at (x ∷ l) (suc i) a d lt e = elem_at l i a d (omega arith) e
 
+  -- an element that is found at an index stands there, and the index is below the length
   pub or_at : (l : List A) (i : ℕ) (a d : A) → get_elem? l i ≡ some a → (i < length l) × (get_or l i d ≡ a)
   or_at [] i a d e = absurd (some-ne-none a (sym e))
   or_at (x ∷ l) zero a d e = (omega arith, some-injective x a e)

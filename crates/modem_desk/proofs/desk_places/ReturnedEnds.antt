@@ -23,6 +23,7 @@ module _ {A : Type 0} where
   comes [] rest all a e = ap (λ (l : List A). get_elem? l 0) (sym e)
   comes (x ∷ came) rest all a e = subst (λ (l : List A). get_elem? l (length (x ∷ came)) ≡ some a) e (comes came rest (came ++ (a ∷ rest)) a refl)
 
+  -- where no rest is left, those that came are all
   pub all_came : (came rest all : List A) → came ++ rest ≡ all → length rest ≡ 0 → came ≡ all
   all_came came [] all e none = sym (append-nil came) ∙ e
   all_came came (x ∷ rest) all e none = absurd (omega arith)

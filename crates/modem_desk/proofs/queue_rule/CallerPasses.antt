@@ -61,6 +61,7 @@ module _ {A : Type 0} where
   at_end (x ∷ xs) a b zero e = inl e
   at_end (x ∷ xs) a b (suc j) e = ⊎_elim inl (λ t. inr (ap suc t.0, t.1)) (at_end xs a b j e)
 
+  -- an index at which an element is found is below the length
   pub below_length : (l : List A) (j : ℕ) (a : A) → get_elem? l j ≡ some a → j < length l
   below_length [] j a e = absurd (some-ne-none a (sym e))
   below_length (x ∷ xs) zero a e = omega arith

@@ -1,10 +1,10 @@
--- What a session and its desk come to, from their opening to their settlement.
-use Rattle.std.proofs.Common.{ap, sym, subst, ◌∙◌, arith, eqb-true}
+-- What a session comes to, for the headline.
+use Rattle.std.proofs.Common.{ap, sym, subst, ◌∙◌, eqb-true}
 use Rattle.std.proofs.lemmas.Bool.{and_parts, and_from}
 use Rattle.std.proofs.lemmas.List.{append_assoc, append-nil}
-use Rattle.std.proofs.lemmas.List.Elements.{filter-append, All-nil, All-cons, All-contains}
+use Rattle.std.proofs.lemmas.List.Elements.{filter-append, All-nil, All-cons}
 use Rattle.std.proofs.lemmas.List.Folds.{list_any-append}
-use Rattle.std.specs.Prelude.{◌≡◌, ℕ, zero, suc, ◌+◌, ◌≤◌, ◌==◌, ◌||◌, Bool, true, false, List, [], ◌∷◌, ◌++◌, length, map, filter, slice_index_or, refl, if◌then◌else◌, All, Contains}
+use Rattle.std.specs.Prelude.{◌≡◌, ℕ, zero, suc, ◌+◌, ◌==◌, ◌||◌, Bool, true, false, List, [], ◌∷◌, ◌++◌, map, filter, refl, if◌then◌else◌, All}
 use Rattle.std.specs.List.{list_all, list_any}
 use mathlib.Core.Option.{some, some-injective, some-ne-none}
 use lib.ListN.{get_elem?}
@@ -13,50 +13,27 @@ use Rattle.mux_station.specs.Opening.{is_open}
 use Rattle.mux_station.specs.declared.role.Role.TheVariants.{Initiator}
 use Rattle.modem_desk.specs.declared.request.Request.{Request}
 use Rattle.modem_desk.specs.declared.request.Outcome.{Outcome}
-use Rattle.modem_desk.specs.declared.request.Urc.{Urc}
 use Rattle.modem_desk.specs.Rule.{of_caller}
-use Rattle.modem_desk.specs.Ends.{CallerView, Each, ListenerView, subscription_of}
-use Rattle.at_text.specs.declared.unsolicited.UrcKind.{UrcKind}
+use Rattle.modem_desk.specs.Ends.{ListenerView, subscription_of}
 use Rattle.modem_history.specs.Acts.{Act, Took, Got, Sent, Told, Heard, Tick, Lost, Held, Freed, Given, is_for, wire}
 use Rattle.modem_history.specs.Information.{command_on}
-use Rattle.modem_history.specs.Kinds.{of_kind}
 use Rattle.modem_history.specs.Lawful.{Gated, Lawful, When, owed}
 use Rattle.modem_history.specs.Sessions as session
-use Rattle.modem_history.specs.Sessions.{AreOnce, Beginning, SessionFits, SessionView, TakesWithRoom, driving, heard_as, heards, taken_since}
-use Rattle.modem_history.specs.SessionLaws.{untold}
+use Rattle.modem_history.specs.Sessions.{Beginning, SessionFits, SessionView, TakesWithRoom, driving}
 use Rattle.modem_history.proofs.law_proofs.SessionLaws.{distinct_taken}
 use Rattle.modem_history.specs.Hearing.{HearsAll}
-use Rattle.modem_history.specs.Wholes.{TellsOwn, is_same, outcomes, taken_requests}
+use Rattle.modem_history.specs.Wholes.{TellsOwn, taken_requests}
 use Rattle.modem_history.proofs.lists.Filters.{swapped}
 use Rattle.modem_history.proofs.lines.HeardLines.{hears_all}
-use Rattle.modem_history.proofs.commands.SentPrefixes.{leaves_once}
-use Rattle.modem_history.proofs.outcomes.OutcomeCounts.{many, many_append}
-use Rattle.modem_history.proofs.outcomes.WholeCounts.{answers_once, lawful_part, many_filtered}
+use Rattle.modem_history.proofs.outcomes.WholeCounts.{lawful_part}
 use Rattle.modem_history.proofs.outcomes.OwnAnswers.{tells_own}
-use Rattle.modem_history.proofs.outcomes.SingleOutcomes.{of_its_caller, uses_once}
-use Rattle.modem_history.proofs.requests.UntoldRequests.{all_answer, hand_is}
-use Rattle.modem_driver.specs.Headline.{AnswersOwn, Announces, HasEnd, HasOnePlace, HearsEach, Holds, InSubmittedOrder, IsHeadline, IsSettled, NoneAfterClose, Run, SendsFull, outcomes_of}
+use Rattle.modem_history.proofs.outcomes.SingleOutcomes.{uses_once}
+use Rattle.modem_driver.specs.Headline.{AnswersOwn, HearsEach, InSubmittedOrder, NoneAfterClose, SendsFull}
 use Rattle.modem_core.proofs.replays.FullFrames.{turns_are_full}
-use Rattle.modem_driver.proofs.law_proofs.GrownHistories.{fits_in}
-use Rattle.modem_driver.proofs.law_proofs.RequestNumbers.{numbered_once}
-use Rattle.modem_driver.proofs.law_proofs.RequestPlaces.{counted_own, is_counted, one_place}
 use Rattle.modem_driver.proofs.law_proofs.SubmittedOrder.{Stretch, stretch_of}
 use Rattle.modem_history.proofs.rules.MadeLaws.{laws_of}
 
 -- ## What leaves
-
--- what the driver's end took is what the history took
-driver_took : (run : Run) (s : IsSettled run) (past : List Act) → SessionFits run.start run.session past → run.driver.taken ≡ taken_requests past
-driver_took run s past f =
-    s.taken ∙ (ap (λ (d : session.EndView). d.taken) s.desk ∙ (f.requests.taken_are ∙ ap (λ (qs : List Request). qs ++ taken_requests past) s.none_taken))
-
--- what a caller submitted: of what the history took, and of what was left
-submitted_are : (run : Run) (s : IsSettled run) (past : List Act) → SessionFits run.start run.session past → (i : ℕ) (c : CallerView) → get_elem? run.callers i ≡ some c
-    → c.submitted ≡ of_caller c.place.number (taken_requests past) ++ of_caller c.place.number run.settlement.left
-submitted_are run s past f i c at =
-    let n = c.place.number in
-    sym ((s.books.callers i c at).order)
-    ∙ ap (λ (qs : List Request). of_caller n qs ++ of_caller n run.settlement.left) (driver_took run s past f)
 
 -- where each request was taken with room, so it was at every moment before
 pub room_before : (newer older : List Act) → TakesWithRoom (newer ++ older) → TakesWithRoom older
@@ -143,30 +120,7 @@ subscription_at [] i l e = absurd (some-ne-none l (sym e))
 subscription_at (x ∷ xs) zero l e = ap (λ (y : ListenerView). some y.subscription) (some-injective x l e)
 subscription_at (x ∷ xs) (suc i) l e = subscription_at xs i l e
 
-announces_each : (run : Run) (s : IsSettled run) (e : HasEnd run) → Each (Announces run run.past) run.listeners
-announces_each run s e i l at =
-    let subscription = s.subscribed i l.subscription (subscription_at run.listeners i l at) in
-    let to = (fits_in e.grown).heard.each l.subscription.place l.subscription.kind (ap (λ (ks : List UrcKind). get_elem? ks l.subscription.place) (sym s.kinds) ∙ subscription.0) in
-    let same : l.heard ++ slice_index_or run.settlement.unheard i [] ≡ to.since =
-    (s.books.listeners i l at).lines
-    ∙ (ap (λ (us : List (List Urc)). slice_index_or us l.subscription.place []) (s.announced ∙ ap (λ (d : session.EndView). d.announced) s.desk)
-    ∙ (to.announced_are ∙ ap (λ (us : List Urc). us ++ to.since) (s.none_announced l.subscription.place))) in
-    ap (map heard_as) (ap (λ (us : List Urc). us ++ of_kind l.subscription.kind run.leftovers.unannounced) same ∙ ap (λ (us : List Urc). to.since ++ of_kind l.subscription.kind us) e.finishes.unannounced_are)
-    ∙ to.lines_are
-
 -- ## What each caller holds
-
--- its outcomes are those of the history
-outcomes_are : (run : Run) (s : IsSettled run) (e : HasEnd run) (i : ℕ) (c : CallerView) → get_elem? run.callers i ≡ some c → outcomes_of run i c ≡ session.caller_outcomes c.place.number (outcomes run.past)
-outcomes_are run s e i c at =
-    let n = c.place.number in
-    let to = (fits_in e.grown).told.each n in
-    let same : c.got ++ slice_index_or run.settlement.untaken i [] ≡ to.since =
-    (s.books.callers i c at).outcomes
-    ∙ (ap (λ (os : List (List Outcome)). slice_index_or os n []) (s.told ∙ ap (λ (d : session.EndView). d.told) s.desk)
-    ∙ (to.told_are ∙ ap (λ (os : List Outcome). os ++ to.since) (s.none_told n))) in
-    ap (λ (os : List Outcome). os ++ session.caller_outcomes n run.leftovers.unplaced) same
-    ∙ (ap (λ (os : List Outcome). to.since ++ session.caller_outcomes n os) e.finishes.unplaced_are ∙ to.outcomes_are)
 
 -- the requests of a caller are its own
 pub of_its_own : (n : ℕ) (qs : List Request) → All (λ q. q.caller ≡ n) (of_caller n qs)
@@ -176,39 +130,6 @@ of_its_own n (q ∷ qs) = by_caller (q.caller == n) refl (of_its_own n qs)
     by_caller : (b : Bool) → (q.caller == n) ≡ b → All (λ x. x.caller ≡ n) (of_caller n qs) → All (λ x. x.caller ≡ n) (if b then q ∷ of_caller n qs else of_caller n qs)
     by_caller true h rest = All-cons (λ x. x.caller ≡ n) q (of_caller n qs) (eqb-true q.caller n h) rest
     by_caller false h rest = rest
-
--- a caller's request stands once among all that were taken or left
-stands_once : (run : Run) (s : IsSettled run) (past : List Act) → SessionFits run.start run.session past → (i : ℕ) (c : CallerView) → get_elem? run.callers i ≡ some c
-    → (r : Request) → r.caller ≡ c.place.number → Contains c.submitted r → many r (taken_requests past) + many r run.settlement.left ≡ 1
-stands_once run s past f i c at r own in_it =
-    let book = s.books.callers i c at in
-    let few : many r c.submitted ≤ 1 = subst (λ (n : ℕ). n ≤ 1) (many_filtered r c.submitted) (uses_once c.submitted (numbered_once c.place.first c.submitted book.numbered) r) in
-    let some = is_counted c.submitted r in_it in
-    let whole : many r c.submitted ≡ many r (of_caller r.caller (taken_requests past)) + many r (of_caller r.caller run.settlement.left) =
-    ap (many r) (submitted_are run s past f i c at ∙ ap (λ (n : ℕ). of_caller n (taken_requests past) ++ of_caller n run.settlement.left) (sym own))
-    ∙ many_append r (of_caller r.caller (taken_requests past)) (of_caller r.caller run.settlement.left) in
-    let t = counted_own r (taken_requests past) in
-    let l = counted_own r run.settlement.left in
-    omega (arith, few, some, whole, t, l)
-
-has_one_place : (run : Run) (s : IsSettled run) (e : HasEnd run) (i : ℕ) (c : CallerView) → get_elem? run.callers i ≡ some c → (r : Request) → Contains c.submitted r → HasOnePlace (outcomes_of run i c) run.leftovers.in_hand run.settlement.left r
-has_one_place run s e i c at r in_it =
-    let n = c.place.number in
-    let f = (fits_in e.grown) in
-    let once = distinct_taken run.start run.session run.past f in
-    let whole : c.submitted ≡ of_caller n (taken_requests run.past ++ run.settlement.left) =
-    submitted_are run s run.past f i c at ∙ sym (filter-append (λ (q : Request). q.caller == n) (taken_requests run.past) run.settlement.left) in
-    let own : r.caller ≡ n =
-    All-contains (λ q. q.caller ≡ n) (of_caller n (taken_requests run.past ++ run.settlement.left)) r (of_its_own n (taken_requests run.past ++ run.settlement.left)) (subst (λ (qs : List Request). Contains qs r) whole in_it) in
-    let answers : length (filter (λ o. is_for r o) (outcomes_of run i c)) ≡ length (filter (λ o. is_for r o) (outcomes run.past)) =
-    ap (λ (os : List Outcome). length (filter (λ o. is_for r o) os)) (outcomes_are run s e i c at ∙ ap (λ (m : ℕ). session.caller_outcomes m (outcomes run.past)) (sym own))
-    ∙ ap (λ (os : List Outcome). length os) (of_its_caller r (outcomes run.past)) in
-    let hand : run.leftovers.in_hand ≡ untold run.past = e.finishes.hand_is ∙ hand_is (driving run.start) run.past (laws_of f.history).lawful once in
-    let few = (answers_once (driving run.start) run.past (laws_of f.history).lawful).once (uses_once (taken_requests run.past) once) r in
-    let place = one_place r (outcomes run.past) (taken_requests run.past) run.settlement.left few (all_answer (driving run.start) run.past (laws_of f.history).lawful) (stands_once run s run.past f i c at r own in_it) in
-    let in_hand_are : length (filter (is_same r) run.leftovers.in_hand) ≡ many r (untold run.past) = many_filtered r run.leftovers.in_hand ∙ ap (many r) hand in
-    let left_are = many_filtered r run.settlement.left in
-    omega (arith, answers, place, in_hand_are, left_are)
 
 -- ## Each outcome answers a request of its caller's
 
@@ -243,38 +164,6 @@ own_answers n qs more (o ∷ os) h =
     by_caller true e here rest =
         and_from (test o) (list_all test (session.caller_outcomes n os)) (any_more o (of_caller n qs) more (subst (λ (m : ℕ). list_any (λ q. is_for q o) (of_caller m qs) ≡ true) (eqb-true o.caller n e) (answers_one o qs here))) rest
     by_caller false e here rest = rest
-
-holds_each : (run : Run) (s : IsSettled run) (e : HasEnd run) → Each (Holds run) run.callers
-holds_each run s e i c at =
-    let n = c.place.number in
-    record {
-      each = has_one_place run s e i c at;
-      own =
-          ap (λ (qs : List Request). list_all (λ o. list_any (λ r. is_for r o) qs) (outcomes_of run i c)) (submitted_are run s run.past (fits_in e.grown) i c at)
-          ∙ (ap (list_all (λ o. list_any (λ r. is_for r o) (of_caller n (taken_requests run.past) ++ of_caller n run.settlement.left))) (outcomes_are run s e i c at)
-          ∙ own_answers n (taken_requests run.past) (of_caller n run.settlement.left) (outcomes run.past) (all_answer (driving run.start) run.past (laws_of (fits_in e.grown).history).lawful));
-    }
-
--- ## The headline
-
--- every settled run has the headline
-pub headline : (run : Run) → IsHeadline run
-unfolding IsHeadline
-headline run s =
-    let e = s.history in
-    record {
-      fits = (fits_in e.grown);
-      leaves = λ newer older joins d. record {
-        is_prefix = leaves_once (driving run.start) older (lawful_part (driving run.start) newer older (subst (Lawful (driving run.start)) joins (laws_of (fits_in e.grown).history).lawful)) d;
-        order = λ i c at. order_of c.place.number c.submitted [] (of_caller c.place.number run.settlement.left) run.start run.session run.past (fits_in e.grown) (submitted_are run s run.past (fits_in e.grown) i c at) newer older joins d;
-      };
-      none_after_close = while_open run.start run.past (laws_of (fits_in e.grown).history).lawful;
-      full = turns_are_full (driving run.start) run.past (laws_of (fits_in e.grown).history).in_turn;
-      answers = answers_own run.start run.session run.past (fits_in e.grown);
-      hears = hears_each run.start run.session run.past (fits_in e.grown);
-      announces = announces_each run s e;
-      holds = holds_each run s e;
-    }
 
 -- in every history of a session all data frames of a command but the last have N1 octets
 pub sends_full : (b : Beginning) (v : SessionView) (past : List Act) → SendsFull b v past

@@ -202,18 +202,22 @@ module _ {X : Type 0} (look : X → LineView) where
         fits = lent_fits b w.past old line same w.fits;
       }
 
+  -- a session that has just begun has one history, to which its turns, polls and ticks add their acts
   pub one_session : OneSession look
   unfolding OneSession
   one_session b first last calls f called = one b first last calls f called
 
   -- ## Calls, one after the other
 
+  -- by no calls a session comes to itself
   pub calls_none : (s : SessionState X) → HasCalls look s s
   calls_none s = record { calls = []; called = none_called }
 
+  -- what a session comes to by a tick it comes to by calls
   pub tick_calls : (old new : SessionState X) → Ticks look old new → HasCalls look old new
   tick_calls old new t = record { calls = call_of look CallKind.Ticked new ∷ []; called = tick_called old new [] none_called t }
 
+  -- what it comes to by a poll, whatever that gave, it comes to by calls too
   pub poll_calls : (old new : SessionState X) (given : Progress) → Polls look old new given → HasCalls look old new
   poll_calls old new given p = record { calls = call_of look Polled new ∷ []; called = poll_called old new [] given none_called p }
 
@@ -225,6 +229,7 @@ module _ {X : Type 0} (look : X → LineView) where
   called_then first mid _ xs _ x (tick_called old new calls before t) = tick_called old new (calls ++ xs) (called_then first mid old xs calls x before) t
   called_then first mid _ xs _ x (line_lent old line calls before same) = line_lent old line (calls ++ xs) (called_then first mid old xs calls x before) same
 
+  -- calls, and then more calls, lead from the first session to the last
   pub calls_then : (first mid last : SessionState X) → HasCalls look first mid → HasCalls look mid last → HasCalls look first last
   calls_then first mid last x y = record { calls = y.calls ++ x.calls; called = called_then first mid last x.calls y.calls x.called y.called }
 
@@ -232,5 +237,6 @@ module _ {X : Type 0} (look : X → LineView) where
   waits_on first old _ h (waits_none _) = h
   waits_on first old _ h (waits_once _ mid new given polls none rest) = waits_on first mid new (calls_then first old mid h (poll_calls old mid given polls)) rest
 
+  -- what it comes to by polls that gave no end it comes to by calls
   pub waits_call : (old new : SessionState X) → Waits look old new → HasCalls look old new
   waits_call old new w = waits_on old old new (calls_none old) w

@@ -8,11 +8,11 @@ use Rattle.mux_frame.specs.Spelling.{body_of}
 use Rattle.modem_desk.specs.declared.request.Answer.TheVariants.{Opened, Stopped}
 use Rattle.modem_desk.specs.declared.request.Outcome.{Outcome}
 use Rattle.modem_history.specs.Acts.{Act, after}
-use Rattle.modem_history.specs.Wholes.{outcomes}
+use Rattle.modem_history.specs.Wholes.{IsPrefixOf, outcomes}
 use Rattle.modem_history.specs.Sessions.{SessionView, at_place, octets_of_frames, caller_outcomes, sents}
 use Rattle.modem_history.specs.SessionRows.{beginning}
 use Rattle.modem_history.proofs.rows.SessionTests.{nothing_before, told_is}
-use Rattle.modem_driver.specs.Endings.{Begins, HasEnded}
+use Rattle.modem_driver.specs.Endings.{HasEnded}
 use Rattle.modem_core.specs.Stops.{has_stopped}
 use Rattle.modem_driver.specs.EndingRows.{AreNoEndings, IsNoGoing, IsRightEnding, StaysEnded, stop_answered, ends_in, going_rows, later, ending_outcome, stopped_rows}
 use Rattle.modem_driver.proofs.sessions.polls.StopProgress.{stopped_after}
@@ -28,7 +28,7 @@ none_stopped = refl
 -- ## What is an end
 
 -- each caller has all of them
-all_placed : (c : ℕ) → Begins (at_place c beginning.desk.told ++ caller_outcomes c (outcomes (after [] stop_answered))) (at_place c ((ending_outcome 1 Opened ∷ ending_outcome 2 Stopped ∷ []) ∷ [] ∷ []))
+all_placed : (c : ℕ) → IsPrefixOf (at_place c beginning.desk.told ++ caller_outcomes c (outcomes (after [] stop_answered))) (at_place c ((ending_outcome 1 Opened ∷ ending_outcome 2 Stopped ∷ []) ∷ [] ∷ []))
 all_placed c =
     let os = outcomes (after [] stop_answered) in
     let told = (ending_outcome 1 Opened ∷ ending_outcome 2 Stopped ∷ []) ∷ [] ∷ [] in
@@ -71,16 +71,16 @@ whole past before (a ∷ since) e none some =
     let both : true ≡ false = sym (stopped_after n.rest before some) ∙ (ap has_stopped (sym older) ∙ none) in
     absurd (let x : true ≡ false = both in cc)
 
-too_short : {X : Type 0} (xs ys : List X) → length ys < length xs → Begins xs ys → ⊥
+too_short : {X : Type 0} (xs ys : List X) → length ys < length xs → IsPrefixOf xs ys → ⊥
 too_short xs ys less b = let all = sym (length-append xs b.rest) ∙ ap length b.joins in omega (arith, less, all)
 
 -- its beginning is the whole history, of which all must be written and told
 needs_all : (v : SessionView) → HasEnded beginning v (after [] stop_answered)
-    → Begins (beginning.line.sent ++ octets_of_frames (sents (after [] stop_answered))) v.line.sent × Begins (caller_outcomes 0 (outcomes (after [] stop_answered))) (at_place 0 v.desk.told)
+    → IsPrefixOf (beginning.line.sent ++ octets_of_frames (sents (after [] stop_answered))) v.line.sent × IsPrefixOf (caller_outcomes 0 (outcomes (after [] stop_answered))) (at_place 0 v.desk.told)
 needs_all v h =
     let same : h.before ≡ after [] stop_answered = whole (after [] stop_answered) h.before h.since h.past_is refl h.stopped in (
-      subst (λ (past : List Act). Begins (beginning.line.sent ++ octets_of_frames (sents past)) v.line.sent) same h.written,
-      subst (λ (past : List Act). Begins (caller_outcomes 0 (outcomes past)) (at_place 0 v.desk.told)) same (h.placed 0),
+      subst (λ (past : List Act). IsPrefixOf (beginning.line.sent ++ octets_of_frames (sents past)) v.line.sent) same h.written,
+      subst (λ (past : List Act). IsPrefixOf (caller_outcomes 0 (outcomes past)) (at_place 0 v.desk.told)) same (h.placed 0),
     )
 
 -- it has not while an octet or the Stop's outcome is missing

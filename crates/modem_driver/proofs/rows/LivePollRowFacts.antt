@@ -14,13 +14,12 @@ use Rattle.modem_desk.specs.declared.request.Urc.{Urc}
 use Rattle.modem_history.specs.Acts.{Act, Took, Got, Sent, Told, Heard, Tick, Lost, Held, Freed, Given, after}
 use Rattle.modem_history.specs.Calls.{Setting}
 use Rattle.modem_history.specs.Lawful.{Lawful, Allows, Gated, IsNext, When}
-use Rattle.modem_history.specs.Wholes.{taken_requests}
+use Rattle.modem_history.specs.Wholes.{IsPrefixOf, taken_requests}
 use Rattle.modem_history.specs.Sessions.{Beginning, LineView, driving, gots, at_place}
 use Rattle.modem_history.specs.Turns.{Read, TurnAnswer, amount, calls_made, counted, is_mark, may_act, may_fail, octets_read, octets_written}
 use Rattle.modem_history.specs.EveryTurn.{Handles, ReadsWhereFed, asked_in_vain, gets, waits}
 use Rattle.modem_history.proofs.law_proofs.SessionLaws.{begins_fitting}
 use Rattle.modem_history.specs.SessionLaws.{BeginsFitting}
-use Rattle.modem_driver.specs.Endings.{Begins}
 use Rattle.modem_driver.specs.SessionStates.{SessionState, Ticks, beginning_of, new_machine}
 use Rattle.modem_driver.specs.SessionTurns.{TakesTurn}
 use Rattle.modem_driver.specs.Polls.{MakesTurn, MovesOn, RunsTurns, ends, goes_on, has_ended, moves_none, moves_once, rests}
@@ -66,6 +65,7 @@ module _ {X : Type 0} (look : X → LineView) where
   moves_tick_none b past old _ _ _ (through_once n mid new before acts t moves going f turn steps) =
       none_ticks (may_act t.still_heard) refl acts before turn.acts_may ∙ moves_tick_none b past old mid n before moves
 
+  -- the turns of a poll add no tick to a session's history
   pub no_tick_in_a_poll : NoTickInAPoll look
   unfolding NoTickInAPoll
   no_tick_in_a_poll b past _ old new _ (all_through now moves) = moves_tick_none b past old new 64 now moves
@@ -185,6 +185,7 @@ module _ {X : Type 0} (look : X → LineView) where
   called old _ _ fed few s (moves_once n mid new moves turn) =
       calls_on old mid new n fed few (called old mid n fed few s moves) (turned_so mid new TurnAnswer.Moved (moves_keep old mid n s moves) turn)
 
+  -- where all that came was fed and the session hasn't ended, a poll without a fault calls the line
   pub reads_the_line : ReadsTheLine look
   unfolding ReadsTheLine
   reads_the_line old new _ s fed going few (goes_on moves) = (called old new 64 fed few s moves).some_more (lit≤ tt)
@@ -196,6 +197,7 @@ module _ {X : Type 0} (look : X → LineView) where
   reads_the_line old new _ s fed going few (rests n mid says small moves turn other) =
       (calls_on old mid new n fed few (called old mid n fed few s moves) (turned_so mid new says (moves_keep old mid n s moves) turn)).some_more (omega arith)
 
+  -- where all that came was fed and it hasn't ended, what a tick comes to is no poll without a fault
   pub no_tick_is_a_poll : NoTickIsAPoll look
   unfolding NoTickIsAPoll ReadsTheLine Ticks
   no_tick_is_a_poll old new more s fed going few ticks runs =
@@ -219,6 +221,7 @@ module _ {X : Type 0} (look : X → LineView) where
       let one = asks_on mid new (turned_so mid new TurnAnswer.Moved (moves_keep old mid n s moves) turn) in
       omega (arith, before, one)
 
+  -- a poll without a fault finds the desk without a request 64 times at most
   pub asks_per_turn : AsksPerTurn look
   unfolding AsksPerTurn
   asks_per_turn old new _ s (goes_on moves) = asked old new 64 s moves
@@ -234,7 +237,7 @@ prefix_none : {A : Type 0} (xs ys : List A) → xs ++ ys ≡ [] → xs ≡ []
 prefix_none [] ys e = refl
 prefix_none (x ∷ xs) ys e = let h : ⊥ = cc in absurd h
 
-begins_none : {A : Type 0} (xs ys : List A) → Begins xs ys → ys ≡ [] → xs ≡ []
+begins_none : {A : Type 0} (xs ys : List A) → IsPrefixOf xs ys → ys ≡ [] → xs ≡ []
 begins_none xs ys h none = prefix_none xs h.rest (h.joins ∙ none)
 
 amount_none : {A : Type 0} (xss : List (List A)) → ((c : ℕ) → at_place c xss ≡ []) → amount xss ≡ 0

@@ -1,6 +1,6 @@
 -- Commands that begin one after the other.
 use Rattle.std.specs.Prelude.{◌≡◌, ℕ, suc, ◌+◌, Bool, true, false, List, [], ◌∷◌, ◌++◌, length, filter, map, refl, if◌then◌else◌, Option, Some, None}
-use Rattle.std.proofs.Common.{ap, sym, ◌∙◌, subst, arith, append-nil, append_assoc}
+use Rattle.std.proofs.Common.{ap, sym, ◌∙◌, arith}
 use Rattle.at_text.specs.Dialects.{Dialect}
 use Rattle.at_text.specs.Windows.{Mark, Line, Begun, Window, lines_of, answer, answers, answered, has_final, windows, last_window, answer_of, is_answered, open_of, open_window}
 use Rattle.std.specs.List.{last_or}
@@ -31,11 +31,6 @@ order_line dialect [] line h = tt
 order_line dialect (Line l ∷ ms) line h = order_line dialect ms line h
 order_line dialect (Begun c ∷ ms) line h =
     ((λ b. ap (λ (v : List (List ℕ)). has_final dialect (answer dialect c v)) (lines_more ms line) ∙ final_stays dialect c (lines_of ms) line (h.0 (sym (begun_same ms line) ∙ b))), order_line dialect ms line h.1)
-
--- many lines more
-pub order_lines : (dialect : Dialect) (ls : List (List ℕ)) (ms : List Mark) → IsInOrder dialect ms → IsInOrder dialect (ms ++ map Line ls)
-order_lines dialect [] ms h = subst (IsInOrder dialect) (sym (append-nil ms)) h
-order_lines dialect (l ∷ ls) ms h = subst (IsInOrder dialect) (append_assoc ms (Line l ∷ []) (map Line ls)) (order_lines dialect ls (ms ++ Line l ∷ []) (order_line dialect ms l h))
 
 -- without a command there is no window, and with one there is
 no_window : (ms : List Mark) → has_begun ms ≡ false → windows ms ≡ []

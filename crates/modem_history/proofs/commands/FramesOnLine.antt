@@ -19,25 +19,30 @@ use Rattle.modem_history.proofs.connections.InformationGrowth.{got_grows, got_sa
 -- ## Elements in the same order
 
 module _ {A : Type 0} where
+  -- the empty list stands in any other
   pub among_none : (ys : List A) → IsAmong [] ys
   among_none [] = none
   among_none (y ∷ ys) = leaves y [] ys (among_none ys)
 
+  -- a list stands in itself
   pub among_same : (xs : List A) → IsAmong xs xs
   among_same [] = none
   among_same (x ∷ xs) = takes x xs xs (among_same xs)
 
+  -- where each of two lists stands in another, their join stands in the join of those
   pub among_both : (xs ys us vs : List A) → IsAmong xs ys → IsAmong us vs → IsAmong (xs ++ us) (ys ++ vs)
   among_both _ _ us vs none h = h
   among_both _ _ us vs (takes x xs ys k) h = takes x (xs ++ us) (ys ++ vs) (among_both xs ys us vs k h)
   among_both _ _ us vs (leaves y xs ys k) h = leaves y (xs ++ us) (ys ++ vs) (among_both xs ys us vs k h)
 
+  -- what stands in a list stands in each list in which that one does
   pub among_then : (xs ys zs : List A) → IsAmong xs ys → IsAmong ys zs → IsAmong xs zs
   among_then xs _ _ h none = h
   among_then xs _ _ h (leaves z ys zs k) = leaves z xs zs (among_then xs ys zs h k)
   among_then _ _ _ (takes x xs ys h) (takes _ _ zs k) = takes x xs zs (among_then xs ys zs h k)
   among_then _ _ _ (leaves y xs ys h) (takes _ _ zs k) = leaves y xs zs (among_then xs ys zs h k)
 
+  -- what stands in a list stands in it still with more behind it
   pub among_more : (xs ys vs : List A) → IsAmong xs ys → IsAmong xs (ys ++ vs)
   among_more xs ys vs h = subst (λ zs. IsAmong zs (ys ++ vs)) (append-nil xs) (among_both xs ys [] vs h (among_none vs))
 

@@ -47,9 +47,6 @@ commands_both d xs ys = filter-append (commands_on d) xs ys
 
 -- ## A command on d
 
-if_full : (b : Bool) (rest : Option Answer) → (if false then Some LineLost else (if b then Some Busy else rest)) ≡ (if b then Some Busy else rest)
-if_full b rest = refl
-
 -- while d is open it is accepted, but for want of a place
 pub command_once : (s : Setting) (v : HistoryView) (q : Request) (d : ℕ) → v.lost ≡ false → (d == 0) ≡ false → is_opened (v.state d) ≡ true → (ask : Ask) → q.ask ≡ ask → command_on d ask ≡ true
     → at_once s v q ≡ (if nat_le 128 (length v.hand) then Some Busy else None)

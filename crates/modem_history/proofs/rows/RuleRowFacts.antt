@@ -19,7 +19,7 @@ use Rattle.modem_history.specs.Rules.{Made, may_begin, nothing, call}
 use Rattle.modem_history.specs.RuleRows.{IsMade, IsUnmade, unmade_rows, told_behind_the_next, given_inside_a_call, lost_inside_a_call, half_a_command, out_of_turn, taken_past_128}
 use Rattle.modem_history.proofs.rules.MadeLaws.{laws_of, made_after_out}
 use Rattle.modem_history.proofs.rows.HistoryTests.{Step, Call, Data, Mark, steps_of, is_nil, act_code}
-use Rattle.modem_history.proofs.rows.HistoryRowFacts.{all_refused, all_incomplete}
+use Rattle.modem_history.proofs.rows.BadRowFacts.{all_refused, all_incomplete}
 use Rattle.modem_history.proofs.rows.SessionTests.{calls_test, data_out, one_out, next_outs, one_next, octets_differ}
 
 -- ## Histories that the rules make

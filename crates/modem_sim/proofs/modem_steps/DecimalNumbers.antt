@@ -68,10 +68,6 @@ digit_plain c is = grind (arith, nat_tests)
 plain_decimal : (n : ℕ) → n < 256 → list_all is_plain (decimal n) ≡ true
 plain_decimal n small = all_weaker is_digit is_plain digit_plain (decimal n) (spelt n (omega arith)).all
 
--- a number before a comma is a parameter
-pub number_param : (n : ℕ) (rest : List ℕ) → n < 256 → divided false (decimal n ++ 44 ∷ rest) ≡ decimal n ∷ divided false rest
-number_param n rest small = divided-plain false (decimal n) (44 ∷ rest) (plain_decimal n small) ∙ put_text-ended (decimal n) (divided false rest)
-
 -- also behind a blank
 pub blank_number_param : (n : ℕ) (rest : List ℕ) → n < 256 → divided false (32 ∷ (decimal n ++ 44 ∷ rest)) ≡ (32 ∷ decimal n) ∷ divided false rest
 blank_number_param n rest small = divided-plain false (32 ∷ decimal n) (44 ∷ rest) (plain_decimal n small) ∙ put_text-ended (32 ∷ decimal n) (divided false rest)

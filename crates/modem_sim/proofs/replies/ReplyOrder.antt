@@ -17,6 +17,7 @@ use Rattle.at_text.specs.Lines.{lines, kept_run}
 use Rattle.at_text.proofs.lines.UnfinishedLines.{reads_on}
 use Rattle.modem_history.specs.Connections.{carries, lines_ended, lines_with}
 use Rattle.modem_history.specs.TwoEnds.{frames_got}
+use Rattle.modem_history.specs.Wholes.{IsPrefixOf}
 use Rattle.modem_history.proofs.commands.FramesOnLine.{asked_first, asks_fewer, none_asked, sabm_carries_none}
 use Rattle.modem_history.proofs.connections.InformationGrowth.{is_got, opens_none}
 use Rattle.modem_sim.specs.declared.script.StepAct.TheVariants.{Announce, Flow, Hold, Disconnect, CloseDown}
@@ -27,7 +28,7 @@ use Rattle.modem_sim.specs.Acts.{Act, Wire, Did, End, wire, is_open_at_modem}
 use Rattle.modem_sim.specs.Heard.{heard, texts_of, modem_after}
 use Rattle.modem_sim.specs.Pieces.{Piece, Announced, reply, replies, asked_for}
 use Rattle.modem_sim.specs.Outboxes.{Outbox, empty_box, outbox, dropped, said_after, replies_by, replies_after, replies_since}
-use Rattle.modem_sim.specs.Replied.{IsAskedOnce, IsFirstOf, SendsReplies, all_of, replied_on, text_of, written_for}
+use Rattle.modem_sim.specs.Replied.{IsAskedOnce, SendsReplies, all_of, replied_on, text_of, written_for}
 use Rattle.modem_sim.proofs.law_proofs.Histories.{leaves_in_pieces}
 use Rattle.modem_sim.proofs.connections.Outboxes.{says_replies, asked_for-append}
 use Rattle.modem_sim.proofs.replies.PieceLines.{lines_said, asked_lines, says_sound}
@@ -35,11 +36,11 @@ use Rattle.modem_sim.proofs.replies.PieceLines.{lines_said, asked_lines, says_so
 -- ## Beginnings
 
 module _ {A : Type 0} where
-  all_first : (xs : List A) → IsFirstOf xs xs
-  all_first xs = record { later = []; joins = append-nil xs }
+  all_first : (xs : List A) → IsPrefixOf xs xs
+  all_first xs = record { rest = []; joins = append-nil xs }
 
-  first_more : (xs ys zs : List A) → IsFirstOf xs ys → IsFirstOf xs (ys ++ zs)
-  first_more xs ys zs is = record { later = is.later ++ zs; joins = sym (append_assoc xs is.later zs) ∙ ap (λ x. x ++ zs) is.joins }
+  first_more : (xs ys zs : List A) → IsPrefixOf xs ys → IsPrefixOf xs (ys ++ zs)
+  first_more xs ys zs is = record { rest = is.rest ++ zs; joins = sym (append_assoc xs is.rest zs) ∙ ap (λ x. x ++ zs) is.joins }
 
 -- ## What is said is a beginning of the replies
 
@@ -47,10 +48,10 @@ one_announced : (here : Bool) (line : List ℕ) (b : Outbox) → asked_for (if h
 one_announced true line b = asked_for-append b.said (Announced line ∷ []) ∙ append-nil (asked_for b.said)
 one_announced false line b = refl
 
-same_first : (xs ys zs : List Piece) → xs ≡ ys → IsFirstOf ys zs → IsFirstOf xs zs
-same_first xs ys zs same is = record { later = is.later; joins = ap (λ x. x ++ is.later) same ∙ is.joins }
+same_first : (xs ys zs : List Piece) → xs ≡ ys → IsPrefixOf ys zs → IsPrefixOf xs zs
+same_first xs ys zs same is = record { rest = is.rest; joins = ap (λ x. x ++ is.rest) same ∙ is.joins }
 
-replies_more : (e : End) (d : ℕ) (past : List Act) (a : station.Act) (xs old : List Piece) → IsFirstOf xs old → IsFirstOf xs (replies_after e d past a old)
+replies_more : (e : End) (d : ℕ) (past : List Act) (a : station.Act) (xs old : List Piece) → IsPrefixOf xs old → IsPrefixOf xs (replies_after e d past a old)
 replies_more e d past (station.Got f) xs old is = first_more xs old (replies_by e d past f) is
 replies_more e d past (station.Called c) xs old is = is
 replies_more e d past (station.Sent f) xs old is = is
@@ -58,14 +59,14 @@ replies_more e d past station.Tick xs old is = is
 replies_more e d past station.Lost xs old is = is
 replies_more e d past station.Given xs old is = is
 
-shut_first : (e : End) (d : ℕ) (past : List Act) (a : station.Act) (b : Outbox) (old : List Piece) (opens there : Bool) → (opens || there) ≡ false → IsFirstOf (asked_for b.said) old
-    → IsFirstOf (asked_for (if opens then empty_box else if there && not opens then said_after e d past a b else dropped b).said) (if opens then [] else replies_after e d past a old)
+shut_first : (e : End) (d : ℕ) (past : List Act) (a : station.Act) (b : Outbox) (old : List Piece) (opens there : Bool) → (opens || there) ≡ false → IsPrefixOf (asked_for b.said) old
+    → IsPrefixOf (asked_for (if opens then empty_box else if there && not opens then said_after e d past a b else dropped b).said) (if opens then [] else replies_after e d past a old)
 shut_first e d past a b old true there shut is = cc
 shut_first e d past a b old false true shut is = cc
 shut_first e d past a b old false false shut is = replies_more e d past a (asked_for b.said) old is
 
 -- what is said on d, without what is announced, is the beginning of the replies since d opened
-pub says_first : (e : End) (past : List Act) (d : ℕ) → IsFirstOf (asked_for (outbox e d past).said) (replies_since e d past)
+pub says_first : (e : End) (past : List Act) (d : ℕ) → IsPrefixOf (asked_for (outbox e d past).said) (replies_since e d past)
 says_first e [] d = all_first []
 says_first e (Did (Announce x line) ∷ past) d = same_first _ (asked_for (outbox e d past).said) (replies_since e d past) (one_announced (x.number == d) line (outbox e d past)) (says_first e past d)
 says_first e (Did (Flow x go) ∷ past) d = says_first e past d
@@ -74,8 +75,8 @@ says_first e (Did (Disconnect x) ∷ past) d = says_first e past d
 says_first e (Did CloseDown ∷ past) d = says_first e past d
 says_first e (Wire a ∷ past) d = by_open (is_open_at_modem d (Wire a ∷ past)) refl (says_first e past d)
   where
-    by_open : (b : Bool) → is_open_at_modem d (Wire a ∷ past) ≡ b → IsFirstOf (asked_for (outbox e d past).said) (replies_since e d past) → IsFirstOf (asked_for (outbox e d (Wire a ∷ past)).said) (replies_since e d (Wire a ∷ past))
-    by_open true is before = record { later = asked_for (outbox e d (Wire a ∷ past)).held; joins = says_replies e (Wire a ∷ past) d is }
+    by_open : (b : Bool) → is_open_at_modem d (Wire a ∷ past) ≡ b → IsPrefixOf (asked_for (outbox e d past).said) (replies_since e d past) → IsPrefixOf (asked_for (outbox e d (Wire a ∷ past)).said) (replies_since e d (Wire a ∷ past))
+    by_open true is before = record { rest = asked_for (outbox e d (Wire a ∷ past)).held; joins = says_replies e (Wire a ∷ past) d is }
     by_open false is before =
         shut_first e d past a (outbox e d past) (replies_since e d past) (opens_now Responder d (wire past) a) (belongs Responder d (wire past) a) is before
 
@@ -222,8 +223,8 @@ since_are e d (Wire station.Given ∷ past) once = since_are e d past once
 
 -- ## All together
 
-filtered_first : (xs later ys : List (List ℕ)) → xs ++ later ≡ ys → IsFirstOf (filter (is_solicited standard) xs) (filter (is_solicited standard) ys)
-filtered_first xs later ys joins = record { later = filter (is_solicited standard) later; joins = sym (filter-append (is_solicited standard) xs later) ∙ ap (filter (is_solicited standard)) joins }
+filtered_first : (xs later ys : List (List ℕ)) → xs ++ later ≡ ys → IsPrefixOf (filter (is_solicited standard) xs) (filter (is_solicited standard) ys)
+filtered_first xs later ys joins = record { rest = filter (is_solicited standard) later; joins = sym (filter-append (is_solicited standard) xs later) ∙ ap (filter (is_solicited standard)) joins }
 
 -- what left on a connection that was asked for once is, without unsolicited lines, the beginning of its replies
 pub sends_replies : (e : End) (past : List Act) → SendsReplies e past
@@ -236,12 +237,12 @@ sends_replies e past lawful modem un d once =
     sym (reads_on (data_out Responder d (wire past)) left.rest).reads_kept ∙ ap lines left.joins ∙ lines_said said sound in
     let first = filtered_first (lines (data_out Responder d (wire past))) _ (map text_of said) read in
     let told = says_first e past d in
-    let texts : map text_of (asked_for said) ++ map text_of told.later ≡ all_of (replied_on e.echo d e.modem (heard past)) =
-    sym (map-append text_of (asked_for said) told.later) ∙ ap (map text_of) told.joins ∙ since_are e d past once in
+    let texts : map text_of (asked_for said) ++ map text_of told.rest ≡ all_of (replied_on e.echo d e.modem (heard past)) =
+    sym (map-append text_of (asked_for said) told.rest) ∙ ap (map text_of) told.joins ∙ since_are e d past once in
     let second = filtered_first (map text_of (asked_for said)) _ (all_of (replied_on e.echo d e.modem (heard past))) texts in
     record {
-      later = first.later ++ second.later;
-      joins = sym (append_assoc (filter (is_solicited standard) (lines (data_out Responder d (wire past)))) first.later second.later)
-          ∙ ap (λ x. x ++ second.later) (first.joins ∙ asked_lines said sound)
+      rest = first.rest ++ second.rest;
+      joins = sym (append_assoc (filter (is_solicited standard) (lines (data_out Responder d (wire past)))) first.rest second.rest)
+          ∙ ap (λ x. x ++ second.rest) (first.joins ∙ asked_lines said sound)
           ∙ second.joins;
     }

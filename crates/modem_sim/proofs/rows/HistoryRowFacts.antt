@@ -64,7 +64,7 @@ leaves {past} d info later data_is live there goes some fits next good =
     (record { live = live; is_open = there; goes = goes; as_written = refl; some = some; fits = fits; behind = good.complete; later = later; is_offered = next })
     good
 
--- a frame comes; one is given on; octets are offered; another call
+-- a frame comes
 pub got : {past : List station.Act} (k : Kind) (d : ℕ) (info : List ℕ) → GoodThere end past → GoodThere end (after_act end past (station.Got (written Initiator k d info)))
 got k d info good = with_frames (station.Got (written Initiator k d info)) refl good
 

@@ -15,10 +15,11 @@ use Rattle.modem_sim.specs.Cores.{holds_over, box_at}
 use Rattle.modem_sim.specs.Boxes.{is_released}
 use Rattle.modem_sim.specs.Polls.{Says}
 use Rattle.mux_frame.specs.Frames.{Frame}
-use Rattle.modem_sim.specs.Turns.{IsAtRest, IsHeldUp, IsIdle, IsLeft, NoneCanBeDone, Write, at_rest, frame_at_hand, has_changed, hold_is_over, is_fewer, line_is_full, step_is_due}
+use Rattle.modem_sim.specs.Turns.{IsAtRest, IsHeldUp, IsIdle, IsLeft, NoneCanBeDone, at_rest, frame_at_hand, has_changed, hold_is_over, is_fewer, line_is_full, step_is_due}
 use Rattle.modem_sim.specs.HistoryRows.{announcing, one, plain, ready_one, silent, step_at}
 use Rattle.modem_sim.specs.TurnRows.{ComesTo, EndRows, IsStill, MovedRows, OneWaits, RightIdle, WantRows, WrongFailures, WrongGivings, WrongIdle, nothing_asked, offered_one, only_read, unseen}
 use Rattle.modem_sim.proofs.rows.RefusedRowFacts.{said_nothing}
+use Rattle.modem_history.specs.Turns.{Write}
 
 none_left : (next : Step) (later : List Step) → [] ≡ next ∷ later → ⊥
 none_left next later same = cc

@@ -17,10 +17,11 @@ use Rattle.modem_sim.specs.declared.sim.SimTurn.TheVariants.{Moved}
 use Rattle.modem_sim.specs.Acts.{Act, after}
 use Rattle.modem_sim.specs.Cores.{after_wire_act}
 use Rattle.modem_sim.specs.Sims.{SimState, is_ended}
-use Rattle.modem_sim.specs.Turns.{DoesSteps, Exchange, GoesTurn, HandsOn, Means, NoneIsThere, Offers, Read, TakesAtHand, Write, calls_made, count_after, has_done, has_no_room, has_room_for, is_taken, none_at_hand}
+use Rattle.modem_sim.specs.Turns.{DoesSteps, Exchange, GoesTurn, HandsOn, Means, NoneIsThere, Offers, TakesAtHand, count_after, has_done, has_no_room, has_room_for, is_taken, none_at_hand}
 use Rattle.modem_sim.specs.HistoryRows.{announcing, comes, one, plain, ready_one, sends, silent}
 use Rattle.modem_sim.specs.TurnRows.{CallsNothing, WrongCalls, WrongCounts, WrongTurns, unseen}
 use Rattle.modem_sim.proofs.rows.TurnRowFacts.{due_now, none_some, stays}
+use Rattle.modem_history.specs.Turns.{Read, Write, calls_made}
 
 no : {P : Type 0} → false ≡ true → P
 no is = cc

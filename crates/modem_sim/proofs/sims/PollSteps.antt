@@ -172,6 +172,7 @@ module _ {X : Type 0} (see : X → LineView) where
     says = λ none. says_behind old new gives.new given (poll_sound old new none once) (gives.says (poll_end old new none once));
   }
 
+  -- what the next poll gives is what it gives from here on
   pub gives_now : (old new : SimState X) (given : Result SimTurn SimError) → Polls see old new (Some given) → Gives see old given
   gives_now old new given polls = record { mid = old; new = new; waits = waits_none old; waited = sim_none see old; polls = polls; polled = poll_goes old new (Some given) polls; says = λ none. poll_so old new given none polls }
 

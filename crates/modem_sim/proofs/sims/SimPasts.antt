@@ -22,11 +22,12 @@ use Rattle.modem_sim.specs.Acts.{Act, Wire, End, any_act, setting, wire}
 use Rattle.modem_sim.specs.Cores.{Core, Goes, EndGoesOn, GivesOut, IsGivenOn, IsLater, after_wire_act, gone_on}
 use Rattle.modem_sim.specs.Sims.{SimMachine, SimMachineFits, SimMachineGoes, SimState, SimGoes, Simulates, IsOver, is_ended}
 use Rattle.modem_sim.specs.Stills.{ReadsOnce, SimMachineStays, TakesFrame, Writes}
-use Rattle.modem_sim.specs.Turns.{left_of, octets_read, octets_written}
+use Rattle.modem_sim.specs.Turns.{left_of}
 use Rattle.modem_sim.proofs.ends.EndAfterFrame.{later-sent_after}
 use Rattle.modem_sim.proofs.ends.OfferedPieces.{later_then}
 use Rattle.mux_station.proofs.law_proofs.PlainFrames.{plain_short}
 use Rattle.modem_sim.proofs.sims.WrittenFrames.{goes_out_plain}
+use Rattle.modem_history.specs.Turns.{octets_read, octets_written}
 
 -- all acts are of any kind
 pub all_any : (acts : List Act) → list_all any_act acts ≡ true

@@ -10,7 +10,7 @@ use Rattle.serial_line.specs.LineViews.{LineView}
 use Rattle.modem_sim.specs.Acts.{Act, Wire, Did, End, is_handing, is_step_act, setting, wire}
 use Rattle.modem_sim.specs.Cores.{IsGivenOn, IsLater, after_wire_act, from_queue, sent_now}
 use Rattle.modem_sim.specs.Sims.{FitsSim, SimMachine, SimMachineFits}
-use Rattle.modem_sim.specs.Turns.{PutsNext, TakesAtHand, Write, has_no_room, is_work, is_put, is_taken, left_of, none_at_hand, none_is_there, octets_read, octets_written, some_are_left}
+use Rattle.modem_sim.specs.Turns.{PutsNext, TakesAtHand, has_no_room, is_work, is_put, is_taken, left_of, none_at_hand, none_is_there, some_are_left}
 use Rattle.modem_sim.specs.Stills.{GoesOnce, Loads, TakesFrame, TakesNone, WentOn, at_line, puts, puts_none, some_wait}
 use Rattle.modem_sim.proofs.law_proofs.Histories.{does_in_order}
 use Rattle.modem_sim.proofs.ends.EndAfterFrame.{later-sent_after}
@@ -18,6 +18,7 @@ use Rattle.modem_sim.proofs.ends.OfferedPieces.{later_then}
 use Rattle.modem_sim.proofs.sims.IdleTurns.{no_room, none_can_be_done, some_room}
 use Rattle.modem_sim.proofs.sims.SimPasts.{later_act}
 use Rattle.modem_sim.proofs.sims.WholeTurns.{Went, came_at_end, deals_so, leaves_so, left_at, moves_so, out_at_end, sent_at_end, still_so}
+use Rattle.modem_history.specs.Turns.{Write, octets_read, octets_written}
 
 -- ## Work
 
@@ -237,6 +238,7 @@ module _ {X : Type 0} (see : X → LineView) (l0 l2 l5 : X) (k0 k1 k2 k3 k4 k5 k
         moves = moves_so see l0 l2 l5 k0 k1 k2 k3 k4 k5 k6 done count loads took came fed w all.later.newer (all.brings ∙ ap (λ (b : Bool). took || b) (or_none w.loads.some));
       }
 
+  -- a turn does each of its parts once, and moves just where one of them did something
   pub goes_once : GoesOnce see (at_line l0 k0) (at_line l5 k6) (((((done || nat_lt 0 count) || loads) || took) || came) || fed)
   goes_once = record {
     exchange = record { write = w.writes.write; read = w.reads.read };

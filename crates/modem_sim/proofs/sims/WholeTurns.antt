@@ -11,8 +11,9 @@ use Rattle.serial_line.specs.LineViews.{LineView}
 use Rattle.modem_sim.specs.Acts.{Act, is_step_act}
 use Rattle.modem_sim.specs.Cores.{Core, HasNoneToDo, HasPassed, IsHandedOn, holds_over}
 use Rattle.modem_sim.specs.Sims.{SimMachine, SimMachineGoes, SimState}
-use Rattle.modem_sim.specs.Turns.{Exchanges, Leaves, Offers, Read, Write, calls_made, count_after, empty_after, has_changed, has_moved, is_fewer, is_work, left_of, octets_read, octets_written}
+use Rattle.modem_sim.specs.Turns.{Exchanges, Leaves, Offers, count_after, empty_after, has_changed, has_moved, is_fewer, is_work, left_of}
 use Rattle.modem_sim.specs.Stills.{Feeds, FeedsNone, HasLoaded, HasNoneToLoad, Loads, LoadsBy, LoadsNone, ReadsOnce, StoodStill, TakesFrame, TakesNone, Writes, at_line, let_go, puts, puts_none, ready, some_wait}
+use Rattle.modem_history.specs.Turns.{Read, Write, calls_made, octets_read, octets_written}
 
 -- ## What moved
 
@@ -104,6 +105,7 @@ module _ {X : Type 0} (see : X → LineView) (l0 l2 l5 : X) (k0 k1 k2 k3 k4 k5 k
 
   -- ## What stays in the parts that come after
 
+  -- reading and feeding leave the core
   pub core_at_end : k6.core ≡ k4.core
   core_at_end = ap (λ (k : SimMachine). k.core) w.feed_rest ∙ ap (λ (k : SimMachine). k.core) w.reads.kept
 
@@ -111,18 +113,22 @@ module _ {X : Type 0} (see : X → LineView) (l0 l2 l5 : X) (k0 k1 k2 k3 k4 k5 k
   steps_at_end =
       ap (λ (c : Core). c.steps) core_at_end ∙ w.take_steps ∙ w.load_steps ∙ ap (λ (k : SimMachine). k.core.steps) w.writes.kept
 
+  -- taking a frame, reading and feeding leave the output
   pub out_at_end : k6.out ≡ k3.out
   out_at_end =
       ap (λ (k : SimMachine). k.out) w.feed_rest ∙ ap (λ (k : SimMachine). k.out) w.reads.kept ∙ ap (λ (k : SimMachine). k.out) w.take_rest
 
+  -- until the line is read the same octets wait for the deframer
   pub unfed_before : k4.unfed ≡ k0.unfed
   unfed_before =
       ap (λ (k : SimMachine). k.unfed) w.take_rest ∙ ap (λ (k : SimMachine). k.unfed) w.load_rest ∙ ap (λ (k : SimMachine). k.unfed) w.writes.kept
       ∙ ap (λ (k : SimMachine). k.unfed) w.steps_rest
 
+  -- of the whole turn, the write alone adds to what was sent on the line
   pub sent_at_end : (see l5).sent ≡ (see l0).sent ++ octets_written w.writes.write
   sent_at_end = w.reads.none_went ∙ w.writes.went
 
+  -- and the read alone adds to what came from it
   pub came_at_end : (see l5).received ≡ (see l0).received ++ octets_read w.reads.read
   came_at_end = w.reads.came_are ∙ ap (λ xs. xs ++ octets_read w.reads.read) w.writes.none_came
 
@@ -268,6 +274,7 @@ module _ {X : Type 0} (see : X → LineView) (l0 l2 l5 : X) (k0 k1 k2 k3 k4 k5 k
           let all_false = none_of done (nat_lt 0 count) loaded took came fed is in
           neither (list_any is_work acts) _ (same ∙ neither took w.loads.some all_false.not_took (w.loads.none all_false.not_loaded)) (none_changed (all_same all_false)) ∙ sym is
 
+  -- where no part did anything, none could
   pub still_so : moved ≡ false → StoodStill k6 (record { write = w.writes.write; read = w.reads.read })
   still_so is =
       let all_false = none_of done (nat_lt 0 count) loaded took came fed is in
@@ -298,6 +305,7 @@ module _ {X : Type 0} (see : X → LineView) (l0 l2 l5 : X) (k0 k1 k2 k3 k4 k5 k
 
   -- ## At the line
 
+  -- what the turn exchanged with its line are its write and its read
   pub deals_so : Exchanges see s0 s6 (record { write = w.writes.write; read = w.reads.read })
   deals_so = record {
     came = came_at_end;
@@ -315,6 +323,7 @@ module _ {X : Type 0} (see : X → LineView) (l0 l2 l5 : X) (k0 k1 k2 k3 k4 k5 k
       both_made (Some a) None = refl
       both_made (Some a) (Some b) = refl
 
+  -- behind the write the output has what the line didn't take
   pub left_at : k2.out ≡ left_of w.writes.write k0.out
   left_at = ap (λ (k : SimMachine). k.out) w.writes.kept ∙ ap (λ (k : SimMachine). left_of w.writes.write k.out) w.steps_rest
 
@@ -324,6 +333,7 @@ module _ {X : Type 0} (see : X → LineView) (l0 l2 l5 : X) (k0 k1 k2 k3 k4 k5 k
   passed_so : HasPassed k0.core k6.core
   passed_so = record { passed = w.steps_passed.passed; joins = w.steps_passed.joins ∙ ap (λ xs. w.steps_passed.passed ++ xs) (sym steps_at_end) }
 
+  -- the turn takes steps and octets in their order, and what the line didn't take waits for the next
   pub leaves_so : Leaves k0 k6 (record { write = w.writes.write; read = w.reads.read })
   leaves_so = record {
     reads = λ none. w.reads.reads (unfed_before ∙ none);

@@ -181,6 +181,7 @@ module _ (n1 passed start : ℕ) (front back left : List ℕ) (old : Buffer ℕ)
   goes_on : left ++ back ≡ all_left
   goes_on = ap (λ z. z ++ back) k ∙ sym (drop-append-le passed front back l) ∙ ap (drop passed) both
 
+  -- what is left of the first slice is of octets
   pub sought_octets : AreOctets left
   sought_octets = subst AreOctets (sym k) (octets-drop passed front (octets-front front back (subst AreOctets (sym both) o)))
 
@@ -215,6 +216,7 @@ module _ (n1 failed place start : ℕ) (front back text left : List ℕ) (old : 
   begin_left : left ≡ drop (failed + 1 + place) front
   begin_left = d ∙ ap (drop place) k ∙ drop-drop place (failed + 1) front
 
+  -- what is left behind the failed candidate is of octets
   pub behind_octets : AreOctets left
   behind_octets = sought_octets n1 (failed + 1 + place) start front back left old o both begin_within begin_left
 
@@ -234,8 +236,10 @@ module _ (n1 failed place start : ℕ) (front back text left : List ℕ) (old : 
       let d : drop (1 + place) (drop failed old.items) ≡ drop (failed + 1 + place) old.items = drop-drop (1 + place) failed old.items ∙ ap (λ i. drop i old.items) (omega arith) in
       settles_then n1 (1 + place) (buffer (drop failed old.items) old.capacity) new r behind_passed (subst (λ z. Settles n1 (buffer z old.capacity) new r) (sym d) t)
 
+  -- a whole frame was found behind the failed candidate
   pub found_behind : (check_place : ℕ) (new : Buffer ℕ) → IsSearched n1 left start (Some check_place) → new ≡ buffer (drop (failed + 1 + place + start) old.items) old.capacity → Settles n1 (buffer (drop failed old.items) old.capacity) new (Some check_place)
   found_behind check_place new q n = settles_behind new (Some check_place) (settles_found n1 (failed + 1 + place) start front back left old o both begin_within begin_left check_place new q n)
 
+  -- up to a later place no frame begins behind it either, and what settles from there on settles all
   pub on_behind : (new : Buffer ℕ) (r : Option ℕ) → IsPassed n1 left start → Settles n1 (buffer (drop (failed + 1 + place + start) old.items) old.capacity) new r → Settles n1 (buffer (drop failed old.items) old.capacity) new r
   on_behind new r p t = settles_behind new r (settles_on n1 (failed + 1 + place) start front back left old o both begin_within begin_left new r p t)

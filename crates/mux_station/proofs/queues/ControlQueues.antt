@@ -122,28 +122,35 @@ unfolding read_frames
 none_seen octets capacity e = queue_same _ _ _ _ refl (ap (λ (b : Buffer ℕ). b.capacity) e)
 
 module _ (q : ControlQueue) (octets : List ℕ) (count room : ℕ) (e : queue_with (read_frames count octets) room ≡ q) where
+  -- as many frames are counted as the queue has
   pub seen_many : count ≡ length q.frames
   seen_many = sym (frames_many count octets) ∙ ap (λ (w : ControlQueue). length w.frames) e
 
+  -- octets that spell so many frames are as many as the queue's frames have as written
   pub seen_octets : AreSpelled octets count → length octets ≡ octets_of q.frames
   seen_octets s = octets_counted octets count s ∙ ap (λ (w : ControlQueue). octets_of w.frames) e
 
+  -- the room is that of the queue
   pub seen_room : room ≡ q.room
   seen_room = ap (λ (w : ControlQueue). w.room) e
 
+  -- the frame that is read at an index is the queue's there
   pub seen_at : (index : ℕ) → slice_get (read_frames count octets) index ≡ slice_get q.frames index
   seen_at index = ap (λ (w : ControlQueue). slice_get w.frames index) e
 
+  -- where one more frame is read behind them, in the same room, the queue has it behind its frames
   pub seen_put : (f : Frame) (new : Buffer ℕ) (n : ℕ) → read_frames n new.items ≡ read_frames count octets ++ f ∷ [] → new.capacity ≡ room → queue_with (read_frames n new.items) new.capacity ≡ record q { frames = q.frames ++ f ∷ [] }
   seen_put f new n put same =
       queue_same _ _ _ _ put same
       ∙ ap (λ (w : ControlQueue). let v : ControlQueue = record w { frames = w.frames ++ f ∷ [] } in v) e
 
+  -- where all but the first are read, in the same room, the queue is without its first frame
   pub seen_taken : (new : Buffer ℕ) (n : ℕ) → read_frames n new.items ≡ drop 1 (read_frames count octets) → new.capacity ≡ room → queue_with (read_frames n new.items) new.capacity ≡ record q { frames = drop 1 q.frames }
   seen_taken new n taken same =
       queue_same _ _ _ _ taken same
       ∙ ap (λ (w : ControlQueue). let v : ControlQueue = record w { frames = drop 1 w.frames } in v) e
 
+  -- a queue without frames is the same without its first
   pub seen_none : count ≡ 0 → q ≡ record q { frames = drop 1 q.frames }
   seen_none none = ap (λ (fs : List Frame). let w : ControlQueue = record { frames = fs; room = q.room } in w) (no_first q.frames (sym seen_many ∙ none))
 
@@ -165,9 +172,11 @@ module _ (octets : List ℕ) (count : ℕ) (s : AreSpelled octets count) where
       let one : drop index frames ≡ frame index ∷ drop (index + 1) frames = drop_more frames index no_frame (omega (arith, b.within, frames_many count octets)) in
       b.later ∙ (ap (flat_map spelled) one ∙ flat_map-cons spelled (frame index) (drop (index + 1) frames))
 
+  -- where a frame begins it stands in front, with the later ones behind it
   pub front_at : (index place : ℕ) → BeginsAt octets count index place → Fronted (frame index) (drop place octets) (flat_map spelled (drop (index + 1) frames))
   front_at index place b = subst (λ (xs : List ℕ). Fronted (frame index) xs (flat_map spelled (drop (index + 1) frames))) (sym (begun index place b)) (fronted (frame index) (flat_map spelled (drop (index + 1) frames)))
 
+  -- a whole control frame is in front there
   pub has_front : (index place : ℕ) → BeginsAt octets count index place → HasFront (drop place octets)
   has_front index place b =
       let f = front_at index place b in
@@ -176,9 +185,11 @@ module _ (octets : List ℕ) (count : ℕ) (s : AreSpelled octets count) where
         control = subst IsControlFrame (sym f.is_frame) (All-get_or IsControlFrame frames index no_frame (omega (arith, b.within, frames_many count octets)) s.each);
       }
 
+  -- the first frame begins at the front
   pub begins_first : 0 < count → BeginsAt octets count 0 0
   begins_first l = record { within = l; later = s.spelled_one_by_one }
 
+  -- the next frame begins two octets behind the information of the one before it
   pub begins_next : (index place next lead info : ℕ) → BeginsAt octets count index place → index + 1 < count → lead ≡ lead_len (drop place octets) → info ≡ info_len (drop place octets) → next ≡ place + (lead + info + 2) → BeginsAt octets count (index + 1) next
   unfolding front_len
   begins_next index place next lead info b l e h n =
@@ -212,21 +223,26 @@ module _ (octets : List ℕ) (count : ℕ) (s : AreSpelled octets count) where
     put_many : length (frames ++ f ∷ []) ≡ count + 1
     put_many = length-append frames (f ∷ []) ∙ ap (λ (m : ℕ). m + 1) (frames_many count octets)
 
+    -- a control frame whose spelling is put behind the octets is read behind the others
     pub put_read : read_frames (count + 1) new.items ≡ frames ++ f ∷ []
     put_read = all_read (frames ++ f ∷ []) new.items (count + 1) put_octets put_many
 
+    -- and the octets spell one control frame more, and nothing else
     pub put_spelled : AreSpelled new.items (count + 1)
     put_spelled =
         are_spelled (frames ++ f ∷ []) new.items (count + 1) put_octets put_many
         (All-append IsControlFrame frames (f ∷ []) s.each (All-cons IsControlFrame f [] is (All-nil IsControlFrame)))
 
   module _ (some : 0 < count) where
+    -- where there are frames, a whole control frame is in front
     pub front_whole : HasFront octets
     front_whole = has_front 0 0 (begins_first some)
 
+    -- the frame in front takes as many octets as it has as written
     pub front_written : front_len octets ≡ written_length (front_frame octets)
     front_written = let f = front_at 0 0 (begins_first some) in f.is_long ∙ ap written_length (sym f.is_frame)
 
+    -- it is the first of the frames
     pub front_first : Some (front_frame octets) ≡ slice_get frames 0
     front_first = it_is 0 0 (begins_first some)
 
@@ -239,9 +255,11 @@ module _ (octets : List ℕ) (count : ℕ) (s : AreSpelled octets count) where
       many : length (drop 1 frames) ≡ count - 1
       many = length-drop 1 frames ∙ ap (λ (n : ℕ). n - 1) (frames_many count octets)
 
+      -- once the octets of the frame in front are gone, the other frames are read
       pub taken_read : read_frames (count - 1) new.items ≡ drop 1 frames
       taken_read = all_read (drop 1 frames) new.items (count - 1) left many
 
+      -- what is left spells one control frame less, and nothing else
       pub taken_spelled : AreSpelled new.items (count - 1)
       taken_spelled = are_spelled (drop 1 frames) new.items (count - 1) left many (All-drop IsControlFrame 1 frames s.each)
 

@@ -204,10 +204,6 @@ stays_beside v f past e true o w k l n z =
     (subst (λ (b : Bool). TurnsBy v.role (b || is_opened (channel_at v 0).state) (channel_at v f.dlci).state f.kind Stays) k w.turns)) in
     beside v f Stays past e true o w k l n ∙ ap (λ (b : Bool). if b then IsShut else (channel_at v e).state) (stays_open v.role f.kind turns)
 
-stays_zero : (v : Station) (f : Frame) (past : List Act) (b : Bool) → (f.dlci == 0) ≡ b → TableFrame v f Stays past → opens_now v.role 0 past (Got f) ≡ false
-stays_zero v f past true k w = subst (λ (m : ℕ). opens_now v.role m past (Got f) ≡ false) (eqb-true f.dlci 0 k) (own_opens v f Stays past w)
-stays_zero v f past false k w = opens_elsewhere v.role 0 past f k
-
 stays_state : (v : Station) (f : Frame) (past : List Act) (e : ℕ) (b c : Bool) → (f.dlci == e) ≡ b → (f.dlci == 0) ≡ c → TableFrame v f Stays past → e < 62 → state_of v.role e (Got f ∷ past) ≡ (channel_at v e).state
 stays_state v f past e true c k z w l = subst (λ (m : ℕ). state_of v.role m (Got f ∷ past) ≡ (channel_at v m).state) (eqb-true f.dlci e k) (own_state v f Stays past w)
 stays_state v f past e false false k z w l = state_other v.role e past f z k ∙ (w.fits.channels_are e l).state_is

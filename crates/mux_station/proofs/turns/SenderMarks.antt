@@ -108,6 +108,7 @@ module _ (cs : List Channel) (marks from above : ℕ) (m : AreMarked cs marks) (
   sends_not : (e : ℕ) → from ≤ e → e < 64 → bit_at above e ≡ 0 → may_send (slice_index_or cs e shut_channel) ≡ false
   sends_not e k x b = clear_is _ (sym (m.marked e) ∙ (sym (above_is e k x) ∙ b))
 
+  -- where no mark is left, no connection from there on may send
   pub no_sender : above ≡ 0 → first_sender cs from ≡ None
   no_sender none = find_none (λ e. may_send (slice_index_or cs e shut_channel)) from (62 - from) (λ e k x. sends_not e k (omega (arith, k, x)) (ap (λ (n : ℕ). bit_at n e) none ∙ bit_at-zero e))
 
@@ -125,6 +126,7 @@ module _ (cs : List Channel) (marks from above : ℕ) (m : AreMarked cs marks) (
     it_sends : may_send (slice_index_or cs (trailing_zeros w64 above) shut_channel) ≡ true
     it_sends = sends (trailing_zeros w64 above) from_on lowest.0 lowest.1
 
+    -- the lowest mark that is left is that of a connection below 62
     pub sender_within : trailing_zeros w64 above < 62
     sender_within =
         elim (cases_lt (trailing_zeros w64 above) 62) [
@@ -135,6 +137,7 @@ module _ (cs : List Channel) (marks from above : ℕ) (m : AreMarked cs marks) (
         true_no_false : true ≡ false → ⊥
         true_no_false h = cc
 
+    -- its connection is the first from there on that may send
     pub the_sender : first_sender cs from ≡ Some (trailing_zeros w64 above)
     the_sender =
         find_first (λ e. may_send (slice_index_or cs e shut_channel)) from (62 - from) (trailing_zeros w64 above) from_on (omega (arith, sender_within)) it_sends

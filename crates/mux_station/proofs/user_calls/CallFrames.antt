@@ -181,9 +181,6 @@ got_off : (s : StationSetting) (o : Option Waiting) (f : Frame) → probe_after 
 got_off s None f = refl
 got_off s (Some w) f = refl
 
-begun_some : (e : StationError) (a : Act) (o : Option Waiting) → probe_begun (Some e) a o ≡ o
-begun_some e a o = refl
-
 -- the call is a probe; none begins by another call, nor by a refused one
 abbrev pub is_probe : Call → Bool
 is_probe (Probe octets) = true

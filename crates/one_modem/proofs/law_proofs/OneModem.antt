@@ -21,7 +21,7 @@ use Rattle.modem_history.specs.Connections.{begun_in, carries}
 use Rattle.modem_history.specs.Information.{line_of}
 use Rattle.modem_history.specs.Placing.{marks, run_on}
 use Rattle.modem_history.specs.TwoEnds.{ReadsInOrder}
-use Rattle.modem_history.specs.Wholes.{BeginsInTurn, TellsOwn}
+use Rattle.modem_history.specs.Wholes.{BeginsInTurn, IsPrefixOf, TellsOwn}
 use Rattle.modem_history.proofs.commands.BegunCommands.{begins_in_turn}
 use Rattle.modem_history.proofs.commands.SentCommands.{reads_in_order}
 use Rattle.modem_history.proofs.lines.HeardLines.{opens_bare}
@@ -31,7 +31,7 @@ use Rattle.modem_history.proofs.lines.LinePlaces.{lines_placed_are}
 use Rattle.modem_sim.specs.Acts as modem
 use Rattle.modem_sim.specs.Acts.{End, Wire, Did}
 use Rattle.modem_sim.specs.Heard.{heard}
-use Rattle.modem_sim.specs.Replied.{IsFirstOf, all_of}
+use Rattle.modem_sim.specs.Replied.{all_of}
 use Rattle.one_modem.specs.OneModem.{AtDriver, AtModem, EndAct, IsAnswerAt, ReadsCommands, TellsModem, driver_past, modem_past, modem_wire}
 use Rattle.one_modem.proofs.two_ends.LinePoints.{Along, along, both_ways, driver_earlier, first_same, first_then, marks_at, modem_earlier, replied_first, replies_at}
 use Rattle.one_modem.proofs.two_ends.ModemAnswers.{before_begun, ended_by, finishes, self_first}
@@ -75,8 +75,8 @@ along_later s e (AtDriver a ∷ later) line p = along_later s e later line (driv
 along_later s e (AtModem a ∷ later) line p = along_later s e later line (modem_earlier s e a (later ++ line) p)
 
 -- what was read goes on
-heard_grows : (a : modem.Act) (past : List modem.Act) → IsFirstOf (heard past) (heard (a ∷ past))
-heard_grows (Wire (station.Got f)) past = record { later = _; joins = refl }
+heard_grows : (a : modem.Act) (past : List modem.Act) → IsPrefixOf (heard past) (heard (a ∷ past))
+heard_grows (Wire (station.Got f)) past = record { rest = _; joins = refl }
 heard_grows (Wire (station.Sent f)) past = self_first _
 heard_grows (Wire (station.Called c)) past = self_first _
 heard_grows (Wire station.Tick) past = self_first _
@@ -84,16 +84,16 @@ heard_grows (Wire station.Lost) past = self_first _
 heard_grows (Wire station.Given) past = self_first _
 heard_grows (Did step) past = self_first _
 
-heard_later : (later line : List EndAct) → IsFirstOf (heard (modem_past line)) (heard (modem_past (later ++ line)))
+heard_later : (later line : List EndAct) → IsPrefixOf (heard (modem_past line)) (heard (modem_past (later ++ line)))
 heard_later [] line = self_first _
 heard_later (AtDriver a ∷ later) line = heard_later later line
 heard_later (AtModem a ∷ later) line = first_then _ _ _ (heard_later later line) (heard_grows a (modem_past (later ++ line)))
 
-answer_later : (e : End) (ls more : List (ℕ × List ℕ)) (d place : ℕ) (c : List ℕ) (ans : List AnswerLine) → IsFirstOf ls more → IsAnswerAt e ls d place c ans → IsAnswerAt e more d place c ans
+answer_later : (e : End) (ls more : List (ℕ × List ℕ)) (d place : ℕ) (c : List ℕ) (ans : List AnswerLine) → IsPrefixOf ls more → IsAnswerAt e ls d place c ans → IsAnswerAt e more d place c ans
 answer_later e ls more d place c ans first h = record {
   before = h.before;
-  later = h.later ++ first.later;
-  joins = sym first.joins ∙ (ap (λ z. z ++ first.later) h.joins ∙ append_assoc h.before ((d, c) ∷ h.later) first.later);
+  later = h.later ++ first.rest;
+  joins = sym first.joins ∙ (ap (λ z. z ++ first.rest) h.joins ∙ append_assoc h.before ((d, c) ∷ h.later) first.rest);
   place_is = h.place_is;
   answer_is = h.answer_is;
 }

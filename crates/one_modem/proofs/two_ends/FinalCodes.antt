@@ -16,7 +16,8 @@ use Rattle.at_text.specs.Windows.{Mark, Line, Begun, IsInTurn, lines_of, without
 use Rattle.at_text.specs.Seeing.{by_kind, seen_from, solicited_in}
 use Rattle.at_text.specs.Whole.{parts}
 use Rattle.at_text.proofs.windows.AllLines.{none_lost}
-use Rattle.modem_sim.specs.Replied.{IsFirstOf, all_of}
+use Rattle.modem_sim.specs.Replied.{all_of}
+use Rattle.modem_history.specs.Wholes.{IsPrefixOf}
 
 -- ## How many there are
 
@@ -166,18 +167,18 @@ nothing_left [] later is = refl
 nothing_left (x ∷ s) later is = cc
 
 -- a beginning with as many final codes as there are lists is all of them
-pub whole_by_count : (s : List (List ℕ)) (rs : List (List (List ℕ))) → IsFirstOf s (all_of rs) → AllEnd rs → length rs ≤ finals s → s ≡ all_of rs
-whole_by_count s [] first end enough = nothing_left s first.later first.joins
-whole_by_count s (r ∷ rs) first end enough = by_reach (reach s first.later r (all_of rs) first.joins) (λ t later joins count. whole_by_count t rs (record { later = later; joins = joins }) end.1 count)
+pub whole_by_count : (s : List (List ℕ)) (rs : List (List (List ℕ))) → IsPrefixOf s (all_of rs) → AllEnd rs → length rs ≤ finals s → s ≡ all_of rs
+whole_by_count s [] first end enough = nothing_left s first.rest first.joins
+whole_by_count s (r ∷ rs) first end enough = by_reach (reach s first.rest r (all_of rs) first.joins) (λ t later joins count. whole_by_count t rs (record { rest = later; joins = joins }) end.1 count)
   where
-    by_reach : Reach s first.later r (all_of rs) → ((t later : List (List ℕ)) → t ++ later ≡ all_of rs → length rs ≤ finals t → t ≡ all_of rs) → s ≡ all_of (r ∷ rs)
+    by_reach : Reach s first.rest r (all_of rs) → ((t later : List (List ℕ)) → t ++ later ≡ all_of rs → length rs ≤ finals t → t ≡ all_of rs) → s ≡ all_of (r ∷ rs)
     by_reach (short h) rest =
         let none = short_none s end.0.front h.next end.0.code h.rest (h.joins ∙ end.0.parts) end.0.before in
         absurd (omega (arith, enough, none))
     by_reach (far h) rest =
         let size : finals s ≡ finals r + finals h.behind = ap finals h.begins ∙ finals-append r h.behind in
         let one = one_final r end.0 in
-        h.begins ∙ ap (λ z. r ++ z) (rest h.behind first.later h.joins (omega (arith, enough, size, one)))
+        h.begins ∙ ap (λ z. r ++ z) (rest h.behind first.rest h.joins (omega (arith, enough, size, one)))
 
 -- ## An answer
 
@@ -218,9 +219,9 @@ some_answered c after has =
     some_final (filter (is_solicited standard) after) (final_in_all c (filter (is_solicited standard) after) (final_before (without_echo c (filter (is_solicited standard) after)) has))
 
 -- where what came behind a command is a beginning of its reply, an answer that has come is that of the whole reply
-pub answer_whole : (c : List ℕ) (after r : List (List ℕ)) → IsFirstOf (filter (is_solicited standard) after) r → Ends r → has_final standard (answer standard c after) ≡ true → answer standard c after ≡ up_to_final standard (without_echo c r)
+pub answer_whole : (c : List ℕ) (after r : List (List ℕ)) → IsPrefixOf (filter (is_solicited standard) after) r → Ends r → has_final standard (answer standard c after) ≡ true → answer standard c after ≡ up_to_final standard (without_echo c r)
 answer_whole c after r first end has =
     let some = some_answered c after has in
     let all : all_of (r ∷ []) ≡ r = append-nil r in
-    let same = whole_by_count (filter (is_solicited standard) after) (r ∷ []) (record { later = first.later; joins = first.joins ∙ sym all }) (end, tt) some in
+    let same = whole_by_count (filter (is_solicited standard) after) (r ∷ []) (record { rest = first.rest; joins = first.joins ∙ sym all }) (end, tt) some in
     ap (λ x. up_to_final standard (without_echo c x)) (same ∙ all)

@@ -39,7 +39,7 @@ use Rattle.modem_sim.specs.declared.script.StepAct.TheVariants.{Announce, Flow, 
 use Rattle.modem_sim.specs.Heard.{heard}
 use Rattle.modem_sim.specs.Histories as modem_laws
 use Rattle.modem_sim.specs.Histories.{EachAllowed}
-use Rattle.modem_sim.specs.Replied.{AnnouncesUnsolicited, IsFirstOf, IsModem, SendsReplies, all_of, replied_on}
+use Rattle.modem_sim.specs.Replied.{AnnouncesUnsolicited, IsModem, SendsReplies, all_of, replied_on}
 use Rattle.modem_sim.proofs.replies.ReplyOrder.{sends_replies}
 use Rattle.one_modem.specs.OneModem.{AtDriver, AtModem, ComesBothWays, EndAct, IsOneLine, IsOneModem, driver_past, driver_wire, modem_past, modem_wire}
 use Rattle.one_modem.proofs.two_ends.ResponderFrames.{IsTimeless, answering}
@@ -328,19 +328,19 @@ behind_there s e line p d =
     behind_older d ways.at_modem.later (frames_got (modem_wire line))
     (subst (ComesBehind d) ways.at_modem.sent_are (sent_behind d (driver_wire line) (p.once d) (while_open s (driver_past line) p.role p.driver_lawful)))
 
-lines_first : (x y : List ℕ) → IsPrefixOf x y → IsFirstOf (lines x) (lines y)
-lines_first x y h = record { later = lines (kept_run x ++ h.rest); joins = sym (reads_on x h.rest).reads_kept ∙ ap lines h.joins }
+lines_first : (x y : List ℕ) → IsPrefixOf x y → IsPrefixOf (lines x) (lines y)
+lines_first x y h = record { rest = lines (kept_run x ++ h.rest); joins = sym (reads_on x h.rest).reads_kept ∙ ap lines h.joins }
 
 -- the same as a beginning is a beginning of the same as the whole
-pub first_same : {A : Type 0} (xs us ys vs : List A) → xs ≡ us → ys ≡ vs → IsFirstOf us vs → IsFirstOf xs ys
-first_same xs us ys vs e g h = record { later = h.later; joins = ap (λ z. z ++ h.later) e ∙ (h.joins ∙ sym g) }
+pub first_same : {A : Type 0} (xs us ys vs : List A) → xs ≡ us → ys ≡ vs → IsPrefixOf us vs → IsPrefixOf xs ys
+first_same xs us ys vs e g h = record { rest = h.rest; joins = ap (λ z. z ++ h.rest) e ∙ (h.joins ∙ sym g) }
 
 -- a beginning of a beginning is one of the whole
-pub first_then : {A : Type 0} (xs ys zs : List A) → IsFirstOf xs ys → IsFirstOf ys zs → IsFirstOf xs zs
-first_then xs ys zs h g = record { later = h.later ++ g.later; joins = sym (append_assoc xs h.later g.later) ∙ (ap (λ z. z ++ g.later) h.joins ∙ g.joins) }
+pub first_then : {A : Type 0} (xs ys zs : List A) → IsPrefixOf xs ys → IsPrefixOf ys zs → IsPrefixOf xs zs
+first_then xs ys zs h g = record { rest = h.rest ++ g.rest; joins = sym (append_assoc xs h.rest g.rest) ∙ (ap (λ z. z ++ g.rest) h.joins ∙ g.joins) }
 
 -- the lines on d that the modem read are the first of the commands that began there
-pub read_first : (s : Setting) (e : End) (line : List EndAct) → Along s e line → (d : ℕ) → IsFirstOf (lines_on d (heard (modem_past line))) (begun_in (marks_at s d line))
+pub read_first : (s : Setting) (e : End) (line : List EndAct) → Along s e line → (d : ℕ) → IsPrefixOf (lines_on d (heard (modem_past line))) (begun_in (marks_at s d line))
 unfolding ReadsAccepted BeginsInTurn
 read_first s e line p d =
     let past = driver_past line in
@@ -360,7 +360,7 @@ read_first s e line p d =
     (lines_heard d (modem_wire line) one behind) began (lines_first _ _ came)
 
 -- of the lines that are placed on d those that aren't unsolicited are the first of the replies
-pub replied_first : (s : Setting) (e : End) (line : List EndAct) → Along s e line → (d : ℕ) → IsFirstOf (filter (is_solicited standard) (lines_of (marks_at s d line))) (filter (is_solicited standard) (all_of (replies_at e d line)))
+pub replied_first : (s : Setting) (e : End) (line : List EndAct) → Along s e line → (d : ℕ) → IsPrefixOf (filter (is_solicited standard) (lines_of (marks_at s d line))) (filter (is_solicited standard) (all_of (replies_at e d line)))
 unfolding SendsReplies AreMarksPlaced PlacesAll
 replied_first s e line p d =
     let past = driver_past line in
@@ -373,6 +373,6 @@ replied_first s e line p d =
     same_prefix _ _ (information_got Initiator d (near (stations line))) (data_out Responder d (far (stations line))) (ap (information_got Initiator d) (sym (near_is line))) (ap (data_out Responder d) (sym (far_is line))) back in
     let first = lines_first _ _ came in
     let lawful : modem_laws.SimLawful e (modem_past line) = record { at_station = p.station_lawful; acts = p.allowed } in
-    let solicited : IsFirstOf (filter (is_solicited standard) (lines_of (marks_at s d line))) (filter (is_solicited standard) (lines (data_out Responder d (modem_wire line)))) =
-    record { later = filter (is_solicited standard) first.later; joins = ap (λ z. filter (is_solicited standard) z ++ filter (is_solicited standard) first.later) lines_so ∙ (sym (filter-append (is_solicited standard) (lines (information_got Initiator d (driver_wire line))) first.later) ∙ ap (filter (is_solicited standard)) first.joins) } in
+    let solicited : IsPrefixOf (filter (is_solicited standard) (lines_of (marks_at s d line))) (filter (is_solicited standard) (lines (data_out Responder d (modem_wire line)))) =
+    record { rest = filter (is_solicited standard) first.rest; joins = ap (λ z. filter (is_solicited standard) z ++ filter (is_solicited standard) first.rest) lines_so ∙ (sym (filter-append (is_solicited standard) (lines (information_got Initiator d (driver_wire line))) first.rest) ∙ ap (filter (is_solicited standard)) first.joins) } in
     first_then _ _ _ solicited (sends_replies e (modem_past line) lawful p.modem_is p.announced d one)

@@ -20,7 +20,7 @@ use Rattle.modem_history.specs.Calls.{Setting}
 use Rattle.modem_history.specs.Connections.{begun_in, carries, lines_on}
 use Rattle.modem_history.specs.Information.{accepted, line_of, opens_here}
 use Rattle.modem_history.specs.Placements.{AreCommandLines}
-use Rattle.modem_history.specs.Wholes.{BeginsInTurn}
+use Rattle.modem_history.specs.Wholes.{BeginsInTurn, IsPrefixOf}
 use Rattle.modem_history.proofs.commands.BegunCommands.{begins_in_turn, begun_append}
 use Rattle.modem_history.proofs.commands.SentCommands.{are_lines}
 use Rattle.modem_history.proofs.lines.LinePlaces.{on_both}
@@ -28,7 +28,7 @@ use Rattle.modem_sim.specs.Acts as modem
 use Rattle.modem_sim.specs.Acts.{End, Wire, Did}
 use Rattle.modem_sim.specs.Heard.{heard, texts_of}
 use Rattle.modem_sim.specs.Laws.{after_lines, reached}
-use Rattle.modem_sim.specs.Replied.{IsFirstOf, IsModem, all_of, replied_on, written_for}
+use Rattle.modem_sim.specs.Replied.{IsModem, all_of, replied_on, written_for}
 use Rattle.modem_sim.specs.LineSteps.{step}
 use Rattle.modem_sim.proofs.connections.OctetReplies.{after_lines-append}
 use Rattle.modem_sim.proofs.replies.ReplyOrder.{all-append, replied_on-append}
@@ -43,13 +43,13 @@ use Rattle.one_modem.proofs.two_ends.ReplyPlaces.{AllAt, RepliesAt, all_end, all
 -- are the first
 pub record Before (s : Setting) (e : End) (d : ℕ) (line : List EndAct) (ms : List Mark) : Type 0 where
   replies : List (List (List ℕ))
-  so_far : IsFirstOf replies (replies_at e d line)
-  first : IsFirstOf (filter (is_solicited standard) (lines_of ms)) (filter (is_solicited standard) (all_of replies))
+  so_far : IsPrefixOf replies (replies_at e d line)
+  first : IsPrefixOf (filter (is_solicited standard) (lines_of ms)) (filter (is_solicited standard) (all_of replies))
   few : length replies ≤ length (begun_in ms)
 
 -- a list is the beginning of itself
-pub self_first : {A : Type 0} (xs : List A) → IsFirstOf xs xs
-self_first xs = record { later = []; joins = append-nil xs }
+pub self_first : {A : Type 0} (xs : List A) → IsPrefixOf xs xs
+self_first xs = record { rest = []; joins = append-nil xs }
 
 -- a command among marks that are joined stands in the one or the other
 record InOld (old : List Mark) (ms : List Mark) (c : List ℕ) : Type 0 where
@@ -110,7 +110,7 @@ sent_marks s e d line a qs ms rest c p same joins before = by_place (place (mark
         let read = read_first s e line p d in
         let size : length (begun_in ms) ≡ length (begun_in (marks_at s d line)) + length (begun_in h.mid) =
         ap (λ z. length (begun_in z)) h.begins ∙ (ap length (begun_append (marks_at s d line) h.mid) ∙ length-append (begun_in (marks_at s d line)) (begun_in h.mid)) in
-        let count : length (lines_on d (heard (modem_past line))) + length read.later ≡ length (begun_in (marks_at s d line)) = sym (length-append (lines_on d (heard (modem_past line))) read.later) ∙ ap length read.joins in
+        let count : length (lines_on d (heard (modem_past line))) + length read.rest ≡ length (begun_in (marks_at s d line)) = sym (length-append (lines_on d (heard (modem_past line))) read.rest) ∙ ap length read.joins in
         let replied = replied_count e.echo d e.modem (heard (modem_past line)) in
         record {
           replies = replies_at e d line;
@@ -120,8 +120,8 @@ sent_marks s e d line a qs ms rest c p same joins before = by_place (place (mark
         }
 
 -- more replies
-replies_grow : (e : End) (d : ℕ) (a : modem.Act) (past : List modem.Act) → IsFirstOf (replied_on e.echo d e.modem (heard past)) (replied_on e.echo d e.modem (heard (a ∷ past)))
-replies_grow e d (Wire (station.Got f)) past = record { later = _; joins = sym (replied_on-append e.echo d e.modem (heard past) _) }
+replies_grow : (e : End) (d : ℕ) (a : modem.Act) (past : List modem.Act) → IsPrefixOf (replied_on e.echo d e.modem (heard past)) (replied_on e.echo d e.modem (heard (a ∷ past)))
+replies_grow e d (Wire (station.Got f)) past = record { rest = _; joins = sym (replied_on-append e.echo d e.modem (heard past) _) }
 replies_grow e d (Wire (station.Sent f)) past = self_first _
 replies_grow e d (Wire (station.Called c)) past = self_first _
 replies_grow e d (Wire station.Tick) past = self_first _
@@ -216,7 +216,7 @@ commands_at s e d line p =
 lines_at : (s : Setting) (e : End) (d : ℕ) (line : List EndAct) → Along s e line → AllAt (lines_on d (heard (modem_past line)))
 lines_at s e d line p =
     let read = read_first s e line p d in
-    at_front (lines_on d (heard (modem_past line))) read.later (subst (λ z. AllAt z) (sym read.joins) (commands_at s e d line p))
+    at_front (lines_on d (heard (modem_past line))) read.rest (subst (λ z. AllAt z) (sym read.joins) (commands_at s e d line p))
 
 at_place : (xs ys us later : List (List ℕ)) (x y : List ℕ) → (xs ++ x ∷ us) ++ later ≡ ys ++ y ∷ [] → length xs ≡ length ys → x ≡ y
 at_place [] [] us later x y e size = cc
@@ -244,8 +244,8 @@ read_at s e d line p earlier c begun n r h size =
     let read = read_first s e line p d in
     let split : lines_on d (heard (modem_past line)) ≡ lines_on d h.before ++ h.line ∷ lines_on d h.later =
     ap (lines_on d) h.joins ∙ (on_both d h.before ((d, h.line) ∷ h.later) ∙ ap (λ z. lines_on d h.before ++ z) (line_on d (d, h.line) h.later true (same_number d))) in
-    at_place (lines_on d h.before) earlier (lines_on d h.later) read.later h.line c
-    (ap (λ z. z ++ read.later) (sym split) ∙ (read.joins ∙ begun)) (h.place_is ∙ size)
+    at_place (lines_on d h.before) earlier (lines_on d h.later) read.rest h.line c
+    (ap (λ z. z ++ read.rest) (sym split) ∙ (read.joins ∙ begun)) (h.place_is ∙ size)
 
 -- ## The answer
 
@@ -270,14 +270,14 @@ ended_by ms c behind more w ans all joins last ended is =
 answered_by : (s : Setting) (e : End) (d : ℕ) (line : List EndAct) → Along s e line → (before : List Request) (c : List ℕ) (after : List (List ℕ)) (ans : List AnswerLine)
     → begun_in (marks_at s d line) ≡ map line_of before ++ c ∷ [] → Ended c after ans → (n : ℕ) → n ≡ length before → (r : List (List ℕ)) (rs : List (List (List ℕ)))
     → RepliesAt e.echo d e.modem (heard (modem_past line)) n r → n + suc (length rs) ≡ length (replies_at e d line)
-    → IsFirstOf (filter (is_solicited standard) after) (all_of (solicited_in (r ∷ rs))) → IsAnswerAt e (heard (modem_past line)) d (length before) c ans
+    → IsPrefixOf (filter (is_solicited standard) after) (all_of (solicited_in (r ∷ rs))) → IsAnswerAt e (heard (modem_past line)) d (length before) c ans
 answered_by s e d line p before c after ans begun ended n count r rs h total came =
     let m = p.modem_is in
     let X = heard (modem_past line) in
     let read = read_first s e line p d in
     let replied = replied_count e.echo d e.modem X in
-    let most : length (lines_on d X) + length read.later ≡ length before + 1 =
-    sym (length-append (lines_on d X) read.later) ∙ (ap length (read.joins ∙ begun) ∙ (length-append (map line_of before) (c ∷ []) ∙ ap (λ z. z + 1) (length-map before line_of))) in
+    let most : length (lines_on d X) + length read.rest ≡ length before + 1 =
+    sym (length-append (lines_on d X) read.rest) ∙ (ap length (read.joins ∙ begun) ∙ (length-append (map line_of before) (c ∷ []) ∙ ap (λ z. z + 1) (length-map before line_of))) in
     let alone : rs ≡ [] = empty_of rs (omega (arith, count, total, replied, most)) in
     let size : n ≡ length (map line_of before) = count ∙ sym (length-map before line_of) in
     let own : h.line ≡ c = read_at s e d line p (map line_of before) c begun n r h size in
@@ -300,10 +300,10 @@ answered_by s e d line p before c after ans begun ended n count r rs h total cam
 -- all replies so far came before the command, and what came behind it is the beginning of its reply
 pub finishes : (s : Setting) (e : End) (d : ℕ) (line : List EndAct) → Along s e line → (before : List Request) (c : List ℕ) (ms : List Mark) (after rest : List (List ℕ)) (ans : List AnswerLine)
     → begun_in (marks_at s d line) ≡ map line_of before ++ c ∷ [] → begun_in ms ≡ map line_of before → answered standard ms ≡ length (begun_in ms) → IsInTurn standard ms → Before s e d line ms
-    → IsFirstOf (filter (is_solicited standard) (lines_of ms) ++ filter (is_solicited standard) (after ++ rest)) (filter (is_solicited standard) (all_of (replies_at e d line)))
+    → IsPrefixOf (filter (is_solicited standard) (lines_of ms) ++ filter (is_solicited standard) (after ++ rest)) (filter (is_solicited standard) (all_of (replies_at e d line)))
     → Ended c after ans → IsAnswerAt e (heard (modem_past line)) d (length before) c ans
 finishes s e d line p before c ms after rest ans begun earlier whole turns h first ended =
-    by_more h.so_far.later h.so_far.joins
+    by_more h.so_far.rest h.so_far.joins
   where
     X : List (ℕ × List ℕ)
     X = heard (modem_past line)
@@ -321,7 +321,7 @@ finishes s e d line p before c ms after rest ans begun earlier whole turns h fir
     size = ap length earlier ∙ length-map before line_of
 
     old_ends : AllEnd old
-    old_ends = ends_front h.replies h.so_far.later (subst (λ z. AllEnd (solicited_in z)) (sym h.so_far.joins) ends)
+    old_ends = ends_front h.replies h.so_far.rest (subst (λ z. AllEnd (solicited_in z)) (sym h.so_far.joins) ends)
 
     old_count : length old ≡ length h.replies
     old_count = length-map h.replies (λ (r : List (List ℕ)). filter (is_solicited standard) r)
@@ -342,26 +342,26 @@ finishes s e d line p before c ms after rest ans begun earlier whole turns h fir
     by_more : (more : List (List (List ℕ))) → h.replies ++ more ≡ replies_at e d line → IsAnswerAt e X d (length before) c ans
     by_more more joins = by_reply more joins behind
       where
-        behind : IsFirstOf (filter (is_solicited standard) after) (all_of (solicited_in more))
+        behind : IsPrefixOf (filter (is_solicited standard) after) (all_of (solicited_in more))
         behind =
             let parts : filter (is_solicited standard) (all_of (replies_at e d line)) ≡ all_of old ++ all_of (solicited_in more) =
             all_solicited_in (replies_at e d line)
             ∙ (ap (λ z. all_of (solicited_in z)) (sym joins)
             ∙ (ap all_of (map-append (λ (r : List (List ℕ)). filter (is_solicited standard) r) h.replies more)
             ∙ all-append old (solicited_in more))) in
-            let left : all_of old ++ (filter (is_solicited standard) (after ++ rest) ++ first.later) ≡ all_of old ++ all_of (solicited_in more) =
-            sym (append_assoc (all_of old) (filter (is_solicited standard) (after ++ rest)) first.later)
-            ∙ (ap (λ z. (z ++ filter (is_solicited standard) (after ++ rest)) ++ first.later) (sym all_old) ∙ (first.joins ∙ parts)) in
-            let tail = append_cancel_left (all_of old) (filter (is_solicited standard) (after ++ rest) ++ first.later) (all_of (solicited_in more)) left in
+            let left : all_of old ++ (filter (is_solicited standard) (after ++ rest) ++ first.rest) ≡ all_of old ++ all_of (solicited_in more) =
+            sym (append_assoc (all_of old) (filter (is_solicited standard) (after ++ rest)) first.rest)
+            ∙ (ap (λ z. (z ++ filter (is_solicited standard) (after ++ rest)) ++ first.rest) (sym all_old) ∙ (first.joins ∙ parts)) in
+            let tail = append_cancel_left (all_of old) (filter (is_solicited standard) (after ++ rest) ++ first.rest) (all_of (solicited_in more)) left in
             record {
-              later = filter (is_solicited standard) rest ++ first.later;
-              joins = sym (append_assoc (filter (is_solicited standard) after) (filter (is_solicited standard) rest) first.later)
-                  ∙ (ap (λ z. z ++ first.later) (sym (filter-append (is_solicited standard) after rest)) ∙ tail);
+              rest = filter (is_solicited standard) rest ++ first.rest;
+              joins = sym (append_assoc (filter (is_solicited standard) after) (filter (is_solicited standard) rest) first.rest)
+                  ∙ (ap (λ z. z ++ first.rest) (sym (filter-append (is_solicited standard) after rest)) ∙ tail);
             }
 
-        by_reply : (rs : List (List (List ℕ))) → h.replies ++ rs ≡ replies_at e d line → IsFirstOf (filter (is_solicited standard) after) (all_of (solicited_in rs)) → IsAnswerAt e X d (length before) c ans
+        by_reply : (rs : List (List (List ℕ))) → h.replies ++ rs ≡ replies_at e d line → IsPrefixOf (filter (is_solicited standard) after) (all_of (solicited_in rs)) → IsAnswerAt e X d (length before) c ans
         by_reply [] joined came =
             let some = some_answered c after ended.has in
-            let none : finals (filter (is_solicited standard) after) ≡ 0 = ap finals (nothing_left (filter (is_solicited standard) after) came.later came.joins) in
+            let none : finals (filter (is_solicited standard) after) ≡ 0 = ap finals (nothing_left (filter (is_solicited standard) after) came.rest came.joins) in
             absurd (omega (arith, some, none))
         by_reply (r ∷ rs) joined came = answered_by s e d line p before c after ans begun ended (length h.replies) count r rs (replies_at_place e.echo d e.modem X h.replies r rs (sym joined)) (sym (length-append h.replies (r ∷ rs)) ∙ ap length joined) came

@@ -62,7 +62,7 @@ heard_commands s e d line p =
     let texts = subst (λ r. AreCommandLines (map line_of (accepted r d past))) (sym p.role) (are_lines d past p.commands) in
     let read = read_first s e line p d in
     let begun : AreCommandLines (begun_in (marks_at s d line)) = subst (λ z. AreCommandLines z) (sym (begins_in_turn s past p.driver_lawful d).first) (first_taken _ (accepted s.role d past) texts) in
-    first_commands (lines_on d (heard (modem_past line))) read.later (subst (λ z. AreCommandLines z) (sym read.joins) begun)
+    first_commands (lines_on d (heard (modem_past line))) read.rest (subst (λ z. AreCommandLines z) (sym read.joins) begun)
 
 -- ## Final codes
 
@@ -78,8 +78,8 @@ no_more s e line p d =
     let rs = replies_at e d line in
     let commands = heard_commands s e d line p in
     let ends = all_end p.modem_is.start p.modem_is.is_start e.echo d p.modem_is.before e.modem (heard past) p.modem_is.is (at_all (lines_on d (heard past)) commands) in
-    let parts = finals-append left first.later in
-    let joined : finals (left ++ first.later) ≡ finals (filter (is_solicited standard) (all_of rs)) = ap finals first.joins in
+    let parts = finals-append left first.rest in
+    let joined : finals (left ++ first.rest) ≡ finals (filter (is_solicited standard) (all_of rs)) = ap finals first.joins in
     let all : finals (filter (is_solicited standard) (all_of rs)) ≡ finals (all_of (solicited_in rs)) = ap finals (all_solicited_in rs) in
     let ones = all_finals (solicited_in rs) ends in
     let size : length (solicited_in rs) ≡ length rs = length-map rs (λ (r : List (List ℕ)). filter (is_solicited standard) r) in

@@ -1,11 +1,10 @@
 -- Lines are offered to the listeners of their kinds.
 use Rattle.std.proofs.Common.{ap, sym, ◌∙◌, subst, arith, inl, inr, ⊎_elim}
-use Rattle.std.specs.List.{list_any}
-use Rattle.std.proofs.lemmas.Bool.{eq-eqb, lt-ltb, or_parts}
+use Rattle.std.proofs.lemmas.Bool.{eq-eqb}
 use Rattle.std.proofs.lemmas.Bool.Decides.{eqb_tells}
-use Rattle.std.specs.Prelude.{◌≡◌, ◌≢◌, ℕ, zero, suc, ◌+◌, ◌-◌, ◌<◌, ◌==◌, ◌||◌, ◌⊎◌, Bool, true, false, List, [], ◌∷◌, length, refl, replicate, take, drop, not, nat_lt, ◌&&◌, ◌++◌, slice_index_or, Contains, IsTrue, ◌↔◌}
-use mathlib.Core.Option.{some, some-injective, some-ne-none}
+use Rattle.std.specs.Prelude.{◌≡◌, ◌≢◌, ℕ, zero, suc, ◌+◌, ◌-◌, ◌<◌, ◌==◌, ◌||◌, ◌⊎◌, Bool, true, false, List, [], ◌∷◌, length, refl, replicate, take, drop, ◌++◌, slice_index_or, Contains, IsTrue, ◌↔◌}
 use lib.ListN.{get_elem?}
+use mathlib.Core.Option.{some, some-injective, some-ne-none}
 use Rattle.at_text.specs.declared.unsolicited.UrcKind.{UrcKind}
 use Rattle.modem_desk.specs.declared.request.Urc.{Urc}
 use Rattle.modem_desk.specs.Ends.{DriverView, DeskId, Announces, Changes, FallsByOne, RunsOut, RisesByOne, Hears}
@@ -145,24 +144,3 @@ announces_early first now held waited waits turned left moved so leaves is =
     subst (λ (m : ℕ). of_key place_of m waits ≡ []) heard.is_place
     (leaves heard.kind known (subst (λ (m : ℕ). slice_index_or held m false ≡ false) (sym heard.is_place) free)))
     is
-
--- what a look at the counts tells
-pub leaves_all : (kinds : List UrcKind) (held : List Bool) (lines : List Urc) (r : Bool) → r ≡ list_any (λ (k : UrcKind). not (slice_index_or held (kind_place k) false) && nat_lt 0 (length (of_key place_of (kind_place k) lines))) kinds
-    → r ≡ false → LeavesAll kinds held lines
-leaves_all kinds held lines r is none k known free =
-    no_items (of_key place_of (kind_place k) lines)
-    (no_more (slice_index_or held (kind_place k) false) (nat_lt 0 (length (of_key place_of (kind_place k) lines))) free
-    (none_any (λ (m : UrcKind). not (slice_index_or held (kind_place m) false) && nat_lt 0 (length (of_key place_of (kind_place m) lines))) kinds k known (sym is ∙ none)))
-  where
-    no_items : (us : List Urc) → nat_lt 0 (length us) ≡ false → us ≡ []
-    no_items [] e = refl
-    no_items (u ∷ us) e = absurd (is_false (nat_lt 0 (length (u ∷ us))) e (lt-ltb 0 (length (u ∷ us)) (omega arith)))
-
-    no_more : (b c : Bool) → b ≡ false → (not b && c) ≡ false → c ≡ false
-    no_more true c e h = cc
-    no_more false c e h = h
-
-    none_any : (p : UrcKind → Bool) (ks : List UrcKind) (m : UrcKind) → Contains ks m → list_any p ks ≡ false → p m ≡ false
-    none_any p [] m c e = absurd (let lt : c.0 < 0 = c.1 in omega arith)
-    none_any p (x ∷ ks) m (zero, lt, same) e = sym (ap p same) ∙ (or_parts (p x) (list_any p ks) e).0
-    none_any p (x ∷ ks) m (suc i, lt, same) e = none_any p ks m (i, omega arith, same) (or_parts (p x) (list_any p ks) e).1

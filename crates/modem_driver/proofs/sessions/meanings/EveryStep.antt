@@ -168,6 +168,7 @@ module _ {s0 s1 s2 s3 s4 s5 s6 s7 : TurnState} {m1 m2 m3 m4 m5 m6 m7 : Bool} whe
 
   -- ## All of them
 
+  -- a turn took all its steps, each in its order, after whatever history the session fits
   pub takes_steps : (r : Run s0 s1 s2 s3 s4 s5 s6 s7 m1 m2 m3 m4 m5 m6 m7) (b : Beginning) (past : List Act) → StandingFits b s0 past → TakesSteps b (view_of s0) (view_of s7) (all_exchange r) past (all_acts r)
   takes_steps r b past f =
       let lines : s1.machine.unannounced ≡ s2.machine.unannounced = sym (ap (λ (s : TurnState). s.machine.unannounced) r.checks.stays) in

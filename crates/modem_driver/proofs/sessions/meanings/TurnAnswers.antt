@@ -144,6 +144,7 @@ module _ {s0 s1 s2 s3 s4 s5 s6 s7 : TurnState} {m1 m2 m3 m4 m5 m6 m7 : Bool} whe
       ∙ (ap (λ (s : TurnState). s.machine.unfed) r.sends.stays
       ∙ (ap (λ (s : TurnState). s.machine.unfed) r.checks.stays ∙ ap (λ (s : TurnState). s.machine.unfed) r.places.stays)))
 
+  -- and as far as all seven steps go
   pub went_all : (r : Run s0 s1 s2 s3 s4 s5 s6 s7 m1 m2 m3 m4 m5 m6 m7) → Went s0 s7 (all_exchange r) 1 (all_acts r)
   went_all r =
       let t = record (placed r.places) { write = r.writes.write } in
@@ -156,9 +157,11 @@ module _ {s0 s1 s2 s3 s4 s5 s6 s7 : TurnState} {m1 m2 m3 m4 m5 m6 m7 : Bool} whe
   pub line_at_three : Run s0 s1 s2 s3 s4 s5 s6 s7 m1 m2 m3 m4 m5 m6 m7 → s3.line ≡ s0.line
   line_at_three r = ap (λ (s : TurnState). s.line) r.sends.stays ∙ (ap (λ (s : TurnState). s.line) r.checks.stays ∙ ap (λ (s : TurnState). s.line) r.places.stays)
 
+  -- asking the desk for a request leaves the line as it was
   pub line_at_seven : Run s0 s1 s2 s3 s4 s5 s6 s7 m1 m2 m3 m4 m5 m6 m7 → s7.line ≡ s6.line
   line_at_seven r = ap (λ (s : TurnState). s.line) r.takes.stays
 
+  -- between the first step and the last the desk's end stays
   pub driver_at_six : Run s0 s1 s2 s3 s4 s5 s6 s7 m1 m2 m3 m4 m5 m6 m7 → s6.driver ≡ s1.driver
   driver_at_six r =
       ap (λ (s : TurnState). s.driver) r.reads.stays
@@ -220,6 +223,7 @@ module _ {s0 s1 s2 s3 s4 s5 s6 s7 : TurnState} {m1 m2 m3 m4 m5 m6 m7 : Bool} whe
     pub acts_are : all_acts r ≡ r.checks.acts ++ r.sends.acts
     pub wrote : m4 ≡ false
 
+  -- so it is where no step says that it moved anything
   pub is_still : (r : Run s0 s1 s2 s3 s4 s5 s6 s7 m1 m2 m3 m4 m5 m6 m7) → (m1 || (m2 || (m3 || (m4 || (m5 || (m6 || m7)))))) ≡ false → Still r
   is_still r h =
       let p1 = or_parts m1 (m2 || (m3 || (m4 || (m5 || (m6 || m7))))) h in

@@ -169,6 +169,7 @@ module _ {s0 s1 s2 s3 s4 s5 s6 s7 : TurnState} {m1 m2 m3 m4 m5 m6 m7 : Bool} whe
   held_two b past r f live empty =
       r.checks.held b past (r.places.leads b past f) live empty
 
+  -- where nothing moved and all is written, nothing is left to do but to place what waits
   pub at_rest : (b : Beginning) (past : List Act) (r : Run s0 s1 s2 s3 s4 s5 s6 s7 m1 m2 m3 m4 m5 m6 m7) → Still r → StandingFits b s0 past → s7.machine.unwritten ≡ []
       → IsAtRest b (view_of s7) (all_exchange r) (after past (all_acts r))
   at_rest b past r q f h =
@@ -267,6 +268,7 @@ module _ {s0 s1 s2 s3 s4 s5 s6 s7 : TurnState} {m1 m2 m3 m4 m5 m6 m7 : Bool} whe
           ∙ (ap (λ (s : TurnState). s.machine.unannounced) q.got_still
           ∙ (ap (λ (k : Machine). k.unannounced) q.written ∙ ap (λ (s : TurnState). s.machine.unannounced) r.sends.stays)))
 
+  -- where nothing moved and octets wait, WriterFull means what it says
   pub is_full : (b : Beginning) (past : List Act) (r : Run s0 s1 s2 s3 s4 s5 s6 s7 m1 m2 m3 m4 m5 m6 m7) → Still r → StandingFits b s0 past → s7.machine.unwritten ≢ []
       → IsWriterFull b (view_of s7) (all_exchange r) past (after past (all_acts r))
   is_full b past r q f waits =
@@ -325,6 +327,7 @@ module _ {s0 s1 s2 s3 s4 s5 s6 s7 : TurnState} {m1 m2 m3 m4 m5 m6 m7 : Bool} whe
     rest = at_rest b past r (is_still r a.0) f a.1.written;
   }
 
+  -- the steps together are a turn, which ends in the answer that tells what moved or still waits
   pub goes_turn : (r : Run s0 s1 s2 s3 s4 s5 s6 s7 m1 m2 m3 m4 m5 m6 m7) (says : TurnAnswer) → Answers s7.machine (m1 || (m2 || (m3 || (m4 || (m5 || (m6 || m7)))))) says
       → GoesTurn (view_of s0) (view_of s7) (λ b. inside b s0) (λ b. inside b s7) says
   unfolding Leads

@@ -5,9 +5,9 @@ use Rattle.std.proofs.lemmas.List.Folds.{list_all-append}
 use Rattle.std.proofs.lemmas.Bool.{and_from}
 use Rattle.std.specs.Prelude.{◌≡◌, ◌≢◌, ℕ, zero, suc, Bool, ◌+◌, ◌<◌, ◌≤◌, true, List, [], ◌∷◌, ◌++◌, length, map, refl, Option, None, Some}
 use Rattle.std.specs.List.{list_all}
+use lib.ListN.{get_elem?}
 use Rattle.modem_desk.specs.declared.request.Request.{Request}
 use mathlib.Core.Option.{some, some-ne-none}
-use lib.ListN.{get_elem?}
 use Rattle.at_text.specs.declared.unsolicited.UrcKind.{UrcKind}
 use Rattle.modem_desk.specs.declared.request.Outcome.{Outcome}
 use Rattle.modem_desk.specs.declared.request.Urc.{Urc}
@@ -17,8 +17,9 @@ use Rattle.modem_history.specs.Acts.{Act, after}
 use Rattle.modem_desk.specs.Ends.{DriverView}
 use Rattle.modem_history.specs.Sessions.{Beginning, LineView, at_place, caller_outcomes, gots, heard_as}
 use Rattle.modem_history.specs.Turns.{Write, Read, Exchange, HandsBack, ReadHasRoom, octets_written, octets_read, request_given, calls_made, counted, outcomes_told, lines_heard, may_act}
+use Rattle.modem_history.specs.Wholes.{IsPrefixOf}
 use Rattle.modem_history.proofs.calls.StatesAfterActs.{after_both}
-use Rattle.modem_driver.specs.Endings.{Begins, KeepsEnd}
+use Rattle.modem_driver.specs.Endings.{KeepsEnd}
 use Rattle.modem_driver.specs.SessionStates.{Machine}
 use Rattle.modem_driver.specs.SessionTurns.{HasTurned}
 use Rattle.modem_driver.specs.TurnSteps.{TurnState, StandingFits, Leads, Adds, AddsAll, Places, Writes, ReadsOn, TakesOne, view_of}
@@ -105,10 +106,10 @@ find_place (k ∷ ks) (suc i) = by_place (find_place ks i)
     by_place (heard_there m e) = heard_there m e
     by_place (unheard out) = unheard out
 
-announced_grows : (s0 s : TurnState) (t : Exchange) → OffersBy s0 s t → (i : ℕ) → Begins (at_place i s0.driver.announced) (at_place i s.driver.announced)
+announced_grows : (s0 s : TurnState) (t : Exchange) → OffersBy s0 s t → (i : ℕ) → IsPrefixOf (at_place i s0.driver.announced) (at_place i s.driver.announced)
 announced_grows s0 s t o i = by_place (find_place s0.driver.desk.kinds i)
   where
-    by_place : Place s0.driver.desk.kinds i → Begins (at_place i s0.driver.announced) (at_place i s.driver.announced)
+    by_place : Place s0.driver.desk.kinds i → IsPrefixOf (at_place i s0.driver.announced) (at_place i s.driver.announced)
     by_place (heard_there k e) = record { rest = (o.lines i k e).given; joins = sym (o.lines i k e).given_are }
     by_place (unheard out) = record { rest = []; joins = append-nil (at_place i s0.driver.announced) ∙ sym (o.elsewhere i out) }
 
@@ -131,9 +132,6 @@ abbrev pub placed : {old new : TurnState} {moved : Bool} → Places old new move
 placed {old} {new} p = record { still_told = new.machine.unplaced; still_heard = new.machine.unannounced; told_back = p.told_back; heard_back = p.heard_back; write = None; read = None; next = None }
 
 -- ## The steps
-
-line_still : (s0 s1 : TurnState) → s1.line ≡ s0.line → s1.line.received ≡ s0.line.received ++ []
-line_still s0 s1 e = ap (λ (l : LineView). l.received) e ∙ sym (append-nil s0.line.received)
 
 -- first what waits is placed
 pub went_placed : (s0 s1 : TurnState) (moved : Bool) (p : Places s0 s1 moved) → Went s0 s1 (placed p) 0 []

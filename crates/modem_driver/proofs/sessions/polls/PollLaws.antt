@@ -44,6 +44,7 @@ module _ {X : Type 0} (look : X → LineView) where
         moves = through_once n mid new before.now acts turn.turn.exchange before.moves turn.going here (turn.turn.turn b before.now before.fits) (turn.turn.steps b before.now before.fits);
       }
 
+  -- the turns of a poll are turns of each history that the session fits, one after the other
   pub runs_in_histories : RunsInHistories look
   unfolding RunsInHistories TakesTurn Faults
   runs_in_histories b past old new _ f (goes_on moves) =
@@ -188,12 +189,14 @@ module _ {X : Type 0} (look : X → LineView) where
 
   -- ## What isn't a poll
 
+  -- the turns of a session whose line is lost come to Failed
   pub lost_fails : LostFails look
   unfolding LostFails RunsInHistories
   lost_fails old new ran s lost runs =
       let h = runs_in_histories look s.b s.past old new ran s.fits runs in
       lost_run s.b s.past old new h.now ran s.fits h.through (s.fits.inside.fits.lost_is ∙ lost)
 
+  -- turns that leave the line lost end in a fault
   pub no_loss_is_kept_back : NoLossIsKeptBack look
   unfolding NoLossIsKeptBack RunsInHistories
   no_loss_is_kept_back old new more s lost runs =
@@ -305,6 +308,7 @@ module _ {X : Type 0} (look : X → LineView) where
   ran_calls b past old new _ some few _ (rests_through n mid before acts t says small moves going g turn steps other) =
       (calls_on b old mid new n t before acts says some few (new_fits b past old mid n before moves) (called b past old mid n before some few moves) g turn).some (omega arith)
 
+  -- where octets wait, a poll without a fault calls the line
   pub calls_the_line : CallsTheLine look
   unfolding CallsTheLine RunsInHistories
   calls_the_line old new more s some few runs =
@@ -346,6 +350,7 @@ module _ {X : Type 0} (look : X → LineView) where
       let failed = lost_fails old on.mid on.ran s lost on.runs in
       on.given_is ∙ ap (given_by on.mid.machine) failed
 
+  -- where the line is lost and no poll gave an end, the end that is given in the future is Failed
   pub lost_gives_failed : LostGivesFailed look
   unfolding LostGivesFailed
   lost_gives_failed s given here lost none g = by g.mid g.waits g.polls

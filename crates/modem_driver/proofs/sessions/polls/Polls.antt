@@ -7,7 +7,7 @@ use Rattle.mux_station.specs.Sending.{queue}
 use Rattle.modem_desk.specs.declared.request.Outcome.{Outcome}
 use Rattle.modem_history.specs.Acts.{Act, wire}
 use Rattle.modem_history.specs.Calls.{is_lost}
-use Rattle.modem_history.specs.Wholes.{outcomes}
+use Rattle.modem_history.specs.Wholes.{IsPrefixOf, outcomes}
 use Rattle.modem_history.specs.Sessions.{Beginning, LineView, caller_outcomes, at_place}
 use Rattle.modem_history.specs.Turns.{TurnAnswer, TurnFault, says_moved}
 use Rattle.modem_history.proofs.law_proofs.SessionLaws.{runs_on}
@@ -19,7 +19,7 @@ use Rattle.modem_driver.specs.declared.session.ending.Ended.{Ended}
 use Rattle.modem_driver.specs.declared.session.ending.Ended.TheVariants.{Stopped}
 use Rattle.modem_driver.specs.declared.session.error.SessionFault.{SessionFault}
 use Rattle.modem_driver.specs.declared.session.error.SessionFault.TheVariants as fault
-use Rattle.modem_driver.specs.Endings.{Begins, HasCome, HasEnded, IsEnd}
+use Rattle.modem_driver.specs.Endings.{HasCome, HasEnded, IsEnd}
 use Rattle.modem_core.specs.Stops.{has_stopped}
 use Rattle.modem_driver.specs.Polls.{Gives, Polls, PollsFrom, PollsOn, SaysEnd, SessionGoesOn, PollSays, end_given, end_in, has_ended, is_stopped, waits_none, waits_once, with_end}
 use Rattle.modem_driver.specs.SessionStates.{SessionState, FitsAll, FitsInside, session_view}
@@ -45,18 +45,22 @@ given_is (course.Ended other) end e = cc
 module _ {X : Type 0} (look : X → LineView) where
   -- ## One turn after the other
 
+  -- where nothing is done a session goes on to itself
   pub goes_none : (s : SessionState X) → SessionGoesOn look s s
   unfolding SessionGoesOn
   goes_none s = record { acts = []; more = []; takes_more = sym (append-nil s.driver.taken); goes = λ b past f. f }
 
+  -- a session that goes on, and then goes on again, goes on from the first to the last
   pub goes_then : (old mid new : SessionState X) → SessionGoesOn look old mid → SessionGoesOn look mid new → SessionGoesOn look old new
   unfolding SessionGoesOn
   goes_then old mid new g h = runs_on (session_view look old) (session_view look mid) (session_view look new) (λ b. FitsInside b look old) (λ b. FitsInside b look mid) (λ b. FitsInside b look new) g h
 
+  -- by a turn that ends in an answer a session goes on
   pub turn_goes : (old new : SessionState X) (says : TurnAnswer) → TakesTurn look old new says → HasTurned (standing_of look old) (standing_of look new) → SessionGoesOn look old new
   unfolding SessionGoesOn TakesTurn
   turn_goes old new says t h = record { acts = t.acts; more = h.taken.rest; takes_more = sym h.taken.joins; goes = t.goes }
 
+  -- by one that ends in a fault it goes on too
   pub fault_goes : (old new : SessionState X) (why : TurnFault) → Faults look old new why → HasTurned (standing_of look old) (standing_of look new) → SessionGoesOn look old new
   unfolding SessionGoesOn Faults
   fault_goes old new why t h = record { acts = t.acts; more = h.taken.rest; takes_more = sym h.taken.joins; goes = t.goes }
@@ -117,16 +121,18 @@ module _ {X : Type 0} (look : X → LineView) where
         since = [];
         past_is = refl;
         stopped = is_stop_noted b s past k.course p1.0 f.inside.come;
-        written = subst (Begins _) (sym sent) (begins_whole _);
+        written = subst (IsPrefixOf _) (sym sent) (begins_whole _);
         placed = λ c.
             let t = f.session.told.each c in
             let all : t.since ≡ caller_outcomes c (outcomes past) = sym (append-nil t.since) ∙ (ap (λ (os : List Outcome). t.since ++ caller_outcomes c os) (sym placed) ∙ t.outcomes_are) in
-            subst (Begins _) (sym (t.told_are ∙ ap (λ (os : List Outcome). at_place c b.desk.told ++ os) all)) (begins_whole _);
+            subst (IsPrefixOf _) (sym (t.told_are ∙ ap (λ (os : List Outcome). at_place c b.desk.told ++ os) all)) (begins_whole _);
       }
 
+  -- a session that has ended goes on to one that keeps Stopped as its end
   pub ends_stopped : (s : SessionState X) → has_ended s.machine ≡ true → SessionGoesOn look s (with_end (Ok Stopped) s)
   ends_stopped s e = comes_to s (Ok Stopped) (has_ended_says s e)
 
+  -- after a fault it goes on to one that keeps the fault as its end, but for want of memory
   pub ends_failing : (s : SessionState X) (why : SessionFault) → LeavesLost why s → SessionGoesOn look s (with_end (Err why) s)
   ends_failing s fault.NoMemory lost = goes_none s
   ends_failing s fault.Line lost = comes_to s (Err fault.Line) (λ b past f. f.inside.fits.lost_is ∙ lost)
@@ -144,6 +150,7 @@ module _ {X : Type 0} (look : X → LineView) where
   pub ended_says : (s : SessionState X) (end : Result Ended SessionFault) → s.machine.course ≡ course.Ended end → SaysEnd look s end
   ended_says s end e b past f = says_end b s past end (subst (HasCome b (session_view look s) past) e f.inside.come)
 
+  -- where a fault is kept as the end, each history says so; of want of memory nothing is said
   pub failing_says : (s : SessionState X) (why : SessionFault) → SaysEnd look (with_end (Err why) s) (Err why)
   failing_says s fault.NoMemory b past f = tt
   failing_says s fault.Line b past f = ended_says (with_end (Err fault.Line) s) (Err fault.Line) refl b past f
@@ -153,6 +160,7 @@ module _ {X : Type 0} (look : X → LineView) where
   pub polls_again : (s : SessionState X) (end : Result Ended SessionFault) → s.machine.course ≡ course.Ended end → Polls look s s (progress.Ended end)
   polls_again s end e = subst (λ (c : Course). PollsFrom look c s s (progress.Ended end)) (sym e) (refl, refl)
 
+  -- where no earlier poll gave an end, one that makes its turns is a poll
   pub polls_on : (old new : SessionState X) (given : Progress) → end_given old.machine.course ≡ None → PollsOn look old new given → Polls look old new given
   polls_on old new given none p = by old.machine.course none
     where
@@ -161,9 +169,11 @@ module _ {X : Type 0} (look : X → LineView) where
       by course.Stopped e = p
       by (course.Ended end) e = let x : Some end ≡ None = e in absurd (let y : Some end ≡ None = x in cc)
 
+  -- an end that the first poll gives is an end that the session gives
   pub gives_now : (old new : SessionState X) (end : Result Ended SessionFault) → Polls look old new (progress.Ended end) → SessionGoesOn look old new → SaysEnd look new end → Gives look old end
   gives_now old new end p g h = record { mid = old; new = new; waits = waits_none old; polls = p; goes = g; says = h }
 
+  -- if what the first poll gives is an end, the session gives it
   pub gives_some : (old new : SessionState X) (given : Progress) → Polls look old new given → SessionGoesOn look old new → IfSome (end_in given) (SaysEnd look new) → IfSome (end_in given) (Gives look old)
   gives_some old new progress.More p g h = h
   gives_some old new progress.Idle p g h = h

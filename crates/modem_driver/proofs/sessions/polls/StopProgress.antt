@@ -10,7 +10,7 @@ use Rattle.modem_desk.specs.declared.request.Outcome.{Outcome}
 use Rattle.modem_history.specs.declared.act.Act as code
 use Rattle.modem_history.specs.Acts.{Act, Took, Got, Sent, Told, Heard, Tick, Lost, Held, Freed, Given, act_of, after, is_for, in_hand, without}
 use Rattle.modem_history.specs.Calls.{is_loss, is_lost}
-use Rattle.modem_history.specs.Wholes.{taken_requests, outcomes}
+use Rattle.modem_history.specs.Wholes.{IsPrefixOf, outcomes, taken_requests}
 use Rattle.modem_history.specs.Sessions.{Beginning, SessionView, at_place}
 use Rattle.modem_history.specs.Turns.{outcomes_told}
 use Rattle.modem_history.proofs.calls.StatesAfterActs.{after_both}
@@ -20,7 +20,7 @@ use Rattle.modem_driver.specs.declared.machine.course.Course.{Course}
 use Rattle.modem_driver.specs.declared.machine.course.Course.TheVariants.{GoesOn, Stopped, Ended}
 use Rattle.modem_driver.specs.declared.session.ending.Ended.TheVariants as ended
 use Rattle.modem_driver.specs.declared.session.error.SessionFault.TheVariants as fault
-use Rattle.modem_driver.specs.Endings.{Begins, HasCome, HasEnded, KeepsEnd, course_after}
+use Rattle.modem_driver.specs.Endings.{HasCome, HasEnded, KeepsEnd, course_after}
 use Rattle.modem_core.specs.Stops.{asker_of, ends_stop, has_stopped, is_answered, is_end_of, is_stop, is_stopped_by}
 use Rattle.modem_core.proofs.sessions.steps.LongerHistories.{outcomes_after}
 
@@ -108,29 +108,29 @@ lost_since (a ∷ acts) past h = lost_since acts (a ∷ past) (or_right (is_loss
 -- ## How far it has come stays so
 
 -- a list begins itself
-pub begins_whole : {X : Type 0} (xs : List X) → Begins xs xs
+pub begins_whole : {X : Type 0} (xs : List X) → IsPrefixOf xs xs
 begins_whole xs = record { rest = []; joins = append-nil xs }
 
-begins_on : {X : Type 0} (xs ys zs : List X) → Begins xs ys → Begins ys zs → Begins xs zs
+begins_on : {X : Type 0} (xs ys zs : List X) → IsPrefixOf xs ys → IsPrefixOf ys zs → IsPrefixOf xs zs
 begins_on {X} xs ys zs h k = record { rest = h.rest ++ k.rest; joins = sym (append_assoc xs h.rest k.rest) ∙ (ap (λ (ws : List X). ws ++ k.rest) h.joins ∙ k.joins) }
 
 -- more was written and told, and nothing else
 pub record Grows (v w : SessionView) : Type 0 where
-  pub sent : Begins v.line.sent w.line.sent
-  pub told : (c : ℕ) → Begins (at_place c v.desk.told) (at_place c w.desk.told)
+  pub sent : IsPrefixOf v.line.sent w.line.sent
+  pub told : (c : ℕ) → IsPrefixOf (at_place c v.desk.told) (at_place c w.desk.told)
 
 -- where nothing was written or told
 pub grows_none : (v w : SessionView) → w.line.sent ≡ v.line.sent → w.desk.told ≡ v.desk.told → Grows v w
 grows_none v w sent told = record {
-  sent = subst (λ (xs : List ℕ). Begins v.line.sent xs) (sym sent) (begins_whole v.line.sent);
-  told = λ c. subst (λ (oss : List (List Outcome)). Begins (at_place c v.desk.told) (at_place c oss)) (sym told) (begins_whole (at_place c v.desk.told));
+  sent = subst (λ (xs : List ℕ). IsPrefixOf v.line.sent xs) (sym sent) (begins_whole v.line.sent);
+  told = λ c. subst (λ (oss : List (List Outcome)). IsPrefixOf (at_place c v.desk.told) (at_place c oss)) (sym told) (begins_whole (at_place c v.desk.told));
 }
 
 -- where octets were written, and nothing was told
 pub grows_sent : (v w : SessionView) (more : List ℕ) → w.line.sent ≡ v.line.sent ++ more → w.desk.told ≡ v.desk.told → Grows v w
 grows_sent v w more sent told = record {
   sent = record { rest = more; joins = sym sent };
-  told = λ c. subst (λ (oss : List (List Outcome)). Begins (at_place c v.desk.told) (at_place c oss)) (sym told) (begins_whole (at_place c v.desk.told));
+  told = λ c. subst (λ (oss : List (List Outcome)). IsPrefixOf (at_place c v.desk.told) (at_place c oss)) (sym told) (begins_whole (at_place c v.desk.told));
 }
 
 ended_on : (b : Beginning) (v w : SessionView) (past acts : List Act) → Grows v w → HasEnded b v past → HasEnded b w (after past acts)

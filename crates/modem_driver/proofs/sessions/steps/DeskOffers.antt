@@ -19,8 +19,8 @@ use Rattle.modem_history.specs.Kinds.{of_kind, is_listened}
 use Rattle.modem_history.specs.Sessions.{Beginning, LineView, SessionView, FitsTold, FitsHeard, at_place, caller_outcomes, heard_as}
 use Rattle.modem_history.specs.EveryTurn.{count_at}
 use Rattle.modem_history.specs.Turns.{amount, counted}
+use Rattle.modem_history.specs.Wholes.{IsPrefixOf}
 use Rattle.modem_core.specs.Placing.{of_key, Gave, Stay, Placed, TellsAlone, AnnouncesAlone, caller_of, place_of, IsRingOf, IsCaller, IsListenerOf, IsHeard, Rings, caller_rings, listener_rings}
-use Rattle.modem_driver.specs.Endings.{Begins}
 use Rattle.modem_driver.specs.SessionStates.{Machine, seen_by, end_of}
 use Rattle.modem_driver.specs.TurnSteps.{Leads, Places, turn_state}
 use Rattle.modem_core.proofs.sessions.steps.OutcomeCounts.{is_callers, is_caller}
@@ -137,7 +137,7 @@ both d m e os ps us vs told announced p t q a = record {
 }
 
 -- each caller has what it had, and then more
-pub grows_told : (v w : SessionView) → ((c : ℕ) → Gave caller_of v.desk.told w.desk.told v.unplaced w.unplaced c c) → Begins v.line.sent w.line.sent → Grows v w
+pub grows_told : (v w : SessionView) → ((c : ℕ) → Gave caller_of v.desk.told w.desk.told v.unplaced w.unplaced c c) → IsPrefixOf v.line.sent w.line.sent → Grows v w
 grows_told v w gave sent = record {
   sent = sent;
   told = λ c. let g = gave c in record { rest = g.since; joins = sym g.given_are };

@@ -27,7 +27,7 @@ use Rattle.modem_driver.specs.declared.machine.delays.Delay.{Delay}
 use Rattle.modem_core.specs.Cores.{Core}
 use Rattle.modem_core.specs.CoreGoing.{StandsIn, GoesOut, CoreGoesOn, gone_on}
 use Rattle.modem_history.specs.EveryTurn.{acts_out, octets_out, goes_in}
-use Rattle.modem_history.specs.GoingOut.{SendsInTurn, next_out, out_by, next_to_send, data_of, with_out, after_out}
+use Rattle.modem_history.specs.GoingOut.{next_out, out_by, next_to_send, data_of, with_out, after_out}
 use Rattle.modem_core.specs.Holding.{HoldsFit, KeepsHeldOut}
 use Rattle.modem_core.specs.Running.{CoreIsIdle}
 use Rattle.modem_driver.specs.SessionStates.{Machine, seen_by, end_of}
@@ -149,15 +149,6 @@ record IsOut (a : Act) (past : List Act) : Type 0 where
 is_out : (c : Bool) (f : Frame) (past : List Act) → IsOut (out_act c f) past
 is_out true f past = record { taken_is = refl; hand_is = refl; room_is = λ h. h; gots_are = refl; losses_are = refl; lost_is = refl; told_are = refl; heard_are = refl; may = λ us. refl }
 is_out false f past = record { taken_is = refl; hand_is = refl; room_is = λ h. h; gots_are = refl; losses_are = refl; lost_is = refl; told_are = refl; heard_are = refl; may = λ us. refl }
-
--- what goes out is the next
-out_in_turn : (s : Setting) (c : Bool) (f : Frame) (past : List Act) → Some (with_freshness c f) ≡ next_out s past → SendsInTurn s past → SendsInTurn s (out_act c f ∷ past)
-out_in_turn s true f past next turn = (on_data (is_data_frame f), turn)
-  where
-    on_data : (b : Bool) → When b (next_out s past ≡ Some (with_freshness true f))
-    on_data true = sym next
-    on_data false = tt
-out_in_turn s false f past next turn = (tt, turn)
 
 out_few : (c : Bool) (f : Frame) → length (gots (out_act c f ∷ [])) ≤ 0
 out_few true f = omega arith

@@ -13,14 +13,14 @@ pub returns-in-Some : goal.returns-in-Some
 returns-in-Some c =
     let old : Core = record { station = c.self.inside.station; lanes = c.self.inside.lanes; hand = c.self.inside.hand; rules = c.self.inside.dialect; kinds = c.self.inside.kinds.items; lost = c.self.inside.lost } in
     let d = c.args.dlci.number in
-    let station = c.offer_line.new.station in
+    let station = c.offer_next.new.station in
     let new : Core = record old { station = station; hand = c.remove_command.new.hand } in
     let next : Some c.in-Some.line.now ≡ option_map line_of (first_on d (without_first (commands_on d) old.hand))
     = c.in-Some.ensures ∙ (ap (option_map line_of) c.from_first.ensures.first ∙ ap (λ (q : List Request). option_map line_of (first_on d q)) c.remove_command.ensures) in
     let ends : EndsCommand old new d = record {
       station = station;
       new_is = ap (λ (q : List Request). let v : Core = record old { station = station; hand = q } in v) c.remove_command.ensures;
-      next = subst (λ (o : Option (List ℕ)). HandsOn old.station station d o) next c.offer_line.ensures;
+      next = subst (λ (o : Option (List ℕ)). HandsOn old.station station d o) next c.offer_next.ensures;
     } in
     subst (λ (v : Core). EndsCommand v new d) c.self.view_is ends
 
