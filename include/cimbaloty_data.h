@@ -74,6 +74,12 @@ struct cimbaloty_data_got {
 	bool is_over;
 };
 
+/* What came of sending: how many octets of data were taken, and how many for the line the room has. */
+struct cimbaloty_data_sent {
+	size_t taken;
+	size_t count;
+};
+
 /* The calls. A pointer isn't null, also where its length is 0, and points to as many octets that have been written. */
 
 /* Makes a relay where there is none. These connections may carry data. N1 is the most octets of information that a frame may have. */
@@ -105,6 +111,13 @@ void cimbaloty_data_lost(struct cimbaloty_data *d);
  * wait to be read, and to go on where fewer than 4096 do or the lane is over. */
 uint8_t cimbaloty_data_read_at(struct cimbaloty_data *d, uint8_t dlci, uint8_t *room, size_t length, struct cimbaloty_data_got *got);
 uint8_t cimbaloty_data_give_at(struct cimbaloty_data *d, uint8_t dlci, const uint8_t *octets, size_t length, size_t *taken);
+
+/* Data to be sent, and the next octets for the line, in one call. Where nothing else waits to go, and the room has N1 + 7 octets, these
+ * octets go into the room as frames at once, copied once, while there is place for the longest frame. Else it does as
+ * cimbaloty_data_give and then cimbaloty_data_to_line. So it may take fewer octets than there are: write the room to the line, and call
+ * it with the rest. `octets` and `room` don't overlap. */
+uint8_t cimbaloty_data_send_at(struct cimbaloty_data *d, uint8_t dlci, const uint8_t *octets, size_t length, uint8_t *room, size_t size,
+		struct cimbaloty_data_sent *sent);
 
 /* How many octets of data were given and haven't left. Where the lane is over they aren't sent. */
 uint8_t cimbaloty_data_to_go_at(struct cimbaloty_data *d, uint8_t dlci, size_t *count);

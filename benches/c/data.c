@@ -114,6 +114,29 @@ static void take_all(struct run *r)
 		put(&r->lines, text, u.length);
 }
 
+/* Data is sent on 2 while nothing else waits: one frame goes at once, and in a room that is too short for one the rest goes in parts. */
+static void send(struct run *r, const uint8_t *data)
+{
+	struct cimbaloty_data_sent sent = { 7, 7 };
+	static struct octets want;
+	uint8_t room[64];
+	size_t before = r->line.length;
+
+	CHECK(cimbaloty_data_send_at(&r->d, 1, data, 69, room, sizeof room, &sent) == CIMBALOTY_DATA_NOT_DATA && sent.taken == 7 && sent.count == 7);
+	CHECK(cimbaloty_data_send_at(&r->d, 2, data, 69, room, sizeof room, &sent) == CIMBALOTY_DATA_OK && sent.taken == 31 && sent.count == 37);
+	put(&r->line, room, sent.count);
+	CHECK(cimbaloty_data_send_at(&r->d, 2, data + 31, 38, room, 20, &sent) == CIMBALOTY_DATA_OK && sent.taken == 38 && sent.count == 20);
+	put(&r->line, room, sent.count);
+	CHECK(cimbaloty_data_send_at(&r->d, 2, data, 0, room, sizeof room, &sent) == CIMBALOTY_DATA_OK && sent.taken == 0 && sent.count == 17);
+	put(&r->line, room, sent.count);
+	pass(r);
+	want.length = 0;
+	put_frame(&want, 2 << 2 | 3, 0xEF, data, 31);
+	put_frame(&want, 2 << 2 | 3, 0xEF, data + 31, 31);
+	put_frame(&want, 2 << 2 | 3, 0xEF, data + 62, 7);
+	CHECK(r->line.length - before == want.length && !memcmp(r->line.at + before, want.at, want.length));
+}
+
 /* One conversation: 2 is opened and carries data both ways, and a line comes on 1 in its midst. */
 static void converse(struct run *r)
 {
@@ -147,6 +170,7 @@ static void converse(struct run *r)
 	CHECK(cimbaloty_data_to_go_at(&r->d, 2, &waits) == CIMBALOTY_DATA_OK && waits == 1000);
 	pass(r);
 	CHECK(cimbaloty_data_to_go_at(&r->d, 2, &waits) == CIMBALOTY_DATA_OK && waits == 0);
+	send(r, data);
 	take_all(r);
 	pass(r);
 	take_all(r);

@@ -1,5 +1,5 @@
 /* relay.c - data through the relay (cimbaloty_data.h), beside a decoder and an encoder that copy once. benches/relay/run says how.
- * usage: relay in|plain_in|out|plain_out|both N1 FRAMES */
+ * usage: relay in|plain_in|out|sent|plain_out|both N1 FRAMES */
 #define _POSIX_C_SOURCE 200809L
 #include "cimbaloty_data.h"
 #include "plain.h"
@@ -139,6 +139,20 @@ __attribute__((noinline)) size_t carry_out(struct cimbaloty_data *d, const uint8
 	return went;
 }
 
+/* What is counted: data is sent, and goes to the line at once. Gives how many octets of frames. */
+__attribute__((noinline)) size_t send_out(struct cimbaloty_data *d, const uint8_t *data, size_t length)
+{
+	static uint8_t room[PIECE];
+	struct cimbaloty_data_sent sent;
+	size_t went = 0;
+
+	for (size_t at = 0; at < length; at += sent.taken) {
+		CHECK(cimbaloty_data_send_at(d, DLCI, data + at, length - at < PIECE ? length - at : PIECE, room, sizeof room, &sent) == CIMBALOTY_DATA_OK);
+		went += sent.count;
+	}
+	return went;
+}
+
 /* What is counted: the same by an encoder that copies once. */
 __attribute__((noinline)) size_t plain_out(const uint8_t *data, size_t length, uint16_t n1)
 {
@@ -165,6 +179,12 @@ int main(int argc, char **argv)
 		CHECK(plain_in(line, length, n1) == total);
 	} else if (strcmp(argv[1], "plain_out") == 0) {
 		CHECK(plain_out(data, total, n1) > total);
+	} else if (strcmp(argv[1], "sent") == 0) {
+		struct cimbaloty_data d;
+
+		open_relay(&d, n1);
+		CHECK(send_out(&d, data, total) == length);
+		cimbaloty_data_free(&d);
 	} else {
 		struct cimbaloty_data d;
 		size_t before = held;

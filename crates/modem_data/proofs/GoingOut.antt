@@ -30,7 +30,8 @@ leaves_out v w f octets law none empty leads e is =
 pub none_goes : (v : Relay) → GoesOut v v []
 none_goes v = wrote_none v v (still_out refl)
 
-more_are : (m n : ℕ) (old new : List ℕ) → m ≤ length old → take (m + n) (take m old ++ new) ≡ take m old ++ take n new
+-- what went and the first of what goes are the first of both
+pub more_are : (m n : ℕ) (old new : List ℕ) → m ≤ length old → take (m + n) (take m old ++ new) ≡ take m old ++ take n new
 more_are m n old new few = ap (λ k. take (k + n) (take m old ++ new)) (sym (length-take-le m old few)) ∙ take-append-add (take m old) new n
 
 -- a frame more went

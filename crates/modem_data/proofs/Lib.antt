@@ -7,6 +7,7 @@ mod PipeSets
 mod PipeSetCalls
 mod Relays
 mod GoingOut
+mod Through
 mod Handed
 mod WithoutData
 mod SwitchRowFacts

@@ -275,7 +275,8 @@ each_one v P own other role n1 ds past h e = at (find v.each e)
 pub flow_of : (ps : List Pipe) (i d : ℕ) (go : Bool) → i < length ps → ((p : Pipe) → (slice_index_or ps i p).watch.dlci ≡ d) → ((p : Pipe) → SaysFlow (slice_index_or ps i p) (Some go)) → IsFlowOf ps d go
 flow_of ps i d go there here says = record { place = i; there = there; here = here; says = says }
 
-some_pipe : (ps : List Pipe) (i : ℕ) → i < length ps → Pipe
+-- a pipe of those, where there is one
+pub some_pipe : (ps : List Pipe) (i : ℕ) → i < length ps → Pipe
 some_pipe [] i there = absurd (omega (arith, there))
 some_pipe (p ∷ ps) i there = p
 

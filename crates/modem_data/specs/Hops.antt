@@ -1,5 +1,5 @@
 -- What passes a relay between the line and a driver, as octets and as frames. A past is written newest first.
-use Rattle.std.specs.Prelude.{◌≡◌, ℕ, Bool, true, false, List, [], ◌∷◌, ◌++◌, length, Option, Some, None, filter_map, flat_map, if◌then◌else◌}
+use Rattle.std.specs.Prelude.{◌≡◌, ℕ, ◌==◌, ◌<◌, slice_index_or, Bool, true, false, List, [], ◌∷◌, ◌++◌, length, Option, Some, None, filter_map, flat_map, if◌then◌else◌}
 use Rattle.std.specs.List.{list_all}
 use Rattle.mux_frame.specs.Frames.{Frame}
 use Rattle.mux_station.specs.declared.role.Role.{Role}
@@ -8,8 +8,9 @@ use Rattle.mux_frame.specs.Spelling.{spelled}
 use Rattle.mux_frame.specs.Reading.{Reads}
 use Rattle.mux_frame.specs.Deframing.{Deframing, Deframes}
 use Rattle.modem_data.specs.Switching.{Carries, released, before_of, behind_of, lines_of}
-use Rattle.modem_data.specs.Passing.{Pass, Came, Went, Flowed, Left, Began, is_data, carries, IsDue}
-use Rattle.modem_data.specs.PipeSets.{PipeSet, PipesFit, InTurn, IsAmong, NoneLeaves}
+use Rattle.modem_data.specs.Passing.{Pass, Came, Went, Flowed, Left, Began, Gave, is_data, carries, IsDue}
+use Rattle.modem_data.specs.Pipes.{Pipe, HasNoneToSend}
+use Rattle.modem_data.specs.PipeSets.{PipeSet, PipesFit, InTurn, IsAmong, IsFreeAt, NoneLeaves, OfEachPast}
 
 -- octets come from the line, or are given to the driver; octets come from the driver, or are given to the line; a frame or
 -- octets of data pass
@@ -231,3 +232,23 @@ pub data GoesOut : (old new : Relay) → (octets : List ℕ) → Type 0 where
   wrote_some : (old between new : Relay) (octets : List ℕ) → OneOut old between → Hops between new (Wrote octets) → GoesOut old new octets
   wrote_more : (old between new : Relay) (first more : List ℕ) → GoesOut old between first → GoesOut between new more → GoesOut old new (first ++ more)
   wrote_none : (old new : Relay) → OneOut old new → GoesOut old new []
+
+-- ## Sent without a wait
+
+-- nothing is before data: no octets wait for the line, no frame of the driver's is at hand, and no data waits that may leave
+pub record IsClear (v : Relay) : Type 0 where
+  pub first : v.inner.next ≡ None
+  pub none_wait : (length v.to_line == 0) ≡ true
+  pub none_to_send : (j : ℕ) (p : Pipe) → j < length v.pipes.each → HasNoneToSend (slice_index_or v.pipes.each j p)
+
+-- what is given to a connection, whose pipe is at this place, may go to the line at once
+pub record IsWayThrough (v : Relay) (place d : ℕ) : Type 0 where
+  pub clear : IsClear v
+  pub none_due : OfEachPast v.pipes (λ role past. (e : ℕ) (go : Bool) → ¬ IsDue role e past go)
+  pub free : IsFreeAt v.pipes place d
+
+-- these octets were given to a connection, and those went to the line behind them; then more, given and gone so; or nothing was done
+pub data SendsOut : (old new : Relay) → (d : ℕ) → (gave out : List ℕ) → Type 0 where
+  sent : (old between new : Relay) (d : ℕ) (gave out : List ℕ) → Hops old between (Passed (Gave d gave)) → GoesOut between new out → SendsOut old new d gave out
+  sent_more : (old between new : Relay) (d : ℕ) (gave out more_gave more_out : List ℕ) → SendsOut old between d gave out → SendsOut between new d more_gave more_out → SendsOut old new d (gave ++ more_gave) (out ++ more_out)
+  sent_none : (old : Relay) (d : ℕ) → SendsOut old old d [] []

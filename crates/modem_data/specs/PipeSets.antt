@@ -7,7 +7,7 @@ use Rattle.modem_data.specs.declared.switch.LineCut.{LineCut}
 use Rattle.modem_data.specs.Switching.{Idle, IsCut, lets_leave}
 use Rattle.modem_data.specs.Watching.{may_leave}
 use Rattle.modem_data.specs.Passing.{Pass, Left, wire, is_data, carries, given, left, holds, driver_holds, LawfulPasses}
-use Rattle.modem_data.specs.Pipes.{Pipe, PipeFits, HasNoneToSend, MayLeave, SaysFlow, next_data}
+use Rattle.modem_data.specs.Pipes.{Pipe, PipeFits, HasNoneToSend, IsFree, MayLeave, SaysFlow, next_data}
 
 -- which end of the line it is, the pipes, and the place from which on the next is looked for that may send
 pub record PipeSet : Type 0 where
@@ -139,6 +139,12 @@ pub record IsNext (v : PipeSet) (place : ℕ) : Type 0 where
   pub may : (p : Pipe) → MayLeave (slice_index_or v.each place p)
   pub none_before : (j : ℕ) (p : Pipe) → j < length v.each → comes_before v.turn j place ≡ true
       → HasNoneToSend (slice_index_or v.each j p)
+
+-- the pipe at a place is that of a connection, and free
+pub record IsFreeAt (v : PipeSet) (place d : ℕ) : Type 0 where
+  pub there : place < length v.each
+  pub here : (p : Pipe) → (slice_index_or v.each place p).watch.dlci ≡ d
+  pub free : (p : Pipe) → IsFree (slice_index_or v.each place p)
 
 -- ## Flow
 

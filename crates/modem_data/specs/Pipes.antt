@@ -61,15 +61,26 @@ HasNoneToSend v =
     (role : Role) (n1 d : ℕ) (past : List Pass) → PipeFits role n1 d v past
     → lets_leave (carries role d past) ≡ true → may_leave role d (wire past) ≡ true → left d past ≡ given d past
 
+-- a frame of data with these octets
+abbrev pub data_of : Pipe → List ℕ → Frame
+data_of v info = written v.watch.role Uih v.watch.dlci info
+
 -- the next frame of data: of what waits as many octets as N1 allows
 abbrev pub next_data : ℕ → Pipe → Frame
-next_data n1 v = written v.watch.role Uih v.watch.dlci (take n1 v.lane.to_go)
+next_data n1 v = data_of v (take n1 v.lane.to_go)
 
 -- a frame of data is at hand to leave
 pub record MayLeave (v : Pipe) : Type 0 where
   pub lets : lets_leave v.lane.carries ≡ true
   pub may : SaysMayLeave v.watch true
   pub some : (length v.lane.to_go == 0) ≡ false
+
+-- what is given to it may leave at once, since nothing that was given before waits
+pub record IsFree (v : Pipe) : Type 0 where
+  pub is_open : v.watch.own.is_open ≡ true
+  pub lets : lets_leave v.lane.carries ≡ true
+  pub may : SaysMayLeave v.watch true
+  pub none : (length v.lane.to_go == 0) ≡ true
 
 -- ## What a frame makes of a pipe
 

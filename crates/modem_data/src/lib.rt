@@ -26,5 +26,5 @@ pub use begin::{Begin, Until};
 pub use error::DataError;
 pub use lane::MOST_TO_GO;
 pub use pipe::{Pipe, Reading};
-pub use relay::{Input, Relay};
+pub use relay::{Input, Relay, Sent};
 pub use switch::is_connect;

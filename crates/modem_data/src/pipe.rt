@@ -8,7 +8,7 @@ ghost use Rattle.modem_data.specs.declared.error.DataError.TheVariants as error;
 ghost use Rattle.modem_data.specs.DataLanes.{most_to_go};
 ghost use Rattle.modem_data.specs.Switching.{IsWithin};
 ghost use Rattle.modem_data.specs.Passing.{Came, Went, Flowed, Left, Lost, Began, EndedLane, Gave, Read, flow_by};
-ghost use Rattle.modem_data.specs.Pipes.{BeginsPipe, HandsOn, HasNoneToSend, TakesNone, IsShut, Leads, LeadsLeft, SaysBehind, SaysFlow, SaysLane, SaysOver, HasUnread, MayLeave, next_data, pipe_drops, saw_pipe, sent_pipe, flowed_pipe, lost_pipe};
+ghost use Rattle.modem_data.specs.Pipes.{BeginsPipe, HandsOn, HasNoneToSend, TakesNone, IsShut, Leads, LeadsLeft, SaysBehind, SaysFlow, SaysLane, SaysOver, HasUnread, IsFree, MayLeave, data_of, next_data, pipe_drops, saw_pipe, sent_pipe, flowed_pipe, lost_pipe};
 
 use crate::begin::{Begin, Until, is_by_carrier};
 use crate::error::DataError;
@@ -285,6 +285,40 @@ impl Pipe {
         !self.lane.to_go().is_empty()
     }
 
+    /// Whether octets that are given may leave at once: none waits before them.
+    #[tactic(auto, using(crate::proofs::Through::is_free))]
+    pub(crate) fn is_free(&self) -> bool
+        ensures { result ≡ true → IsFree self.now }
+    {
+        if !self.watch.is_open() {
+            return false;
+        }
+        if !self.lane.lets_leave() {
+            return false;
+        }
+        let may_leave = self.watch.may_leave();
+        if !may_leave {
+            return false;
+        }
+        self.to_go() == 0
+    }
+
+    /// A frame of data with these octets.
+    pub(crate) fn data_frame<'a>(&self, info: &'a [u8]) -> FrameView<'a>
+        ensures frame { frame_of result ≡ data_of self.now info.now }
+        ensures kind { result.kind ≡ Uih }
+        ensures pf { result.pf ≡ false }
+        ensures info { result.info.now ≡ info.now }
+    {
+        FrameView {
+            dlci: self.watch.dlci(),
+            kind: Kind::Uih,
+            cr: info_cr(self.watch.role()),
+            pf: false,
+            info,
+        }
+    }
+
     /// The next frame of data, lent. Requires that one may leave.
     pub(crate) fn next_frame(&self, n1: u16) -> FrameView<'_>
         requires ready { MayLeave self.now }
@@ -295,13 +329,7 @@ impl Pipe {
         ensures short { length result.info.now ≤ n1 }
     {
         let octets = self.lane.to_go();
-        FrameView {
-            dlci: self.watch.dlci(),
-            kind: Kind::Uih,
-            cr: info_cr(self.watch.role()),
-            pf: false,
-            info: &octets[..front(octets, n1)],
-        }
+        self.data_frame(&octets[..front(octets, n1)])
     }
 
     /// It leaves. Requires that it may.

@@ -8,8 +8,8 @@ ghost use Rattle.modem_data.specs.declared.error.DataError.TheVariants as error;
 ghost use Rattle.modem_data.specs.DataLanes.{most_to_go};
 ghost use Rattle.modem_data.specs.Switching.{Idle as idle, IsWithin, is_behind_lines, is_idle, takes_given};
 ghost use Rattle.modem_data.specs.Passing.{Came, Went, Flowed, Lost, Began, EndedLane, Gave, Read, IsDue, IsOver, carries, data_came, data_read, given, left, to_go, unread, wire, flow_frame};
-ghost use Rattle.modem_data.specs.Pipes.{Pipe as Kept, PipeFits, HasNoneToSend, MayLeave, SaysFlow, saw_pipe, sent_pipe, flowed_pipe, lost_pipe};
-ghost use Rattle.modem_data.specs.PipeSets.{AllHand, AllLead, AreApart, BeginsAll, IsAmong, IsTwice, HasPipe, IsFlowOf, IsNext, IsNextFrame, IsNotData, NoneLeaves, NoneOf, NonesIn, OfEachPast, LeavesInTurn, connections, numbers};
+ghost use Rattle.modem_data.specs.Pipes.{Pipe as Kept, PipeFits, HasNoneToSend, MayLeave, SaysFlow, data_of, saw_pipe, sent_pipe, flowed_pipe, lost_pipe};
+ghost use Rattle.modem_data.specs.PipeSets.{AllHand, AllLead, AreApart, BeginsAll, IsAmong, IsTwice, HasPipe, IsFlowOf, IsFreeAt, IsNext, IsNextFrame, IsNotData, NoneLeaves, NoneOf, NonesIn, OfEachPast, LeavesInTurn, connections, numbers};
 
 use crate::begin::{Begin, Until};
 use crate::error::DataError;
@@ -238,6 +238,39 @@ impl Pipes {
             return later;
         }
         first_ready(&self.each, 0, self.turn)
+    }
+
+    /// The place of a connection's pipe, where octets given to it may leave at once.
+    pub fn free_place(&self, dlci: Dlci) -> Option<usize>
+        ensures { IfSome result (λ i. IsFreeAt self.now i dlci.number) }
+    {
+        let place = place_of(&self.each, dlci)?;
+        if self.each[place].is_free() {
+            Some(place)
+        } else {
+            None
+        }
+    }
+
+    /// A frame of data with these octets, of the pipe at a place. Requires that there is one.
+    pub fn data_frame<'a>(&self, place: usize, info: &'a [u8]) -> FrameView<'a>
+        requires there { place < length self.now.each }
+        ensures frame { (p : Kept) → frame_of result ≡ data_of (slice_index_or self.now.each place p) info.now }
+        ensures kind { result.kind ≡ Uih }
+        ensures pf { result.pf ≡ false }
+        ensures info { result.info.now ≡ info.now }
+    {
+        self.each[place].data_frame(info)
+    }
+
+    /// A frame of data of the pipe at a place went: the next turn is that of the place behind. Requires that there is one.
+    pub fn went_through(&mut self, place: usize)
+        requires there { place < length self.old.each }
+        ensures { self.new ≡ record self.old { turn = place + 1 } }
+    {
+        if place < self.each.len() {
+            self.turn = place + 1;
+        }
     }
 
     /// The next frame of data of the pipe at a place, lent. Requires that it is its turn.

@@ -23,6 +23,7 @@ use std::alloc::{AllocError, Global};
 use std::marker::Model;
 
 mod out;
+mod through;
 
 /// A relay between a line and a driver: it passes the frames of each on to the other, but for data.
 ///
@@ -31,7 +32,7 @@ mod out;
 /// - Hand what the line gave to `from_line`. Give the driver what `for_driver` lends, and say by `handed` how much.
 /// - Where `wants_driver` says so, hand the driver's octets to `feed_driver`. While `ready` says so, write what `for_line` lends,
 ///   and say by `wrote` how much; or have `put_out` write it to a room.
-/// - `give` takes data to be sent, `read` gives what came, and says where the lane is over.
+/// - `give` takes data to be sent, `send` takes it and writes to a room, `read` gives what came, and says where the lane is over.
 /// - `lost` says that the line failed: each lane is over, and what came stays readable.
 #[derive(Drop)]
 pub struct Relay {
@@ -67,6 +68,15 @@ pub struct Input {
     pub taken: usize,
     /// Memory was refused: a frame is at hand that hasn't passed.
     pub is_blocked: bool,
+}
+
+/// What came of sending.
+#[derive(Clone, Copy)]
+pub struct Sent {
+    /// So many octets of data were taken.
+    pub taken: usize,
+    /// The room has so many octets for the line.
+    pub count: usize,
 }
 
 impl Relay {

@@ -4,7 +4,7 @@
 //! # Layout
 //!
 //! - `held_data`, `handle`: what C keeps of a relay. `making`.
-//! - `lanes`, `octets`: its calls. `numbers`, `places`: numbers and the caller's room.
+//! - `lanes`, `octets`, `sending`: its calls. `numbers`, `places`: numbers and the caller's room.
 #![tactic(auto)]
 
 mod handle;
@@ -14,5 +14,6 @@ mod making;
 mod numbers;
 mod octets;
 mod places;
+mod sending;
 
 pub use held_data::CimbalotyData;
