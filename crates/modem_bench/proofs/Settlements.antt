@@ -139,8 +139,7 @@ module _ {X : Type 0} (look : X → LineView) where
         none_told = begun.none_told;
         none_announced = begun.none_announced;
         follow =
-            let o = one_of s0 s1 begun h in
-            (
+            let o = one_of s0 s1 begun h in (
               record {
                 begins = refl;
                 kinds_are = sym (ap (λ (d : DeskId). d.kinds) h.takes.desk ∙ begun.kinds);
