@@ -6,6 +6,7 @@ pub mod Leaving
 pub mod Muxes
 pub mod Served
 pub mod Stepping
+pub mod LeftOctets
 pub mod Watched
 mod DataLines
 mod DataEnding

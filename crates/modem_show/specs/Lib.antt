@@ -1,5 +1,4 @@
 pub mod Ways
-pub mod Messages
 pub mod Asking
 pub mod Ends
 pub mod Judging

@@ -6,7 +6,8 @@ ghost use Rattle.modem_show.specs.Asking.{answers, drops, excuses, excused_by, i
 
 use crate::deed::Deed;
 use crate::message::{
-    answers_close_down, both_respond, closes_down, is_kind, is_mode_frame_on, message_in,
+    answers_close_down, both_respond, closes_down, is_kind, is_mode_frame_on, message_answers,
+    message_asks, message_in,
 };
 use mux_capture::Stamp;
 use mux_frame::{FrameBuf, FrameView, Kind};
@@ -32,7 +33,7 @@ pub(crate) fn is_ask(frame: FrameView<'_>) -> bool
 {
     is_mode_command(frame)
         || match message_in(frame) {
-            Some(message) => message.asks(),
+            Some(message) => message_asks(&message),
             None => false,
         }
 }
@@ -43,7 +44,7 @@ pub fn is_answer(frame: FrameView<'_>) -> bool
 {
     is_mode_answer(frame)
         || match message_in(frame) {
-            Some(message) => message.answers(),
+            Some(message) => message_answers(&message),
             None => false,
         }
 }

@@ -24,7 +24,6 @@ mod watcher;
 
 pub use ask::{Ask, is_answer};
 pub use faults::Faults;
-pub use message::{Message, message_of, msc_dlci, msc_stops};
 pub use rule::Rule;
 pub use talk::Talk;
 pub use talks::Talks;

@@ -1,75 +1,19 @@
 //! Control messages of frames (27.010, 5.4.6).
 ghost use Rattle.std.specs.Prelude.{◌≡◌, ℕ, ◌==◌, ◌&&◌, ◌≤◌, Some, option_map};
 ghost use Rattle.mux_frame.specs.Frames.{frame_of};
-ghost use Rattle.mux_station.specs.Messages.{Message as Told, message_in, message_of, is_command, msc_dlci, msc_stops, is_good_msc, if_good, brings_command, brings_response};
+ghost use Rattle.mux_station.specs.Messages.{message_in, message_of, is_command, brings_command, brings_response};
 ghost use Rattle.mux_station.specs.Stopping.{flow_says, msc_says};
 ghost use Rattle.mux_station.specs.Written.{is_data_frame, is_kind, is_on};
 ghost use Rattle.mux_station.specs.Opening.{is_mode_frame_on};
 ghost use Rattle.mux_station.specs.Tables.{is_supported};
-ghost use Rattle.modem_show.specs.Messages.{message_read};
+ghost use Rattle.mux_station.specs.MessagesRead.{message_read};
 ghost use Rattle.modem_show.specs.Asking.{message_asks, message_answers, names, responds, both_respond};
 ghost use Rattle.modem_show.specs.Ends.{says_at};
 ghost use Rattle.modem_show.specs.Judging.{is_message, is_text};
 
 use mux_frame::{FrameView, Kind};
-use mux_station::written::{CLD, FCOFF, FCON, MSC, MSC_RESPONSE, NSC, NSC_RESPONSE, TEST};
-
-/// A message as read: its type octet and its value.
-#[derive(Clone, Copy)]
-pub struct Message<'a> {
-    /// Its type octet, of a command or a response.
-    pub octet: u8,
-    /// Its value.
-    pub value: &'a [u8],
-}
-
-/// The connection that an MSC names; 0 where the MSC has no value.
-pub fn msc_dlci(value: &[u8]) -> u8
-    ensures { result ≡ msc_dlci value.now }
-{
-    match value.first() {
-        Some(octet) => octet / 4,
-        None => 0,
-    }
-}
-
-/// Whether the FC bit of an MSC says that no frames can be accepted.
-pub fn msc_stops(value: &[u8]) -> bool
-    ensures { result ≡ msc_stops value.now }
-{
-    match value.get(1) {
-        Some(signals) => signals / 2 % 2 == 1,
-        None => false,
-    }
-}
-
-fn is_good_msc(value: &[u8]) -> bool
-    ensures { result ≡ is_good_msc value.now }
-{
-    let dlci = msc_dlci(value);
-    value.len() >= 2 && dlci > 0 && dlci <= 61
-}
-
-/// The message that information begins with.
-pub fn message_of(info: &[u8]) -> Option<Message<'_>>
-    ensures { option_map message_read result ≡ message_of info.now }
-{
-    let (&octet, rest) = info.split_first()?;
-    let (&indicator, rest) = rest.split_first()?;
-    if octet % 2 == 0 || indicator % 2 == 0 {
-        return None;
-    }
-    let length = usize::from(indicator / 2);
-    if length > rest.len() {
-        return None;
-    }
-    let value = &rest[..length];
-    let is_msc = octet == MSC || octet == MSC_RESPONSE;
-    if is_msc && !is_good_msc(value) {
-        return None;
-    }
-    Some(Message { octet, value })
-}
+use mux_station::written::{CLD, FCOFF, FCON, MSC, NSC, NSC_RESPONSE, TEST};
+use mux_station::{Message, msc_dlci, msc_stops};
 
 /// Whether a frame is of this kind and on this connection.
 pub(crate) fn is_on(kind: Kind, dlci: u8, frame: FrameView<'_>) -> bool
@@ -114,7 +58,7 @@ pub(crate) fn message_in(frame: FrameView<'_>) -> Option<Message<'_>>
     ensures { option_map message_read result ≡ message_in (frame_of frame.entry) }
 {
     if is_on(Kind::Uih, 0, frame) {
-        message_of(frame.info)
+        Message::read(frame.info)
     } else {
         None
     }
@@ -151,77 +95,75 @@ pub(crate) fn is_text(octets: &[u8]) -> bool
 pub(crate) fn is_message(info: &[u8]) -> bool
     ensures { result ≡ is_message info.now (message_of info.now) }
 {
-    match message_of(info) {
-        Some(message) => message.is_supported() && info.len() == message.value.len() + 2,
+    match Message::read(info) {
+        Some(message) => is_supported(message.octet) && info.len() == message.value.len() + 2,
         None => false,
     }
 }
 
-impl Message<'_> {
-    fn is_command(&self) -> bool
-        ensures { result ≡ is_command (message_read self.now) }
-    {
-        self.octet / 2 % 2 == 1
-    }
+fn is_command(message: &Message<'_>) -> bool
+    ensures { result ≡ is_command (message_read message.now) }
+{
+    message.octet / 2 % 2 == 1
+}
 
-    /// Whether it asks for a response.
-    pub(crate) fn asks(&self) -> bool
-        ensures { result ≡ message_asks (Some (message_read self.now)) }
-    {
-        self.is_command() && self.octet != NSC
-    }
+/// Whether it asks for a response.
+pub(crate) fn message_asks(message: &Message<'_>) -> bool
+    ensures { result ≡ message_asks (Some (message_read message.now)) }
+{
+    is_command(message) && message.octet != NSC
+}
 
-    /// Whether it is a response.
-    pub(crate) fn answers(&self) -> bool
-        ensures { result ≡ message_answers (Some (message_read self.now)) }
-    {
-        !self.is_command()
-    }
+/// Whether it is a response.
+pub(crate) fn message_answers(message: &Message<'_>) -> bool
+    ensures { result ≡ message_answers (Some (message_read message.now)) }
+{
+    !is_command(message)
+}
 
-    fn is_supported(&self) -> bool
-        ensures { result ≡ is_supported self.now.octet }
-    {
-        matches!(self.octet, TEST | FCOFF | FCON | CLD | MSC)
-    }
+fn is_supported(octet: u8) -> bool
+    ensures { result ≡ is_supported octet }
+{
+    matches!(octet, TEST | FCOFF | FCON | CLD | MSC)
+}
 
-    /// Whether its value names this type, as a command or as its response.
-    fn names(&self, octet: u8) -> bool
-        requires { 2 ≤ octet }
-        ensures { result ≡ names octet self.now.value.now }
-    {
-        match self.value {
-            [named] => *named == octet || *named == octet - 2,
-            _ => false,
-        }
+/// Whether a message's value names this type, as a command or as its response.
+fn names(value: &[u8], octet: u8) -> bool
+    requires { 2 ≤ octet }
+    ensures { result ≡ names octet value.now }
+{
+    match value {
+        [named] => *named == octet || *named == octet - 2,
+        _ => false,
     }
+}
 
-    /// Whether it responds to this command.
-    fn responds_to(&self, command: &Message<'_>) -> bool
-        ensures { result ≡ (message_asks (Some (message_read command.now))
-            && responds (message_read command.now) (message_read self.now)) }
-    {
-        command.asks()
-            && ((self.octet == command.octet - 2
-                && (!command.is_supported() || self.value == command.value))
-                || (self.octet == NSC_RESPONSE && self.names(command.octet)))
+/// Whether it responds to this command.
+fn responds_to(message: &Message<'_>, command: &Message<'_>) -> bool
+    ensures { result ≡ (message_asks (Some (message_read command.now))
+        && responds (message_read command.now) (message_read message.now)) }
+{
+    message_asks(command)
+        && ((message.octet == command.octet - 2
+            && (!is_supported(command.octet) || message.value == command.value))
+            || (message.octet == NSC_RESPONSE && names(message.value, command.octet)))
+}
+
+/// What it says of the stop that is kept at a connection.
+pub(crate) fn told_at(message: &Message<'_>, dlci: u8) -> Option<bool>
+    ensures { result ≡ says_at dlci (message_read message.now) }
+{
+    if dlci != 0 {
+        return if message.octet == MSC && msc_dlci(message.value) == dlci {
+            Some(msc_stops(message.value))
+        } else {
+            None
+        };
     }
-
-    /// What it says of the stop that is kept at a connection.
-    pub(crate) fn says_at(&self, dlci: u8) -> Option<bool>
-        ensures { result ≡ says_at dlci (message_read self.now) }
-    {
-        if dlci != 0 {
-            return if self.octet == MSC && msc_dlci(self.value) == dlci {
-                Some(msc_stops(self.value))
-            } else {
-                None
-            };
-        }
-        match self.octet {
-            FCOFF => Some(true),
-            FCON => Some(false),
-            _ => None,
-        }
+    match message.octet {
+        FCOFF => Some(true),
+        FCON => Some(false),
+        _ => None,
     }
 }
 
@@ -230,7 +172,7 @@ pub(crate) fn both_respond(command: Option<Message<'_>>, message: Option<Message
     ensures { result ≡ both_respond (option_map message_read command.entry) (option_map message_read message.entry) }
 {
     match (command, message) {
-        (Some(command), Some(message)) => message.responds_to(&command),
+        (Some(command), Some(message)) => responds_to(&message, &command),
         _ => false,
     }
 }

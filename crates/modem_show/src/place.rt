@@ -7,7 +7,7 @@ ghost use Rattle.modem_show.specs.Ways.{act_of};
 ghost use Rattle.modem_show.specs.Ends.{says_at, stop_after, place_after, stop_in};
 
 use crate::deed::Deed;
-use crate::message::{closes_down, is_mode_frame_on, is_on, message_in};
+use crate::message::{closes_down, is_mode_frame_on, is_on, message_in, told_at};
 use mux_frame::{FrameView, Kind};
 use mux_station::Role;
 
@@ -84,7 +84,7 @@ fn says_at(dlci: u8, frame: FrameView<'_>, deed: Deed) -> Option<bool>
     ensures { result ≡ got_says (says_at dlci) (act_of deed (frame_of frame.entry)) }
 {
     match deed {
-        Deed::Got => message_in(frame)?.says_at(dlci),
+        Deed::Got => told_at(&message_in(frame)?, dlci),
         Deed::Sent => None,
     }
 }

@@ -5,6 +5,7 @@ pub mod QuietFrames
 pub mod OpenBelowZero
 pub mod DriverFollows
 pub mod DriverOpen
+pub mod SentRequests
 pub mod NoneUnopened
 pub mod DriverStates
 pub mod DiscBehindUa

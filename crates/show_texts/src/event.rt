@@ -3,19 +3,20 @@ ghost use Rattle.std.specs.Prelude.{◌≡◌, ◌++◌, OnOk, length, option_ma
 ghost use Rattle.std.specs.String.{string_bytes};
 ghost use Rattle.mux_frame.specs.Frames.{frame_of};
 ghost use Rattle.mux_station.specs.Messages.{message_of};
-ghost use Rattle.modem_show.specs.Messages.{message_read};
+ghost use Rattle.mux_station.specs.MessagesRead.{message_read};
 ghost use Rattle.show_texts.specs.Frames.{control_text, data_text, event_text, message_word, mode_text, mode_word, octets_part, uih_text, value_text};
 
 use crate::complaint::push_octets;
 use crate::line::push_told_lines;
 use crate::words::push_head;
 use at_text::Dialect;
-use modem_show::{Message, Told, message_of, msc_dlci, msc_stops};
+use modem_show::Told;
 use mux_capture::{Direction, Stamp};
 use mux_frame::{Dlci, FrameView, Kind};
 use mux_station::written::{
     CLD, CLD_RESPONSE, FCOFF, FCON, MSC, MSC_RESPONSE, NSC, NSC_RESPONSE, TEST, TEST_RESPONSE,
 };
+use mux_station::{Message, msc_dlci, msc_stops};
 use std::alloc::{AllocError, Global};
 use std::fmt::Write;
 
@@ -100,7 +101,7 @@ fn push_value(alloc: Global, message: Message<'_>, text: &mut String) -> Result<
 fn push_control(alloc: Global, info: &[u8], text: &mut String) -> Result<(), AllocError>
     ensures { OnOk result (string_bytes text.new ≡ string_bytes text.old ++ control_text info.now (message_of info.now)) }
 {
-    match message_of(info) {
+    match Message::read(info) {
         Some(message) => {
             text.push_str(message_word(message.octet))?;
             push_value(alloc, message, text)?;

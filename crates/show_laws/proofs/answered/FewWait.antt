@@ -23,7 +23,7 @@ use Rattle.show_laws.proofs.asks.NoneUnasked.{driver_answers, driver_shaped, mod
 use Rattle.show_laws.proofs.asks.WaitingAsks.{excused_many, frames_of, frames_to, many_asks}
 use Rattle.show_laws.proofs.counts.ManyFrames.{many, unit}
 use Rattle.show_laws.proofs.lines.EveryFrame.{lawful_before, over}
-use Rattle.show_laws.proofs.openings.DriverOpen.{removed_fewer}
+use Rattle.show_laws.proofs.openings.SentRequests.{removed_fewer}
 
 -- what waits of the first test was asked by a frame of the second, and a frame of the third answers one of the first
 pub record IsTriple (w t u : Frame → Bool) : Type 0 where

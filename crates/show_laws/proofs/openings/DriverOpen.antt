@@ -1,12 +1,11 @@
 -- The driver sends data where what passed says that the connection is open.
-use Rattle.std.specs.Prelude.{◌≡◌, zero, ℕ, ◌+◌, ◌==◌, ◌≤◌, ◌&&◌, ◌||◌, not, Bool, true, false, List, [], ◌∷◌, ◌++◌, drop, filter, map, suc, unwrap_or, Option, Some, None, refl, is_none, if◌then◌else◌}
-use Rattle.std.specs.List.{find, list_all, position_or_len, remove}
-use Rattle.std.proofs.Common.{ap, arith, sym, ◌∙◌, subst, eqb-true}
+use Rattle.std.specs.Prelude.{◌≡◌, zero, ℕ, ◌+◌, ◌==◌, ◌≤◌, ◌&&◌, ◌||◌, not, Bool, true, false, List, [], ◌∷◌, ◌++◌, drop, filter, suc, Option, Some, None, refl, is_none, if◌then◌else◌}
+use Rattle.std.specs.List.{list_all}
+use Rattle.std.proofs.Common.{ap, arith, sym, ◌∙◌, eqb-true}
 use Rattle.std.proofs.lemmas.Bool.{and_parts, or_from, or_parts}
 use Rattle.mux_frame.specs.Frames.{Frame}
 use Rattle.mux_frame.specs.declared.frame.Kind.{Kind}
 use Rattle.mux_frame.specs.declared.frame.Kind.TheVariants.{Sabm, Ua, Dm, Disc, Uih}
-use Rattle.mux_capture.specs.Passing.{Caught}
 use Rattle.mux_capture.specs.declared.packet.Stamp.{Stamp}
 use Rattle.mux_station.specs.declared.role.Role.{Role}
 use Rattle.mux_station.specs.declared.role.Role.TheVariants.{Initiator, Responder}
@@ -23,14 +22,13 @@ use Rattle.modem_history.specs.Calls.{Setting, asking, at_once, calls_behind, fr
 use Rattle.modem_history.specs.Lawful.{IsNext, Lawful, When, owed, owes_frame, unsent}
 use Rattle.modem_history.specs.TwoEnds.{AsksOnce, frames_got, frames_sent}
 use Rattle.modem_history.proofs.commands.FramesOnLine.{asked_first, asks_fewer}
-use Rattle.modem_show.specs.Asking.{Ask, answered_by, answers, asked_with, excused_by, both_respond, is_again, is_ask, is_mode_answer, is_mode_command, unanswered_by, waiting}
+use Rattle.modem_show.specs.Asking.{Ask, answered_by, answers, both_respond, is_again, is_mode_answer, is_mode_command, waiting}
 use Rattle.modem_show.specs.Ends.{handled, own}
-use Rattle.modem_show.specs.Ways.{is_from}
 use Rattle.show_laws.specs.Lines.{AtDriver, AtModem, IsLawfulLine, LineAct, captured, driver_past, modem_past}
 use Rattle.show_laws.proofs.asks.AnswerShapes.{is_shaped, message_no_mode, or_elim}
 use Rattle.show_laws.proofs.asks.AnswersCalled.{AnyProbe}
 use Rattle.show_laws.proofs.asks.NoneUnasked.{any_asked, driver_shaped}
-use Rattle.show_laws.proofs.asks.WaitingAsks.{excused_many, frames_of, many_asks}
+use Rattle.show_laws.proofs.asks.WaitingAsks.{many_asks}
 use Rattle.show_laws.proofs.counts.ManyFrames.{few_if, many, unit}
 use Rattle.show_laws.proofs.counts.BalancedTables.{Balanced, none_of_flow, none_of_tick}
 use Rattle.show_laws.proofs.counts.DriverCounts.{asked, called, dropped, none_owed, sends, sends_both, unsent_none}
@@ -42,60 +40,7 @@ use Rattle.show_laws.proofs.openings.ResponderCalls.{any_down_called, down_balan
 use Rattle.show_laws.proofs.openings.UaBehindSabm.{ua_behind}
 use Rattle.show_laws.proofs.openings.QuietFrames.{Quiet, asked_at, ender_shuts, is_ender, open_at, quiet_asked, quiet_open, zero_at}
 use Rattle.show_laws.proofs.openings.DriverFollows.{Follows, fewer_step, got_step, passed_step, sent_step}
-
--- ## What waits was sent
-
-asked_most : (t : Frame → Bool) (stamp : Stamp) (f : Frame) (asks : List Ask) → many_asks t (asked_with stamp f ++ asks) ≤ unit (t f) + many_asks t asks
-asked_most t stamp f asks = by_test (is_ask f)
-  where
-    by_test : (b : Bool) → many_asks t ((if b then record { stamp = stamp; frame = f; is_excused = false } ∷ [] else []) ++ asks) ≤ unit (t f) + many_asks t asks
-    by_test true = omega arith
-    by_test false = omega arith
-
--- without the ask that is answered, no more pass
-pub removed_fewer : (t p : Frame → Bool) (asks : List Ask) → many_asks t (remove asks (position_or_len (λ a. p a.frame) asks)) ≤ many_asks t asks
-removed_fewer t p [] = omega arith
-removed_fewer t p (a ∷ asks) = by_test (p a.frame) (removed_fewer t p asks)
-  where
-    by_test : (b : Bool) → many_asks t (remove asks (position_or_len (λ a. p a.frame) asks)) ≤ many_asks t asks
-        → many_asks t (remove (a ∷ asks) (if not b then 1 + position_or_len (λ a. p a.frame) asks else 0)) ≤ many_asks t (a ∷ asks)
-    by_test true k = omega arith
-    by_test false k =
-        let n = position_or_len (λ a. p a.frame) asks in
-        let next : many_asks t (remove (a ∷ asks) (1 + n)) ≡ unit (t a.frame) + many_asks t (remove asks n) = let one : 1 + n ≡ suc n = omega arith in ap (λ m. many_asks t (remove (a ∷ asks) m)) one in
-        omega (arith, k, next)
-
--- no more asks of a test wait than frames of it were sent
-pub waiting_few : (t : Frame → Bool) (r : Role) (line : List Caught) → many_asks t (waiting r line) ≤ many t (frames_of r line)
-waiting_few t r [] = omega arith
-waiting_few t r (c ∷ line) = by_way (is_from r c) (waiting_few t r line)
-  where
-    by_way : (b : Bool) → many_asks t (waiting r line) ≤ many t (frames_of r line)
-        → many_asks t (if b then map (excused_by (station.Sent c.frame)) (asked_with c.stamp c.frame ++ waiting r line) else map (excused_by (station.Got c.frame)) (unanswered_by c.frame (waiting r line))) ≤ many t (if b then c.frame ∷ frames_of r line else frames_of r line)
-    by_way true k =
-        let e = excused_many t (station.Sent c.frame) (asked_with c.stamp c.frame ++ waiting r line) in
-        let x = asked_most t c.stamp c.frame (waiting r line) in
-        omega (arith, e, x, k)
-    by_way false k =
-        let e = excused_many t (station.Got c.frame) (unanswered_by c.frame (waiting r line)) in
-        let x = removed_fewer t (λ f. answers f c.frame) (waiting r line) in
-        omega (arith, e, x, k)
-
--- the ask that is found passes, and is none of a test of which none waits
-pub found_one : (t p : Frame → Bool) (asks : List Ask) (a : Ask) → find (λ x. p x.frame) asks ≡ Some a → many_asks t asks ≤ 0 → (p a.frame ≡ true) × (t a.frame ≡ false)
-found_one t p [] a e none = cc
-found_one t p (x ∷ asks) a e none = by_test (p x.frame) refl e (λ k. found_one t p asks a k (omega (arith, none)))
-  where
-    off : t x.frame ≡ false
-    off = by_off (t x.frame) refl
-      where
-        by_off : (b : Bool) → t x.frame ≡ b → b ≡ false
-        by_off false e = refl
-        by_off true e = let y : unit (t x.frame) ≡ 1 = ap unit e in absurd (omega (arith, y, none))
-
-    by_test : (b : Bool) → p x.frame ≡ b → (if b then Some x else find (λ x. p x.frame) asks) ≡ Some a → (find (λ x. p x.frame) asks ≡ Some a → (p a.frame ≡ true) × (t a.frame ≡ false)) → (p a.frame ≡ true) × (t a.frame ≡ false)
-    by_test true h k rest = let same : x ≡ a = ap (λ (o : Option Ask). unwrap_or o x) k in (subst (λ (y : Ask). p y.frame ≡ true) same h, subst (λ (y : Ask). t y.frame ≡ false) same off)
-    by_test false h k rest = rest k
+use Rattle.show_laws.proofs.openings.SentRequests.{found_one}
 
 -- ## What is answered is quiet
 

@@ -31,7 +31,7 @@ use Rattle.show_laws.proofs.asks.WaitingAsks.{frames_of, frames_to}
 use Rattle.show_laws.proofs.counts.ManyFrames.{many, unit}
 use Rattle.show_laws.proofs.lines.CapturedFrames.{shows}
 use Rattle.show_laws.proofs.lines.EveryFrame.{every}
-use Rattle.show_laws.proofs.openings.DriverOpen.{found_one, waiting_few}
+use Rattle.show_laws.proofs.openings.SentRequests.{found_one, waiting_few}
 
 abbrev stops : Frame → Bool
 stops f = message_stops (message_in f)

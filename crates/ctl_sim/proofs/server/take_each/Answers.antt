@@ -1,7 +1,8 @@
 use Rattle.std.proofs.Common.{List, None, Option, option_map, ℕ, ◌∙◌, rules, arith, length, sym, subst, ◌++◌, ◌<◌}
 use Rattle.ctl_sim.specs.Entry.{octets_of}
 use Rattle.ctl_sim.specs.Standing.{EndsWith, Stands, StepsOn, setting_by, undecided, weight}
-use Rattle.ctl_sim.proofs.Stepping.{ends_more, ends_none, none_mapped, not_zero, takes_more, takes_none}
+use Rattle.ctl_sim.proofs.Stepping.{none_mapped, not_zero, takes_more, takes_none}
+use Rattle.ctl_sim.proofs.LeftOctets.{ends_more, ends_none}
 use Rattle.ctl_sim.proofs.server.take_each.Goals as goal
 
 pub loop-now-init : goal.loop-now-init

@@ -1,7 +1,8 @@
 use Rattle.std.proofs.Common.{List, ℕ, [], refl, sym, subst, rules, length, ◌≡◌, ◌++◌, ◌∙◌}
 use Rattle.mux_frame.specs.Reading.{Reads}
 use Rattle.ctl_sim.specs.Standing.{setting_by}
-use Rattle.ctl_sim.proofs.Stepping.{frame_by, frame_ends, frame_less, front_kept, keeps_by, keeps_ends, keeps_less}
+use Rattle.ctl_sim.proofs.Stepping.{frame_by, frame_less, front_kept, keeps_by, keeps_less}
+use Rattle.ctl_sim.proofs.LeftOctets.{frame_ends, keeps_ends}
 use Rattle.ctl_sim.proofs.server.take_frame.Goals as goal
 
 pub first_frame-requires-clause-seen : goal.first_frame-requires-clause-seen

@@ -4,7 +4,8 @@ use Rattle.ctl_sim.specs.declared.server.Mode.TheVariants.{Lines}
 use Rattle.ctl_sim.specs.Entry.{octets_of}
 use Rattle.ctl_sim.specs.Plain.{Plain}
 use Rattle.ctl_sim.specs.Standing.{Hears, setting_by}
-use Rattle.ctl_sim.proofs.Stepping.{ends_dropped, ends_entered, enters_by, moves_on, stays_by}
+use Rattle.ctl_sim.proofs.Stepping.{enters_by, moves_on, stays_by}
+use Rattle.ctl_sim.proofs.LeftOctets.{ends_dropped, ends_entered}
 use Rattle.ctl_sim.proofs.server.take_lines.Goals as goal
 
 pub returns-in_ok-mux-in-Some-clause-fewer : goal.returns-in_ok-mux-in-Some-clause-fewer
