@@ -112,10 +112,10 @@ void cimbaloty_data_lost(struct cimbaloty_data *d);
 uint8_t cimbaloty_data_read_at(struct cimbaloty_data *d, uint8_t dlci, uint8_t *room, size_t length, struct cimbaloty_data_got *got);
 uint8_t cimbaloty_data_give_at(struct cimbaloty_data *d, uint8_t dlci, const uint8_t *octets, size_t length, size_t *taken);
 
-/* Data to be sent, and the next octets for the line, in one call. Where nothing else waits to go, and the room has N1 + 7 octets, these
- * octets go into the room as frames at once, copied once, while there is place for the longest frame. Else it does as
- * cimbaloty_data_give and then cimbaloty_data_to_line. So it may take fewer octets than there are: write the room to the line, and call
- * it with the rest. `octets` and `room` don't overlap. */
+/* Data to be sent, and octets for the line, those that wait first, in one call. Where it takes fewer octets than there are, the room has no
+ * place for a longest frame more, or 4096 wait: write the room to the line, and call it with the rest. Where nothing is to go before them,
+ * the connection may send, and the room has N1 + 7 octets, these octets go into the room as frames, copied once; else it does as
+ * cimbaloty_data_give and then cimbaloty_data_to_line. `octets` and `room` don't overlap. */
 uint8_t cimbaloty_data_send_at(struct cimbaloty_data *d, uint8_t dlci, const uint8_t *octets, size_t length, uint8_t *room, size_t size,
 		struct cimbaloty_data_sent *sent);
 

@@ -16,7 +16,7 @@ use Rattle.modem_data.specs.Passing.{Pass, wire, Came, Flowed, Left, Began, Ende
 use Rattle.modem_data.specs.Pipes.{Pipe, PipeFits, Leads, LeadsLeft, HasNoneToSend, MayLeave, IsShut, TakesNone, HasUnread, SaysBehind, SaysFlow, SaysLane, SaysOver, flowed_pipe}
 use Rattle.modem_data.specs.PipeSets.{PipeSet, PipesFit, IsPlain, AllLead, OfEachPast, HasPipe, IsNotData, NoneOf, NoneLeaves, AreApart, IsNext, IsFlowOf, LeavesInTurn, NonesIn, comes_before, connections, place_behind}
 use Rattle.modem_data.proofs.Watching.{watched_sent_info}
-use Rattle.modem_data.proofs.Pipes.{flowed_fits}
+use Rattle.modem_data.proofs.Pipes.{flowed_fits, open_there}
 use Rattle.modem_data.specs.declared.pipe_set.Flow.{Flow}
 use Rattle.mux_station.specs.Written.{is_data_frame}
 use Rattle.modem_data.proofs.PipeSets.{all_by, one_by, one_info, number_at, plain_due, plain_flowed}
@@ -182,6 +182,18 @@ shut_at v i p e there here says role n1 ds past h = says role n1 e past (fits_at
 pub takes_none_at : (v : PipeSet) (i : ℕ) (p : Pipe) (e : ℕ) → i < length v.each → (slice_index_or v.each i p).watch.dlci ≡ e → TakesNone (slice_index_or v.each i p) → OfEachPast v (λ role past. takes_given (carries role e past) ≡ false)
 unfolding OfEachPast TakesNone
 takes_none_at v i p e there here says role n1 ds past h = says role n1 e past (fits_at role n1 ds past v i p e there here h)
+
+-- the pipe is open and takes octets, so its connection is and does
+pub let_at : (v : PipeSet) (i : ℕ) (p : Pipe) (e : ℕ) → i < length v.each → (slice_index_or v.each i p).watch.dlci ≡ e → (slice_index_or v.each i p).watch.own.is_open ≡ true → takes_given (slice_index_or v.each i p).lane.carries ≡ true → OfEachPast v (λ role past. (is_open role e (wire past) ≡ true) × (takes_given (carries role e past) ≡ true))
+unfolding OfEachPast
+let_at v i p e there here up takes role n1 ds past h =
+    let k = fits_at role n1 ds past v i p e there here h in
+    (sym (open_there role n1 e (slice_index_or v.each i p) past k) ∙ up, ap takes_given (sym k.carries_is) ∙ takes)
+
+-- the pipe is open, so its connection is
+pub open_at : (v : PipeSet) (i : ℕ) (p : Pipe) (e : ℕ) → i < length v.each → (slice_index_or v.each i p).watch.dlci ≡ e → (slice_index_or v.each i p).watch.own.is_open ≡ true → OfEachPast v (λ role past. is_open role e (wire past) ≡ true)
+unfolding OfEachPast
+open_at v i p e there here up role n1 ds past h = sym (open_there role n1 e (slice_index_or v.each i p) past (fits_at role n1 ds past v i p e there here h)) ∙ up
 
 unread_is : (x y z : List ℕ) → x ++ y ≡ z → length y ≡ length z - length x
 unread_is x y z e =
@@ -464,6 +476,11 @@ gives_by v i p e many (Err x) there here is = tt
 pub came_by : {A X : Type 0} (v w : PipeSet) (i : ℕ) (p : Pipe) (f : Frame) (r : Result A X) → is_data_frame f ≡ true → i < length v.each → (slice_index_or v.each i p).watch.dlci ≡ f.dlci → OnOk r (Leads (slice_index_or v.each i p) p (Came f)) → p.watch ≡ (slice_index_or v.each i p).watch → w ≡ record v { each = slice_set v.each i p } → OnOk r (AllLead v w (Came f))
 came_by v w i p f (Ok x) e there here leads same is = one_info v w i p f e there here leads same is
 came_by v w i p f (Err x) e there here leads same is = tt
+
+-- where the call is Ok, the pipe was open and took octets, so its connection did
+pub let_by : {A X : Type 0} (v : PipeSet) (i : ℕ) (p : Pipe) (e : ℕ) (r : Result A X) → i < length v.each → (slice_index_or v.each i p).watch.dlci ≡ e → OnOk r (((slice_index_or v.each i p).watch.own.is_open ≡ true) × (takes_given (slice_index_or v.each i p).lane.carries ≡ true)) → OnOk r (OfEachPast v (λ role past. (is_open role e (wire past) ≡ true) × (takes_given (carries role e past) ≡ true)))
+let_by v i p e (Ok x) there here is = let_at v i p e there here is.0 is.1
+let_by v i p e (Err x) there here is = tt
 
 -- a flow that is answered is due
 pub due_by : (v : PipeSet) (r : Option Flow) → IfSome r (λ f. IsFlowOf v.each f.dlci.number f.go) → IfSome r (λ f. OfEachPast v (λ role past. IsDue role f.dlci.number past f.go))

@@ -7,15 +7,16 @@ use Rattle.std.proofs.lemmas.List.{set-get_or, set-set, get_or_default, get_or-s
 use Rattle.mux_frame.specs.Frames.{Frame}
 use Rattle.mux_frame.specs.Spelling.{spelled}
 use Rattle.mux_frame.specs.Deframing.{IsDeframed}
+use Rattle.mux_station.specs.Opening.{is_open}
 use Rattle.modem_data.specs.Switching.{Carries, Idle, Lines, Ended, Data, Prompts, Marked, Sends, Owes, Owns, Answered, lets_leave, takes_given}
 use Rattle.modem_data.specs.DataLanes.{DataLane, most_to_go}
 use Rattle.modem_data.specs.Watching.{SaysMayLeave}
-use Rattle.modem_data.specs.Passing.{Gave, given, left, to_go}
+use Rattle.modem_data.specs.Passing.{Gave, carries, given, left, to_go, wire}
 use Rattle.modem_data.specs.Pipes.{Pipe, HasNoneToSend, IsFree, Leads, LeadsLeft, MayLeave, data_of, next_data}
 use Rattle.modem_data.specs.PipeSets.{PipeSet, AllLead, IsFreeAt, IsNext, LeavesInTurn, OfEachPast, comes_before}
 use Rattle.modem_data.specs.Hops.{Relay, Hops, Passed, GoesOut, HoldsNothing, IsClear, IsWayThrough, SendsOut, sent, sent_more, sent_none}
 use Rattle.modem_data.proofs.PipeCalls.{leads_gave, leads_left}
-use Rattle.modem_data.proofs.PipeSetCalls.{leaves, none_leaves, one_gave, some_pipe}
+use Rattle.modem_data.proofs.PipeSetCalls.{leaves, let_at, none_leaves, one_gave, some_pipe}
 use Rattle.modem_data.proofs.Relays.{holds_by, hops_gave}
 use Rattle.modem_data.proofs.GoingOut.{leaves_out, more_are}
 
@@ -180,3 +181,17 @@ full_where_none v d count many is none some role n1 ds past fits =
 -- where nothing was before data, and nothing was sent, nothing may go
 pub still_holds : (v y x : Relay) (place d : ℕ) → IsDeframed → IsWayThrough v place d → y ≡ v → x ≡ y → HoldsNothing x
 still_holds v y x place d law way same still = holds_by v v x law way.clear.none_wait way.clear.first way.none_due refl (none_leaves v.pipes way.clear.none_to_send) (still ∙ same)
+
+-- a connection whose pipe is free is open, and takes what is given
+pub free_lets : (v : PipeSet) (i d : ℕ) → IsFreeAt v i d → OfEachPast v (λ role past. (is_open role d (wire past) ≡ true) × (takes_given (carries role d past) ≡ true))
+free_lets v i d free =
+    let p = some_pipe v.each i free.there in
+    let is = free.free p in
+    let_at v i p d free.there (free.here p) is.is_open (takes_too (slice_index_or v.each i p).lane.carries is.lets)
+
+-- where fewer were taken than there were, as many wait with them as may
+pub full_with_taken : (v : PipeSet) (d count many : ℕ) → OfEachPast v (λ role past. count ≡ min many (most_to_go - (length (given d past) - length (left d past)))) → count < many → OfEachPast v (λ role past. most_to_go ≤ to_go d past + count)
+unfolding OfEachPast
+full_with_taken v d count many is fewer role n1 ds past fits =
+    let h = is role n1 ds past fits in
+    omega (arith, h, fewer)

@@ -6,7 +6,7 @@ ghost use Rattle.mux_station.specs.Written.{is_on};
 ghost use Rattle.modem_data.specs.declared.error.DataError.{DataError};
 ghost use Rattle.modem_data.specs.declared.error.DataError.TheVariants as error;
 ghost use Rattle.modem_data.specs.DataLanes.{most_to_go};
-ghost use Rattle.modem_data.specs.Switching.{IsWithin};
+ghost use Rattle.modem_data.specs.Switching.{IsWithin, takes_given};
 ghost use Rattle.modem_data.specs.Passing.{Came, Went, Flowed, Left, Lost, Began, EndedLane, Gave, Read, flow_by};
 ghost use Rattle.modem_data.specs.Pipes.{BeginsPipe, HandsOn, HasNoneToSend, TakesNone, IsShut, Leads, LeadsLeft, SaysBehind, SaysFlow, SaysLane, SaysOver, HasUnread, IsFree, MayLeave, data_of, next_data, pipe_drops, saw_pipe, sent_pipe, flowed_pipe, lost_pipe};
 
@@ -230,13 +230,15 @@ impl Pipe {
     }
 
     /// Takes octets to be sent from the front of these, until 4096 wait, and says how many. Refused with 9 NotOpen where the connection
-    /// isn't open, and else with 10 Lines where it takes none: no lane is under way, or its CONNECT line hasn't ended.
+    /// isn't open, and else with 10 Lines where it takes none: no lane is under way, or no octet came behind its CONNECT line.
     #[tactic(auto, using(crate::proofs::PipeCalls::leads_gave, crate::proofs::PipeCalls::is_shut, crate::proofs::PipeCalls::takes_none))]
     pub fn give(&mut self, octets: &[u8]) -> Result<usize, DataError>
         ensures count { IfOk result (λ count. count ≡ min (length octets.now) (most_to_go - length self.old.lane.to_go)) }
         ensures leads { IfOk result (λ count. Leads self.old self.new (Gave self.old.watch.dlci (take count octets.now))) }
         ensures not_open { result ≡ Err error.NotOpen → IsShut self.old }
         ensures takes_none { result ≡ Err error.Lines → TakesNone self.old }
+        ensures lets { OnOk result ((self.old.watch.own.is_open ≡ true) × (takes_given self.old.lane.carries ≡ true)) }
+        ensures open_there { result ≡ Err error.Lines → self.old.watch.own.is_open ≡ true }
         ensures others { OnErr result ((result ≡ Err error.NotOpen) ⊎ (result ≡ Err error.Lines)) }
         ensures err { OnErr result (self.new ≡ self.old) }
         ensures same { self.new.watch ≡ self.old.watch }

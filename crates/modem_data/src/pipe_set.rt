@@ -187,6 +187,10 @@ impl Pipes {
         ensures not_data { result ≡ Err error.NotData → IsNotData self.old dlci.number }
         ensures not_open { result ≡ Err error.NotOpen → OfEachPast self.old (λ role past. is_open role dlci.number (wire past) ≡ false) }
         ensures takes_none { result ≡ Err error.Lines → OfEachPast self.old (λ role past. takes_given (carries role dlci.number past) ≡ false) }
+        ensures lets { OnOk result (OfEachPast self.old (λ role past. (is_open role dlci.number (wire past) ≡ true)
+            × (takes_given (carries role dlci.number past) ≡ true))) }
+        ensures named { (result ≡ Err error.NotOpen) ⊎ (result ≡ Err error.Lines) → HasPipe self.old dlci.number }
+        ensures open_there { result ≡ Err error.Lines → OfEachPast self.old (λ role past. is_open role dlci.number (wire past) ≡ true) }
         ensures others { OnErr result ((result ≡ Err error.NotData) ⊎ ((result ≡ Err error.NotOpen) ⊎ (result ≡ Err error.Lines))) }
         ensures err { OnErr result (self.new ≡ self.old) }
     {

@@ -6,7 +6,7 @@ ghost use Rattle.modem_data.specs.declared.error.DataError.TheVariants as error;
 ghost use Rattle.modem_data.specs.DataLanes.{most_to_go};
 ghost use Rattle.modem_data.specs.Switching.{Idle as idle, is_behind_lines, is_idle, takes_given};
 ghost use Rattle.modem_data.specs.Passing.{Came, Went, Flowed, Left, Lost, Began, EndedLane, Gave, Read, IsDue, IsOver, carries, data_came, data_read, given, left, to_go, unread, wire, flow_frame};
-ghost use Rattle.modem_data.specs.PipeSets.{IsAmong, IsNotData, IsTwice, NoneLeaves, OfEachPast, numbers};
+ghost use Rattle.modem_data.specs.PipeSets.{HasPipe, IsAmong, IsNotData, IsTwice, NoneLeaves, OfEachPast, numbers};
 ghost use Rattle.modem_data.specs.Hops.{Fed, Handed, Took, Wrote, Passed, Hops, HopsBy, BeginsAs, BeginsRelay, AllCame, HoldsNothing, LineIn, PassesOn, DriverOut, OneOut};
 
 use crate::begin::{Begin, Until};
@@ -188,8 +188,8 @@ impl Relay {
 
     /// Takes octets to be sent as data from the front of these, until 4096 wait, and says how many. Of a lane by prompt they are the
     /// text, with the octet that ends it (1A, or 1B to give up): they leave behind the prompt. Refused, in this order: 6 NotData where
-    /// the connection wasn't named; 9 NotOpen where it isn't open; 10 Lines where no lane is under way, or its CONNECT line, the other
-    /// end's or the driver's own, hasn't ended.
+    /// the connection wasn't named; 9 NotOpen where it isn't open; 10 Lines where no lane is under way, or no octet came behind its CONNECT
+    /// line, or the driver's own CONNECT line hasn't ended.
     pub fn give(&mut self, dlci: Dlci, octets: &[u8]) -> Result<usize, DataError>
         ensures count { IfOk result (λ count. OfEachPast self.old.pipes (λ role past.
             count ≡ min (length octets.now) (most_to_go - (length (given dlci.number past) - length (left dlci.number past))))) }
@@ -197,6 +197,10 @@ impl Relay {
         ensures not_data { result ≡ Err error.NotData → IsNotData self.old.pipes dlci.number }
         ensures not_open { result ≡ Err error.NotOpen → OfEachPast self.old.pipes (λ role past. is_open role dlci.number (wire past) ≡ false) }
         ensures takes_none { result ≡ Err error.Lines → OfEachPast self.old.pipes (λ role past. takes_given (carries role dlci.number past) ≡ false) }
+        ensures lets { OnOk result (OfEachPast self.old.pipes (λ role past. (is_open role dlci.number (wire past) ≡ true)
+            × (takes_given (carries role dlci.number past) ≡ true))) }
+        ensures named { (result ≡ Err error.NotOpen) ⊎ (result ≡ Err error.Lines) → HasPipe self.old.pipes dlci.number }
+        ensures open_there { result ≡ Err error.Lines → OfEachPast self.old.pipes (λ role past. is_open role dlci.number (wire past) ≡ true) }
         ensures others { OnErr result ((result ≡ Err error.NotData) ⊎ ((result ≡ Err error.NotOpen) ⊎ (result ≡ Err error.Lines))) }
         ensures err { OnErr result (self.new ≡ self.old) }
     {

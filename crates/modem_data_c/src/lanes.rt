@@ -4,7 +4,7 @@ ghost use Rattle.mux_station.specs.Opening.{is_open};
 ghost use Rattle.modem_data.specs.Switching.{Idle as idle, is_idle, takes_given};
 ghost use Rattle.modem_data.specs.DataLanes.{most_to_go};
 ghost use Rattle.modem_data.specs.Passing.{Began, EndedLane, Gave, Read, Lost, IsOver, carries, data_came, data_read, given, left, to_go, unread, wire};
-ghost use Rattle.modem_data.specs.PipeSets.{IsNotData, OfEachPast};
+ghost use Rattle.modem_data.specs.PipeSets.{HasPipe, IsNotData, OfEachPast};
 ghost use Rattle.modem_data.specs.Hops.{Hops, Passed};
 ghost use Rattle.modem_data_c.specs.DataCalls.{Becomes, BeginsBy, Keeps, begin_number, relay_of, until_number};
 
@@ -217,6 +217,9 @@ fn give(relay: &mut Relay, dlci: u8, octets: &[u8], taken: &mut usize) -> u8
     ensures not_data { result ≡ NOT_DATA → IsNotData relay.old.pipes dlci }
     ensures not_open { result ≡ NOT_OPEN → OfEachPast relay.old.pipes (λ role past. is_open role dlci (wire past) ≡ false) }
     ensures takes_none { result ≡ LINES → OfEachPast relay.old.pipes (λ role past. takes_given (carries role dlci past) ≡ false) }
+    ensures lets { result ≡ OK → OfEachPast relay.old.pipes (λ role past. (is_open role dlci (wire past) ≡ true) × (takes_given (carries role dlci past) ≡ true)) }
+    ensures named { (result ≡ NOT_OPEN) ⊎ (result ≡ LINES) → HasPipe relay.old.pipes dlci }
+    ensures open_there { result ≡ LINES → OfEachPast relay.old.pipes (λ role past. is_open role dlci (wire past) ≡ true) }
     ensures refused { result ≢ OK → relay.new ≡ relay.old }
     ensures same { result ≢ OK → taken.new ≡ taken.old }
     ensures others { result ≢ OK → result ≢ BAD_DLCI → result ≢ NOT_DATA → result ≢ NOT_OPEN → result ≡ LINES }
@@ -249,6 +252,9 @@ pub extern "C" fn cimbaloty_data_give_at(
     ensures not_data { result ≡ NOT_DATA → Keeps d.old (λ r. IsNotData r.pipes dlci) }
     ensures not_open { result ≡ NOT_OPEN → Keeps d.old (λ r. OfEachPast r.pipes (λ role past. is_open role dlci (wire past) ≡ false)) }
     ensures takes_none { result ≡ LINES → Keeps d.old (λ r. OfEachPast r.pipes (λ role past. takes_given (carries role dlci past) ≡ false)) }
+    ensures lets { result ≡ OK → Keeps d.old (λ r. OfEachPast r.pipes (λ role past. (is_open role dlci (wire past) ≡ true) × (takes_given (carries role dlci past) ≡ true))) }
+    ensures named { (result ≡ NOT_OPEN) ⊎ (result ≡ LINES) → Keeps d.old (λ r. HasPipe r.pipes dlci) }
+    ensures open_there { result ≡ LINES → Keeps d.old (λ r. OfEachPast r.pipes (λ role past. is_open role dlci (wire past) ≡ true)) }
     ensures no_relay { (result ≡ NO_RELAY) ↔ (relay_of d.old ≡ None) }
     ensures refused { result ≢ OK → relay_of d.new ≡ relay_of d.old }
     ensures same { result ≢ OK → taken.new ≡ taken.old }

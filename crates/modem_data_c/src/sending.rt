@@ -1,10 +1,10 @@
 //! Data that goes to the line without a wait.
-ghost use Rattle.std.specs.Prelude.{◌≡◌, ◌≢◌, ◌↔◌, ◌<◌, ◌≤◌, length, take, drop, false, None};
+ghost use Rattle.std.specs.Prelude.{◌≡◌, ◌≢◌, ◌⊎◌, ◌↔◌, ◌<◌, ◌≤◌, ◌+◌, length, take, drop, false, true, None};
 ghost use Rattle.mux_station.specs.Opening.{is_open};
 ghost use Rattle.modem_data.specs.Switching.{takes_given};
 ghost use Rattle.modem_data.specs.DataLanes.{most_to_go};
 ghost use Rattle.modem_data.specs.Passing.{carries, to_go, wire};
-ghost use Rattle.modem_data.specs.PipeSets.{IsNotData, OfEachPast};
+ghost use Rattle.modem_data.specs.PipeSets.{HasPipe, IsNotData, OfEachPast};
 ghost use Rattle.modem_data.specs.Hops.{HoldsNothing, SendsOut};
 ghost use Rattle.modem_data_c.specs.DataCalls.{Becomes, Keeps, relay_of};
 
@@ -26,6 +26,8 @@ pub struct DataSent {
 fn send(relay: &mut Relay, dlci: u8, octets: &[u8], room: &mut [u8], sent: &mut DataSent) -> u8
     ensures ok { result ≡ OK → SendsOut relay.old relay.new dlci (take sent.new.taken octets.now) (take sent.new.count room.new) }
     ensures taken { result ≡ OK → OfEachPast relay.old.pipes (λ role past. sent.new.taken ≤ length octets.now) }
+    ensures rest { result ≡ OK → sent.new.taken < length octets.now → (length room.old < sent.new.count + (relay.old.outer.n1 + 7))
+        ⊎ OfEachPast relay.old.pipes (λ role past. most_to_go ≤ to_go dlci past + sent.new.taken) }
     ensures some { result ≡ OK → sent.new.taken ≡ 0 → 0 < length octets.now → OfEachPast relay.old.pipes (λ role past. most_to_go ≤ to_go dlci past) }
     ensures all { result ≡ OK → sent.new.count ≡ 0 → 0 < length room.old → HoldsNothing relay.new }
     ensures few { result ≡ OK → sent.new.count ≤ length room.old }
@@ -34,6 +36,9 @@ fn send(relay: &mut Relay, dlci: u8, octets: &[u8], room: &mut [u8], sent: &mut 
     ensures not_data { result ≡ NOT_DATA → IsNotData relay.old.pipes dlci }
     ensures not_open { result ≡ NOT_OPEN → OfEachPast relay.old.pipes (λ role past. is_open role dlci (wire past) ≡ false) }
     ensures takes_none { result ≡ LINES → OfEachPast relay.old.pipes (λ role past. takes_given (carries role dlci past) ≡ false) }
+    ensures lets { result ≡ OK → OfEachPast relay.old.pipes (λ role past. (is_open role dlci (wire past) ≡ true) × (takes_given (carries role dlci past) ≡ true)) }
+    ensures named { (result ≡ NOT_OPEN) ⊎ (result ≡ LINES) → HasPipe relay.old.pipes dlci }
+    ensures open_there { result ≡ LINES → OfEachPast relay.old.pipes (λ role past. is_open role dlci (wire past) ≡ true) }
     ensures refused { result ≢ OK → relay.new ≡ relay.old }
     ensures room { result ≢ OK → room.new ≡ room.old }
     ensures same { result ≢ OK → sent.new ≡ sent.old }
@@ -67,6 +72,8 @@ pub extern "C" fn cimbaloty_data_send_at(
 ) -> u8
     ensures ok { result ≡ OK → Becomes d.old d.new (λ r s. SendsOut r s dlci (take sent.new.taken octets.now) (take sent.new.count room.new)) }
     ensures taken { result ≡ OK → Keeps d.old (λ r. OfEachPast r.pipes (λ role past. sent.new.taken ≤ length octets.now)) }
+    ensures rest { result ≡ OK → sent.new.taken < length octets.now → Keeps d.old (λ r. (length room.old < sent.new.count + (r.outer.n1 + 7))
+        ⊎ OfEachPast r.pipes (λ role past. most_to_go ≤ to_go dlci past + sent.new.taken)) }
     ensures some { result ≡ OK → sent.new.taken ≡ 0 → 0 < length octets.now → Keeps d.old (λ r. OfEachPast r.pipes (λ role past. most_to_go ≤ to_go dlci past)) }
     ensures all { result ≡ OK → sent.new.count ≡ 0 → 0 < length room.old → Keeps d.new HoldsNothing }
     ensures few { result ≡ OK → sent.new.count ≤ length room.old }
@@ -75,6 +82,9 @@ pub extern "C" fn cimbaloty_data_send_at(
     ensures not_data { result ≡ NOT_DATA → Keeps d.old (λ r. IsNotData r.pipes dlci) }
     ensures not_open { result ≡ NOT_OPEN → Keeps d.old (λ r. OfEachPast r.pipes (λ role past. is_open role dlci (wire past) ≡ false)) }
     ensures takes_none { result ≡ LINES → Keeps d.old (λ r. OfEachPast r.pipes (λ role past. takes_given (carries role dlci past) ≡ false)) }
+    ensures lets { result ≡ OK → Keeps d.old (λ r. OfEachPast r.pipes (λ role past. (is_open role dlci (wire past) ≡ true) × (takes_given (carries role dlci past) ≡ true))) }
+    ensures named { (result ≡ NOT_OPEN) ⊎ (result ≡ LINES) → Keeps d.old (λ r. HasPipe r.pipes dlci) }
+    ensures open_there { result ≡ LINES → Keeps d.old (λ r. OfEachPast r.pipes (λ role past. is_open role dlci (wire past) ≡ true)) }
     ensures no_relay { (result ≡ NO_RELAY) ↔ (relay_of d.old ≡ None) }
     ensures refused { result ≢ OK → relay_of d.new ≡ relay_of d.old }
     ensures room { result ≢ OK → room.new ≡ room.old }

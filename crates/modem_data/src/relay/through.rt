@@ -1,11 +1,11 @@
 //! Data that goes to the line without a wait, copied once.
-ghost use Rattle.std.specs.Prelude.{◌≡◌, ◌⊎◌, ◌≤◌, ◌<◌, ◌+◌, ◌==◌, ℕ, Bool, [], length, take, drop, Err, IfOk, IfSome, OnErr, false, true};
+ghost use Rattle.std.specs.Prelude.{◌≡◌, ◌⊎◌, ◌≤◌, ◌<◌, ◌+◌, ◌==◌, ℕ, Bool, [], length, take, drop, Err, IfOk, IfSome, OnErr, OnOk, false, true};
 ghost use Rattle.mux_station.specs.Opening.{is_open};
 ghost use Rattle.modem_data.specs.declared.error.DataError.TheVariants as error;
 ghost use Rattle.modem_data.specs.DataLanes.{most_to_go};
 ghost use Rattle.modem_data.specs.Switching.{takes_given};
 ghost use Rattle.modem_data.specs.Passing.{carries, to_go, wire};
-ghost use Rattle.modem_data.specs.PipeSets.{IsFreeAt, IsNotData, OfEachPast};
+ghost use Rattle.modem_data.specs.PipeSets.{HasPipe, IsFreeAt, IsNotData, OfEachPast};
 ghost use Rattle.modem_data.specs.Hops.{HoldsNothing, IsClear, IsWayThrough, SendsOut};
 
 use crate::error::DataError;
@@ -68,6 +68,7 @@ impl Relay {
             → SendsOut self.old self.new d (take result.taken octets.now) (take result.count room.new) }
         ensures taken { result.taken ≤ length octets.now }
         ensures some { 0 < length octets.now → self.old.outer.n1 + 7 ≤ length room.old → 0 < result.taken }
+        ensures rest { result.taken < length octets.now → length room.old < result.count + (self.old.outer.n1 + 7) }
         ensures none { result.count ≡ 0 → self.new ≡ self.old }
         ensures few { result.count ≤ length room.old }
         ensures behind { drop result.count room.new ≡ drop result.count room.old }
@@ -88,14 +89,17 @@ impl Relay {
         Sent { taken, count }
     }
 
-    /// Takes octets to be sent as data from the front of these, and writes the next octets for the line to the front of the room. Says
-    /// how many it took, and how many the room has, which count as written. Where nothing is to go before them, and the room has
-    /// place for the longest frame, frames of these octets go to the room, copied once, while there is such place. Else it does as
-    /// `give` and then `put_out` do. Refused as `give`.
+    /// Takes octets to be sent as data from the front of these, and writes octets for the line to the front of the room, those that wait
+    /// first. Says how many it took, and how many the room has, which count as written. Where it takes fewer than there are, the room
+    /// has no place for a longest frame more, or as many wait as may. Where nothing is to go before them, the connection may send and
+    /// the room has place for the longest frame, frames of these octets go to the room, copied once, and none of them waits. Else it
+    /// does as `give` and then `put_out` do. Refused as `give`.
     #[tactic(auto, using(crate::proofs::Through::each_past))]
     pub fn send(&mut self, dlci: Dlci, octets: &[u8], room: &mut [u8]) -> Result<Sent, DataError>
         ensures sends { IfOk result (λ s. SendsOut self.old self.new dlci.number (take s.taken octets.now) (take s.count room.new)) }
         ensures taken { IfOk result (λ s. OfEachPast self.old.pipes (λ role past. s.taken ≤ length octets.now)) }
+        ensures rest { IfOk result (λ s. s.taken < length octets.now → (length room.old < s.count + (self.old.outer.n1 + 7))
+            ⊎ OfEachPast self.old.pipes (λ role past. most_to_go ≤ to_go dlci.number past + s.taken)) }
         ensures some { IfOk result (λ s. s.taken ≡ 0 → 0 < length octets.now → OfEachPast self.old.pipes (λ role past. most_to_go ≤ to_go dlci.number past)) }
         ensures all { IfOk result (λ s. s.count ≡ 0 → 0 < length room.old → HoldsNothing self.new) }
         ensures few { IfOk result (λ s. s.count ≤ length room.old) }
@@ -103,6 +107,10 @@ impl Relay {
         ensures not_data { result ≡ Err error.NotData → IsNotData self.old.pipes dlci.number }
         ensures not_open { result ≡ Err error.NotOpen → OfEachPast self.old.pipes (λ role past. is_open role dlci.number (wire past) ≡ false) }
         ensures takes_none { result ≡ Err error.Lines → OfEachPast self.old.pipes (λ role past. takes_given (carries role dlci.number past) ≡ false) }
+        ensures lets { OnOk result (OfEachPast self.old.pipes (λ role past. (is_open role dlci.number (wire past) ≡ true)
+            × (takes_given (carries role dlci.number past) ≡ true))) }
+        ensures named { (result ≡ Err error.NotOpen) ⊎ (result ≡ Err error.Lines) → HasPipe self.old.pipes dlci.number }
+        ensures open_there { result ≡ Err error.Lines → OfEachPast self.old.pipes (λ role past. is_open role dlci.number (wire past) ≡ true) }
         ensures others { OnErr result ((result ≡ Err error.NotData) ⊎ ((result ≡ Err error.NotOpen) ⊎ (result ≡ Err error.Lines))) }
         ensures err { OnErr result ((self.new ≡ self.old) × (room.new ≡ room.old)) }
     {

@@ -1,11 +1,13 @@
 -- What was sent went at once, or was given and then what waits went.
-use Rattle.std.specs.Prelude.{◌≤◌, length, take}
-use Rattle.std.proofs.Common.{subst}
+use Rattle.std.specs.Prelude.{◌≡◌, ◌≤◌, ◌+◌, length, take, true}
+use Rattle.std.proofs.Common.{subst, inr}
+use Rattle.mux_station.specs.Opening.{is_open}
 use Rattle.modem_data.specs.DataLanes.{most_to_go}
-use Rattle.modem_data.specs.Passing.{Gave, to_go}
+use Rattle.modem_data.specs.Switching.{takes_given}
+use Rattle.modem_data.specs.Passing.{Gave, carries, to_go, wire}
 use Rattle.modem_data.specs.PipeSets.{OfEachPast}
 use Rattle.modem_data.specs.Hops.{Relay, Hops, Passed, sent}
-use Rattle.modem_data.proofs.Through.{few_taken, full_where_none, still_holds}
+use Rattle.modem_data.proofs.Through.{few_taken, free_lets, full_where_none, full_with_taken, still_holds}
 use Rattle.modem_data.proofs.relay.Relay.send.Goals as goal
 
 pub returns-in-Some-clause-all : goal.returns-in-Some-clause-all
@@ -23,3 +25,14 @@ returns-clause-taken c = subst (λ (v : Relay). OfEachPast v.pipes (λ role past
 
 pub returns-clause-some : goal.returns-clause-some
 returns-clause-some c = λ none some. subst (λ (v : Relay). OfEachPast v.pipes (λ role past. most_to_go ≤ to_go c.args.dlci.number past)) c.way_through.ensures.same (full_where_none c.way_through.new.self.pipes c.args.dlci.number c.in_ok-taken.taken (length c.args.octets.now) c.in_ok-taken.ensures.count none some)
+
+pub returns-in-Some-clause-lets : goal.returns-in-Some-clause-lets
+returns-in-Some-clause-lets c = free_lets c.args.self.now.pipes c.in-Some.place c.args.dlci.number c.in-Some.ensures.way.free
+
+pub returns-clause-rest : goal.returns-clause-rest
+returns-clause-rest c = λ fewer. inr (subst (λ (v : Relay). OfEachPast v.pipes (λ role past. most_to_go ≤ to_go c.args.dlci.number past + c.in_ok-taken.taken)) c.way_through.ensures.same (full_with_taken c.way_through.new.self.pipes c.args.dlci.number c.in_ok-taken.taken (length c.args.octets.now) c.in_ok-taken.ensures.count fewer))
+
+pub returns-clause-lets : goal.returns-clause-lets
+returns-clause-lets c =
+    let d = c.args.dlci.number in
+    subst (λ (v : Relay). OfEachPast v.pipes (λ role past. (is_open role d (wire past) ≡ true) × (takes_given (carries role d past) ≡ true))) c.way_through.ensures.same c.in_ok-taken.ensures.lets
