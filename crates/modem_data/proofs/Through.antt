@@ -1,5 +1,5 @@
 -- What is given leaves at once, where nothing is before it.
-use Rattle.std.specs.Prelude.{◌≡◌, ◌≢◌, ℕ, ◌+◌, ◌-◌, ◌<◌, ◌≤◌, ◌==◌, ◌&&◌, ◌||◌, nat_le, nat_lt, min, Bool, true, false, if◌then◌else◌, IsTrue, List, [], ◌++◌, length, take, drop, None, Result, Ok, Err, IfOk, refl, slice_index_or, slice_set}
+use Rattle.std.specs.Prelude.{◌≡◌, ◌≢◌, ℕ, ◌+◌, ◌-◌, ◌<◌, ◌≤◌, ◌==◌, ◌&&◌, ◌||◌, nat_le, nat_lt, min, Bool, true, false, if◌then◌else◌, IsTrue, List, [], ◌++◌, length, take, drop, refl, slice_index_or, slice_set}
 use Rattle.std.proofs.Common.{ap, sym, ◌∙◌, subst, arith, take_all}
 use Rattle.std.proofs.Math.Seq.{drop-length, take-add}
 use Rattle.std.proofs.lemmas.Bool.{eqb-true, le-leb, ltb-true, ne_eqb}
@@ -9,12 +9,12 @@ use Rattle.mux_frame.specs.Spelling.{spelled}
 use Rattle.mux_frame.specs.Deframing.{IsDeframed}
 use Rattle.mux_station.specs.Opening.{is_open}
 use Rattle.modem_data.specs.Switching.{Carries, Idle, Lines, Ended, Data, Prompts, Marked, Sends, Owes, Owns, Answered, lets_leave, takes_given}
-use Rattle.modem_data.specs.DataLanes.{DataLane, most_to_go}
+use Rattle.modem_data.specs.DataLanes.{most_to_go}
 use Rattle.modem_data.specs.Watching.{SaysMayLeave}
 use Rattle.modem_data.specs.Passing.{Gave, carries, given, left, to_go, wire}
-use Rattle.modem_data.specs.Pipes.{Pipe, HasNoneToSend, IsFree, Leads, LeadsLeft, MayLeave, data_of, next_data}
+use Rattle.modem_data.specs.Pipes.{Pipe, HasNoneToSend, IsFree, Leads, LeadsLeft, MayLeave, data_of}
 use Rattle.modem_data.specs.PipeSets.{PipeSet, AllLead, IsFreeAt, IsNext, LeavesInTurn, OfEachPast, comes_before}
-use Rattle.modem_data.specs.Hops.{Relay, Hops, Passed, GoesOut, HoldsNothing, IsClear, IsWayThrough, SendsOut, sent, sent_more, sent_none}
+use Rattle.modem_data.specs.Hops.{Relay, Hops, Passed, HoldsNothing, IsClear, IsWayThrough, SendsOut, sent, sent_more, sent_none}
 use Rattle.modem_data.proofs.PipeCalls.{leads_gave, leads_left}
 use Rattle.modem_data.proofs.PipeSetCalls.{leaves, let_at, none_leaves, one_gave, some_pipe}
 use Rattle.modem_data.proofs.Relays.{holds_by, hops_gave}

@@ -1,6 +1,6 @@
 -- One frame more was given and went.
 use Rattle.std.specs.Prelude.{refl}
-use Rattle.std.proofs.Common.{◌≡◌, ◌<◌, ◌≤◌, ◌+◌, ◌-◌, length, take, drop, ap, subst, sym, ◌∙◌, arith}
+use Rattle.std.proofs.Common.{◌≡◌, ◌<◌, ◌+◌, ◌-◌, length, take, drop, ap, subst, sym, ◌∙◌, arith}
 use Rattle.modem_data.specs.PipeSets.{IsFreeAt}
 use Rattle.modem_data.specs.Hops.{Relay, SendsOut}
 use Rattle.modem_data.proofs.GoingOut.{long_more, behind_more}

@@ -2,7 +2,7 @@
 use Rattle.std.specs.Prelude.{ℕ}
 use Rattle.std.proofs.Common.{◌≡◌, ◌≤◌, ◌<◌, length, take, drop, ◌-◌}
 use Rattle.modem_data.specs.PipeSets.{IsFreeAt}
-use Rattle.modem_data.specs.Hops.{IsClear, SendsOut}
+use Rattle.modem_data.specs.Hops.{SendsOut}
 use Rattle.modem_data.proofs.relay.Relay.pass_all_through.Given as goal
 
 abbrev pub invariant-loop-room : goal.invariant-loop-room
