@@ -12,7 +12,7 @@ use std::marker::Model;
 pub(crate) const COMMAND_LEN: usize = 256;
 
 /// A command line of so many octets, its CR among them, takes no memory.
-const SHORT: usize = 24;
+const SHORT: usize = 16;
 
 /// A command line without its CR: `AT` or `at`, then octets 20 to 7E hex (V.250, 5.2.1).
 #[derive(Drop)]

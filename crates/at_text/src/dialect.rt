@@ -159,6 +159,7 @@ impl Dialect {
         self.final_of(line).is_some()
     }
 
+    #[inline(always)]
     /// The kind of a line that no command asked for: its kind by the standard, else that of the dialect's first unsolicited
     /// rule that takes it. `None` where no rule takes the line; never Other. A kind of the dialect's own has the name of the
     /// rule that takes the line.

@@ -36,15 +36,25 @@ pub fn run_len(octets: &[u8]) -> usize
     low + end_in(&octets[low..])
 }
 
-/// The same, by a search of all octets.
+/// The same. A line end at the front, or no octet, is seen at once.
 fn end_in(octets: &[u8]) -> usize
     ensures within { result ≤ length octets.now }
     ensures before { list_any is_line_end (take result octets.now) ≡ false }
     ensures end { result < length octets.now → is_line_end (slice_index octets.now result) ≡ true }
 {
-    if starts_with_end(octets) {
+    if octets.is_empty() || starts_with_end(octets) {
         return 0;
     }
+    searched_len(octets)
+}
+
+#[inline(never)]
+/// The same, by a search of all octets.
+fn searched_len(octets: &[u8]) -> usize
+    ensures within { result ≤ length octets.now }
+    ensures before { list_any is_line_end (take result octets.now) ≡ false }
+    ensures end { result < length octets.now → is_line_end (slice_index octets.now result) ≡ true }
+{
     memchr2(b'\r', b'\n', octets).unwrap_or(octets.len())
 }
 
@@ -68,6 +78,40 @@ fn near_text_len(octets: &[u8]) -> usize
 
 /// How many octets stand before the first that isn't above CR. No line end is above it.
 fn text_len(octets: &[u8]) -> usize
+    ensures within { result ≤ length octets.now }
+    ensures before { list_any is_line_end (take result octets.now) ≡ false }
+{
+    let low = fours_len(octets);
+    low + ones_len(&octets[low..])
+}
+
+/// The same for what can be looked at four octets at a time.
+fn fours_len(octets: &[u8]) -> usize
+    ensures within { result ≤ length octets.now }
+    ensures before { list_any is_line_end (take result octets.now) ≡ false }
+{
+    let mut len = 0;
+    while starts_with_four(&octets[len..]) {
+        len += 4;
+    }
+    len
+}
+
+/// Whether the first four octets are above CR.
+fn starts_with_four(octets: &[u8]) -> bool
+    ensures many { result ≡ true → 4 ≤ length octets.now }
+    ensures none { result ≡ true → list_any is_line_end (take 4 octets.now) ≡ false }
+{
+    match octets {
+        [first, second, third, fourth, ..] => {
+            *first > b'\r' && *second > b'\r' && *third > b'\r' && *fourth > b'\r'
+        }
+        _ => false,
+    }
+}
+
+/// The same, octet by octet.
+fn ones_len(octets: &[u8]) -> usize
     ensures within { result ≤ length octets.now }
     ensures before { list_any is_line_end (take result octets.now) ≡ false }
 {
@@ -177,7 +221,7 @@ impl LineReader {
     {
         self.run.clear();
         self.has_ended = other.has_ended;
-        if !other.has_ended {
+        if !other.is_empty() {
             let _ = self.run.try_extend_from_slice(other.run.as_slice());
         }
     }

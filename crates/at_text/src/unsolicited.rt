@@ -89,6 +89,7 @@ fn may_report(line: &[u8]) -> bool
     matches!(line, [b'R', ..] | [_, _, b'R' | b'G' | b'I', ..])
 }
 
+#[inline(never)]
 /// The same as `unsolicited_of`, by each form.
 fn reported(line: &[u8]) -> Option<UrcKind>
     ensures { result ≡ unsolicited_of line.now }

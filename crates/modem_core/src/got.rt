@@ -25,7 +25,7 @@ use crate::act_list::{ActList, none_told, push_told};
 use crate::driver::Core;
 use crate::error::CoreError;
 use crate::hand::{first_asker, first_line, remove_command};
-use crate::line_queue::LineQueue;
+use crate::line_queue::{LineRoom, NoQueue};
 use crate::reports::Reading;
 use crate::settling::Draft;
 use crate::telling::{Happened, tell_on};
@@ -229,11 +229,11 @@ impl Core {
 
     /// Data of an open connection is read, the station stays as it is, and where the command under way has its answer, the next
     /// one goes out. What is said goes behind the acts. Want of memory changes nothing.
-    fn read(
+    fn read<P: LineRoom>(
         &mut self,
         frame: FrameView<'_>,
         draft: &mut Draft,
-        lines: &mut LineQueue,
+        lines: &mut P,
     ) -> Result<(), CoreError>
         requires short { length frame.info.now ≤ most_info self.old.station.n1 frame.kind }
         requires is_data { brings_data self.old (frame_of frame) ≡ true }
@@ -243,8 +243,8 @@ impl Core {
         ensures holds { OnOk result ((lead : List Happening) → lead ++ map act_of draft.old.said.acts.items ≡ Got (frame_of frame.entry) ∷ []
             → KeepsHeld self.old self.new (Got (frame_of frame.entry)) (lead ++ map act_of draft.new.said.acts.items)) }
         ensures has_room { OnOk result (HasRoom self.old (Got (frame_of frame.entry)) true) }
-        ensures room { OnOk result (length draft.new.said.acts.items ≤ lines.new.room) }
-        ensures lines { lines.new.items ≡ lines.old.items }
+        ensures room { OnOk result (P.has_room lines.new (length draft.new.said.acts.items)) }
+        ensures lines { P.lines lines.new ≡ P.lines lines.old }
         ensures no_memory { OnErr result (result ≡ Err CoreError.NoMemory) }
         ensures err { OnErr result (self.new ≡ self.old) }
         ensures n1 { self.new.station.n1 ≡ self.old.station.n1 }
@@ -281,9 +281,8 @@ impl Core {
         ensures n1 { self.new.station.n1 ≡ self.old.station.n1 }
     {
         let mut draft = Draft::new(self.alloc);
-        let mut lines = LineQueue::new(self.alloc);
         draft.said.acts.push(Act::Got(frame.to_buf(self.alloc)?))?;
-        self.read(frame, &mut draft, &mut lines)?;
+        self.read(frame, &mut draft, &mut NoQueue)?;
         let Draft { said, .. } = draft;
         Ok(said.acts)
     }

@@ -8,7 +8,7 @@ ghost use Rattle.modem_core.specs.Settling.{tells_lines};
 ghost use Rattle.modem_core.specs.Lanes.{begun, lane_in, new_lane, turned};
 
 use crate::lane::Lane;
-use crate::line_queue::LineQueue;
+use crate::line_queue::LineRoom;
 use crate::reports::Reading;
 use crate::settling::Draft;
 use at_text::{CommandLine, Dialect, UrcKind};
@@ -106,14 +106,14 @@ impl Lanes {
     }
 
     /// Reads octets of one, and says whether a command that was under way there has ended. Want of memory changes nothing.
-    pub(crate) fn read(
+    pub(crate) fn read<P: LineRoom>(
         &mut self,
         reading: Reading,
         dialect: &Dialect,
         kinds: &[UrcKind],
         octets: &[u8],
         draft: &mut Draft,
-        lines: &mut LineQueue,
+        lines: &mut P,
     ) -> Result<bool, AllocError>
         requires { list_any tells_lines (map act_of draft.old.said.acts.items) ≡ false }
         ensures lanes { self.new ≡ slice_set self.old reading.dlci.number (lane_in self.new reading.dlci.number) }
@@ -129,8 +129,8 @@ impl Lanes {
         ensures held { (lane_in self.new reading.dlci.number).held ≡ (lane_in self.old reading.dlci.number).held }
         ensures done { IfOk result (λ done.
             done ≡ (is_some (lane_in self.old reading.dlci.number).window && is_none (lane_in self.new reading.dlci.number).window)) }
-        ensures room { OnOk result (length draft.new.said.acts.items ≤ lines.new.room) }
-        ensures lines { lines.new.items ≡ lines.old.items }
+        ensures room { OnOk result (P.has_room lines.new (length draft.new.said.acts.items)) }
+        ensures lines { P.lines lines.new ≡ P.lines lines.old }
         ensures err { OnErr result (self.new ≡ self.old) }
     {
         let lane = &mut self.each[usize::from(reading.dlci.number())];

@@ -1,7 +1,8 @@
 //! Lines that wait for their listeners, with counts of them.
-ghost use Rattle.std.specs.Prelude.{◌≡◌, ◌+◌, ◌-◌, ◌<◌, ◌≤◌, ◌++◌, ◌∷◌, [], true, nat_lt, length, drop, take, slice_index_or, slice_set, MatchOption, OnOk};
+ghost use Rattle.std.specs.Prelude.{⊤, ℕ, List, ◌≡◌, ◌+◌, ◌-◌, ◌<◌, ◌≤◌, ◌++◌, ◌∷◌, [], true, nat_lt, length, drop, take, slice_index_or, slice_set, MatchOption, OnOk};
 ghost use Rattle.std.specs.List.{list_all};
 ghost use Rattle.at_text.specs.Kinds.{kind_place};
+ghost use Rattle.modem_desk.specs.declared.request.Urc.{Urc};
 ghost use Rattle.modem_history.specs.Sessions.{backlog_in};
 ghost use Rattle.modem_core.specs.LineQueues.{AreFewOnEach};
 ghost use Rattle.modem_core.specs.Placing.{of_key, place_of};
@@ -37,6 +38,44 @@ impl Model for LineQueue {
     ghost view = { λ q. record { items = q.lines.items; room = deque_capacity q.lines - deque_len q.lines } };
 
     ghost invariant = { λ q. AreCounted q.channels q.kinds q.lines.items };
+}
+
+/// Where lines that are heard can wait: in a queue, or nowhere, where they are given as acts alone.
+pub(crate) trait LineRoom {
+    /// The lines that wait.
+    ghost lines: { Self → List Urc };
+
+    /// There is room for so many more.
+    ghost has_room: { Self → ℕ → Type 0 };
+
+    /// Makes room for so many more. Refusal: no memory, which changes no line.
+    fn reserve(&mut self, more: usize) -> Result<(), AllocError>
+        ensures lines { lines self.new ≡ lines self.old }
+        ensures room { OnOk result (has_room self.new more) };
+}
+
+impl LineRoom for LineQueue {
+    ghost lines = { λ q. q.items };
+
+    ghost has_room = { λ q more. more ≤ q.room };
+
+    fn reserve(&mut self, more: usize) -> Result<(), AllocError> {
+        self.lines.reserve(more)
+    }
+}
+
+/// No queue.
+#[derive(Drop)]
+pub(crate) struct NoQueue;
+
+impl LineRoom for NoQueue {
+    ghost lines = { λ _. [] };
+
+    ghost has_room = { λ _ _. ⊤ };
+
+    fn reserve(&mut self, _more: usize) -> Result<(), AllocError> {
+        Ok(())
+    }
 }
 
 /// One more is counted at a place. The condition is that there are fewer than so many.
@@ -98,14 +137,6 @@ impl LineQueue {
             channels,
             kinds,
         }
-    }
-
-    /// Makes room for so many more. Refusal: no memory, which changes no line.
-    pub(crate) fn reserve(&mut self, more: usize) -> Result<(), AllocError>
-        ensures items { self.new.items ≡ self.old.items }
-        ensures room { OnOk result (more ≤ self.new.room) }
-    {
-        self.lines.reserve(more)
     }
 
     /// Puts a line at the end. It is dropped where there is no room and no memory.

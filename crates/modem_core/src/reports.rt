@@ -167,17 +167,22 @@ fn keep_run(reader: &mut LineReader, octets: &[u8])
     }
 }
 
-/// How many of the first octets call for nothing: one, where it is the second octet of a line end.
+/// How many of the first octets call for nothing: those that end no line, since nothing stands before them. So the second octet of a
+/// line end is passed, and the line end before the next line.
 fn skipped(reader: &LineReader, octets: &[u8]) -> usize
     ensures within { result ≤ length octets.now }
     ensures read { (dialect : Codes) (kinds : List UrcKind) (r : Reading) (w : Option OpenWindow) (acts : List Happening)
         → ReadsAll dialect kinds r (take result octets.now) (record { kept = reader.now; window = w; acts = acts })
         (record { kept = reader.now; window = w; acts = acts }) }
 {
-    if reader.skips(octets) { 1 } else { 0 }
+    let mut count = 0;
+    while reader.skips(&octets[count..]) {
+        count += 1;
+    }
+    count
 }
 
-/// Reads octets through the first that ends a line and the line end's second octet, or all where none does. Says how many.
+/// Reads octets through the first that ends a line and those behind it that call for nothing, or all where none does. Says how many.
 fn read_run(
     reading: Reading,
     dialect: &Dialect,
@@ -223,7 +228,7 @@ pub(crate) fn read_octets(
         (settled reader.new window.new said.new.whole (map act_of said.new.acts.items))) }
     ensures grows { Grows window.old window.new }
 {
-    let mut place = 0;
+    let mut place = skipped(reader, octets);
     while place < octets.len() {
         place += read_run(
             reading,

@@ -8,7 +8,7 @@ ghost use Rattle.modem_core.specs.Reports.{ReadsAll};
 ghost use Rattle.modem_core.specs.Settling.{tells_lines, filled, filled_answer, filled_first, settled, settled_acts, settled_lane, IsUntold};
 
 use crate::lane::Lane;
-use crate::line_queue::LineQueue;
+use crate::line_queue::LineRoom;
 use crate::reports::{Reading, Said, read_octets};
 use at_text::{AnswerLines, Dialect, LineReader, UrcKind};
 use modem_desk::Answer;
@@ -84,14 +84,14 @@ fn fill_first(acts: &mut Vec<Act>, lines: AnswerLines)
 
 impl Lane {
     /// Reads octets in place, and makes room where what is heard can wait. Where memory is wanted, what is read so far stands there.
-    fn read_on(
+    fn read_on<P: LineRoom>(
         &mut self,
         reading: Reading,
         dialect: &Dialect,
         kinds: &[UrcKind],
         octets: &[u8],
         said: &mut Said,
-        lines: &mut LineQueue,
+        lines: &mut P,
     ) -> Result<(), AllocError>
         requires { IsUntold said.old.whole (map act_of said.old.acts.items) }
         ensures read { OnOk result (ReadsAll (dialect_of dialect.now) kinds.now reading octets.now
@@ -99,8 +99,8 @@ impl Lane {
             (settled self.new.kept self.new.window said.new.whole (map act_of said.new.acts.items))) }
         ensures grows { Grows self.old.window self.new.window }
         ensures held { self.new.held ≡ self.old.held }
-        ensures room { OnOk result (length said.new.acts.items ≤ lines.new.room) }
-        ensures lines { lines.new.items ≡ lines.old.items }
+        ensures room { OnOk result (P.has_room lines.new (length said.new.acts.items)) }
+        ensures lines { P.lines lines.new ≡ P.lines lines.old }
     {
         read_octets(
             reading,
@@ -131,14 +131,14 @@ impl Lane {
     }
 
     /// Reads octets, and says whether a command that was under way has ended. Want of memory leaves the lane as it was.
-    pub(crate) fn read(
+    pub(crate) fn read<P: LineRoom>(
         &mut self,
         reading: Reading,
         dialect: &Dialect,
         kinds: &[UrcKind],
         octets: &[u8],
         draft: &mut Draft,
-        lines: &mut LineQueue,
+        lines: &mut P,
     ) -> Result<bool, AllocError>
         requires { list_any tells_lines (map act_of draft.old.said.acts.items) ≡ false }
         ensures read { OnOk result (ReadsAll (dialect_of dialect.now) kinds.now reading octets.now (record {
@@ -152,8 +152,8 @@ impl Lane {
         })) }
         ensures held { self.new.held ≡ self.old.held }
         ensures done { IfOk result (λ done. done ≡ (is_some self.old.window && is_none self.new.window)) }
-        ensures room { OnOk result (length draft.new.said.acts.items ≤ lines.new.room) }
-        ensures lines { lines.new.items ≡ lines.old.items }
+        ensures room { OnOk result (P.has_room lines.new (length draft.new.said.acts.items)) }
+        ensures lines { P.lines lines.new ≡ P.lines lines.old }
         ensures err { OnErr result (self.new ≡ self.old) }
     {
         draft.said.whole = false;

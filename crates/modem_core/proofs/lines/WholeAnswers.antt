@@ -1,5 +1,5 @@
 -- An answer that is whole stands in its window until the frame is settled: what is said meanwhile.
-use Rattle.std.specs.Prelude.{suc, ◌≡◌, ℕ, ◌+◌, ◌||◌, ◌&&◌, Bool, true, false, List, [], ◌∷◌, ◌++◌, length, map, refl, Option, None, Some, position, slice_index_or, slice_set, ◌≤◌, is_some, is_none, ◌⊎◌, if◌then◌else◌}
+use Rattle.std.specs.Prelude.{suc, ◌≡◌, ℕ, ◌+◌, ◌||◌, ◌&&◌, Bool, true, false, List, [], ◌∷◌, ◌++◌, length, map, refl, Option, None, Some, position, slice_index_or, slice_set, is_some, is_none, ◌⊎◌, if◌then◌else◌}
 use Rattle.std.specs.List.{position_from, list_any}
 use Rattle.std.proofs.Common.{ap, sym, ◌∙◌, subst, arith, inl, inr}
 use Rattle.std.proofs.lemmas.Iterator.Adapters.{position_from-zero}
@@ -78,13 +78,13 @@ settled_many true w xs = filled_many (lines_so_far w) xs
 settled_many false w xs = refl
 
 -- room for so many acts is room for them once they are settled
-pub settled_room : (whole : Bool) (w : Option OpenWindow) (read settled : List code.Act) (room : ℕ) → map act_of settled ≡ settled_acts whole w (map act_of read) → length read ≤ room → length settled ≤ room
-settled_room whole w read settled room e enough =
+pub settled_room : (HasRoom : ℕ → Type 0) (whole : Bool) (w : Option OpenWindow) (read settled : List code.Act) → map act_of settled ≡ settled_acts whole w (map act_of read) → HasRoom (length read) → HasRoom (length settled)
+settled_room HasRoom whole w read settled e enough =
     let many = settled_many whole w (map act_of read) in
     let before : length (map act_of read) ≡ length read = length-map read act_of in
     let behind : length (map act_of settled) ≡ length settled = length-map settled act_of in
     let same : length (map act_of settled) ≡ length (settled_acts whole w (map act_of read)) = ap length e in
-    omega (arith, many, before, behind, same, enough)
+    subst HasRoom (sym before ∙ (sym many ∙ (sym same ∙ behind))) enough
 
 -- ## What a placed line says
 

@@ -1,6 +1,7 @@
 -- The octets are read run by run.
-use Rattle.std.proofs.Common.{◌≡◌, ◌≤◌, ◌++◌, ◌+◌, ◌-◌, take, drop, length, sym, subst, arith}
+use Rattle.std.proofs.Common.{◌≡◌, ◌≤◌, ◌++◌, ◌+◌, ◌-◌, take, drop, length, sym, subst}
 use Rattle.std.specs.Prelude.{List, ℕ, map}
+use Rattle.std.proofs.lemmas.List.{take-append-drop}
 use Rattle.at_text.specs.Rules.{dialect_of}
 use Rattle.at_text.proofs.windows.PlacedLines.{grown_none}
 use Rattle.modem_history.specs.Acts.{act_of}
@@ -11,12 +12,18 @@ use Rattle.modem_core.proofs.lines.WholeAnswers.{grown_on}
 use Rattle.modem_core.proofs.reports.read_octets.Goals as goal
 
 pub loop-place-init : goal.loop-place-init
-loop-place-init c = record {
-  within = omega arith;
-  untold = c.requires;
-  grows = grown_none c.args.window.now;
-  read = reads_first (dialect_of c.args.dialect.now) c.args.kinds.now c.args.reading (settled c.args.reader.now c.args.window.now c.args.said.now.whole (map act_of c.args.said.now.acts.items)) c.args.octets.now;
-}
+loop-place-init c =
+    let dialect = dialect_of c.args.dialect.now in
+    let all = c.args.octets.now in
+    let n = c.skipped-place.result in
+    let first : Read = settled c.args.reader.now c.args.window.now c.args.said.now.whole (map act_of c.args.said.now.acts.items) in
+    record {
+      within = c.skipped-place.ensures.within;
+      untold = c.requires;
+      grows = grown_none c.args.window.now;
+      read = reads_next dialect c.args.kinds.now c.args.reading first first first (take n all) all (drop n all) all (sym (take-append-drop n all))
+          (c.skipped-place.ensures.read dialect c.args.kinds.now c.args.reading first.window first.acts) (reads_first dialect c.args.kinds.now c.args.reading first all);
+    }
 
 pub returns-in_err-place-clause-grows : goal.returns-in_err-place-clause-grows
 returns-in_err-place-clause-grows c = grown_on c.args.window.now c.loop-place.window c.read_run.new.window c.loop-place.invariant.grows c.read_run.ensures.grows

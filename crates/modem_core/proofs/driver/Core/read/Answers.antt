@@ -22,7 +22,7 @@ use Rattle.modem_core.proofs.lines.ReportedLines.{reads_frame}
 use Rattle.modem_core.proofs.driver.Core.read.Goals as goal
 
 pub returns-clause-past : goal.returns-clause-past
-returns-clause-past c = λ lead is_first.
+returns-clause-past g c = λ lead is_first.
     let k = c.self.inside in
     let f = frame_of c.args.frame in
     let v : Core = record { station = k.station; lanes = k.lanes; hand = k.hand; rules = k.dialect; kinds = k.kinds.items; lost = k.lost } in
@@ -44,7 +44,7 @@ returns-clause-past c = λ lead is_first.
     subst (λ (x : Core). Handles x new (Got f) acts) c.self.view_is (data_handles v new f (noted_in k.station f) lane k.station acts (sound v k.n1 c.self.invariant) came)
 
 pub returns-clause-holds : goal.returns-clause-holds
-returns-clause-holds c = λ lead is_first.
+returns-clause-holds g c = λ lead is_first.
     let k = c.self.inside in
     let f = frame_of c.args.frame in
     let v : Core = record { station = k.station; lanes = k.lanes; hand = k.hand; rules = k.dialect; kinds = k.kinds.items; lost = k.lost } in
@@ -67,7 +67,7 @@ returns-clause-holds c = λ lead is_first.
     subst (λ (x : Core). KeepsHeld x new (Got f) acts) c.self.view_is (data_holds v new f lane k.station _ acts quiet c.read.ensures.held came.ends past)
 
 pub returns-clause-has_room : goal.returns-clause-has_room
-returns-clause-has_room c =
+returns-clause-has_room g c =
     let k = c.self.inside in
     let f = frame_of c.args.frame in
     let v : Core = record { station = k.station; lanes = k.lanes; hand = k.hand; rules = k.dialect; kinds = k.kinds.items; lost = k.lost } in
