@@ -1,5 +1,5 @@
 -- Verdicts on candidates, as the code keeps them.
-use Rattle.circular_buffer.specs.Buffer.{Buffer}
+use mir.Val.{bool_byte}
 use Rattle.std.specs.Prelude.{◌≡◌, ◌≢◌, ℕ, ◌+◌, ◌*◌, ◌/◌, ◌%◌, ◌≤◌, ◌==◌, Bool, List, ◌∷◌, Option, None, Some, drop, length, if◌then◌else◌}
 use Rattle.mux_frame.specs.Deframing.{IsFront, IsSettled, SameReading, decision_on, next_in}
 use Rattle.mux_frame.specs.Judging.{Header, Verdict, unfinished, refused, fits, frame_at, verdict_on}
@@ -44,6 +44,14 @@ StandsSo n1 text (Standing.Whole place) = IsWholeTo n1 text place
 StandsSo n1 text Standing.Unfinished = unfinished ≡ verdict_on n1 text
 StandsSo n1 text Standing.Refused = refused ≡ verdict_on n1 text
 
+-- how the candidate at a place stands, whose flag is the one there or the second of two
+pub record StandsAt (n1 : ℕ) (octets : List ℕ) (place begin : ℕ) (standing : Standing) : Type 0 where
+  pub is_second : Bool
+  pub text : List ℕ
+  pub begin_is : begin ≡ place + bool_byte is_second
+  pub candidate : IsCandidate (drop place octets) is_second text
+  pub stands_so : StandsSo n1 text standing
+
 -- how many octets stand before the check octet, from the flag on, by the length octets; none where these haven't come
 abbrev pub len_to_check : List ℕ → ℕ
 len_to_check (f ∷ x ∷ y ∷ l ∷ m ∷ t) = if l % 2 == 1 then 4 + l / 2 else 5 + l / 2 + 128 * m
@@ -81,18 +89,24 @@ abbrev pub IsSought : ℕ → List ℕ → ℕ → Option ℕ → Type 0
 IsSought n1 octets place None = IsPassed n1 octets place
 IsSought n1 octets place (Some check_place) = IsSearched n1 octets place (Some check_place)
 
--- a deframer keeps the check place of the frame at hand
-pub record IsReady (n1 : ℕ) (undecided : List ℕ) (capacity : ℕ) (check_place : Option ℕ) : Type 0 where
-  pub settled : IsSettled n1 undecided capacity
-  pub at_hand : IsAtHand n1 undecided check_place
+-- of so many octets in front the deframer is done; it keeps the check place of the frame at hand behind them
+pub record IsReady (n1 : ℕ) (octets : List ℕ) (passed : ℕ) (capacity : ℕ) (check_place : Option ℕ) : Type 0 where
+  pub within : passed ≤ length octets
+  pub are_octets : AreOctets octets
+  pub settled : IsSettled n1 (drop passed octets) capacity
+  pub at_hand : IsAtHand n1 (drop passed octets) check_place
 
 -- octets at the front that begin no frame are dropped; then this is the check place of the frame at hand, if there is
 -- one
-pub record Settles (n1 : ℕ) (old new : Buffer ℕ) (check_place : Option ℕ) : Type 0 where
-  pub decided : decision_on n1 new.items ≢ refused
-  pub reads : SameReading n1 old.items new.items
-  pub kept : decision_on n1 old.items ≢ refused → new ≡ old
-  pub octets : AreOctets new.items
-  pub shorter : length new.items ≤ length old.items
-  pub capacity : new.capacity ≡ old.capacity
-  pub at_hand : IsAtHand n1 new.items check_place
+pub record Settles (n1 : ℕ) (old new : List ℕ) (check_place : Option ℕ) : Type 0 where
+  pub decided : decision_on n1 new ≢ refused
+  pub reads : SameReading n1 old new
+  pub kept : decision_on n1 old ≢ refused → new ≡ old
+  pub octets : AreOctets new
+  pub shorter : length new ≤ length old
+  pub at_hand : IsAtHand n1 new check_place
+
+-- so it is with the octets behind so many, where those up to this place are dropped
+pub record SettlesFrom (n1 : ℕ) (octets : List ℕ) (passed place : ℕ) (check_place : Option ℕ) : Type 0 where
+  pub within : place ≤ length octets
+  pub settles : Settles n1 (drop passed octets) (drop place octets) check_place

@@ -10,9 +10,8 @@ use crate::error::FrameError;
 use crate::frame::FrameView;
 use crate::judge::front_frame;
 use crate::n1::N1;
-use crate::settling::{settle, take_in};
+use crate::settling::{settle, slices_from, take_in};
 use crate::slice::one_slice;
-use crate::straight::straighten;
 use circular_buffer::HeapCircularBuffer;
 use std::alloc::Global;
 use std::marker::Model;
@@ -30,11 +29,13 @@ fn room_for(n1: N1) -> usize
 }
 
 /// Reads frames from octets, however the octets are cut. Undecided octets wait in a ring, and a frame stays there until
-/// `advance`. `peek` lends it from the ring as one slice: octets that wrap round the ring's end are moved first.
+/// `advance`. `peek` lends it from the ring as one slice: where a frame is whole, octets that wrap round the ring's end are moved.
 #[derive(Drop)]
 pub struct Deframer {
     octets: HeapCircularBuffer<u8>,
     n1: N1,
+    /// How many octets at the ring's front are done with. They go when `feed` takes others in.
+    passed: usize,
     /// Where a frame is at hand: the place of its check octet, counted from its address octet.
     check_place: Option<usize>,
 }
@@ -42,16 +43,17 @@ pub struct Deframer {
 impl Model for Deframer {
     ghost use Rattle.mux_frame.specs.Deframing.{Deframing, next_in};
     ghost use Rattle.mux_frame.specs.Judged.{IsReady};
+    ghost use Rattle.std.specs.Prelude.{drop};
 
     ghost Value = { Deframing };
 
     ghost view = { λ d. record {
       n1 = d.n1.octets;
-      undecided = d.octets.items;
-      next = next_in d.n1.octets d.octets.items;
+      undecided = drop d.passed d.octets.items;
+      next = next_in d.n1.octets (drop d.passed d.octets.items);
     } };
 
-    ghost invariant = { λ d. IsReady d.n1.octets d.octets.items d.octets.capacity d.check_place };
+    ghost invariant = { λ d. IsReady d.n1.octets d.octets.items d.passed d.octets.capacity d.check_place };
 }
 
 impl Deframer {
@@ -72,6 +74,7 @@ impl Deframer {
         Ok(Deframer {
             octets,
             n1,
+            passed: 0,
             check_place: None,
         })
     }
@@ -86,9 +89,10 @@ impl Deframer {
         ensures stays { (f : Frame) → self.old.next ≡ Some f → self.new.next ≡ Some f }
         ensures past { TakesIn self.old (take result octets.now) self.new }
     {
-        let room = self.octets.capacity() - self.octets.len();
-        let count = octets.len().min(room);
-        self.check_place = take_in(&mut self.octets, &octets[..count], self.n1.octets);
+        let undecided = self.octets.len() - self.passed;
+        let count = octets.len().min(self.octets.capacity() - undecided);
+        let more = &octets[..count];
+        self.check_place = take_in(&mut self.octets, &mut self.passed, more, self.n1.octets);
         count
     }
 
@@ -108,8 +112,8 @@ impl Deframer {
         let Some(place) = self.check_place else {
             return None;
         };
-        straighten(&mut self.octets);
-        Some(front_frame(self.n1.octets, one_slice(&mut self.octets), place))
+        let (n1, passed) = (self.n1.octets, self.passed);
+        Some(front_frame(n1, one_slice(&mut self.octets), passed, place))
     }
 
     /// Drops the frame at hand and goes on behind it. Requires a frame at hand: the last call was a `peek` that gave one.
@@ -119,9 +123,12 @@ impl Deframer {
         ensures shorter { length self.new.undecided < length self.old.undecided }
         ensures past { HandsOver self.old self.new }
     {
-        if let Some(place) = self.check_place {
-            self.check_place = settle(&mut self.octets, place + 2, self.n1.octets);
-        }
+        let Some(place) = self.check_place else {
+            unreachable!()
+        };
+        let octets = one_slice(&mut self.octets);
+        let from = self.passed + place + 2;
+        self.check_place = settle(octets, from, &mut self.passed, self.n1.octets);
     }
 
     /// Appends the rest of what was taken: the undecided octets. Requires that no frame is at hand: the last `peek`
@@ -133,6 +140,7 @@ impl Deframer {
         ensures no_memory { OnErr result (result ≡ Err FrameError.NoMemory) }
     {
         let (front, back) = self.octets.as_slices();
+        let (front, back) = slices_from(front, back, self.passed);
         out.reserve(front.len() + back.len())?;
         out.extend_from_slice(front).unwrap();
         out.extend_from_slice(back).unwrap();

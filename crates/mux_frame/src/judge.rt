@@ -226,15 +226,22 @@ impl Header {
 }
 
 #[inline(always)]
-/// The frame that octets begin with, lent. It is known to be whole, and where its check octet
+/// The frame that octets begin with behind so many, lent. It is known to be whole, and where its check octet
 /// stands, so nothing is checked again.
-pub(crate) fn front_frame(n1: u16, octets: &[u8], check_place: usize) -> FrameView<'_>
-    requires { IsAtPlace n1 octets.now check_place }
-    ensures { Some (frame_of result) ≡ next_in n1 octets.now }
+pub(crate) fn front_frame(
+    n1: u16,
+    octets: &[u8],
+    passed: usize,
+    check_place: usize,
+) -> FrameView<'_>
+    requires passed { passed ≤ length octets.now }
+    requires at_place { IsAtPlace n1 (drop passed octets.now) check_place }
+    ensures { Some (frame_of result) ≡ next_in n1 (drop passed octets.now) }
 {
-    let (address, control) = (octets[1], octets[2]);
+    let (_, left) = octets.split_at(passed);
+    let (address, control) = (left[1], left[2]);
     // Its low bit is set where no second length octet follows.
-    let size = 4 - usize::from(octets[3] % 2);
+    let size = 4 - usize::from(left[3] % 2);
     FrameView {
         dlci: Dlci {
             number: address / 4,
@@ -242,6 +249,6 @@ pub(crate) fn front_frame(n1: u16, octets: &[u8], check_place: usize) -> FrameVi
         kind: kind_of(control).unwrap_or(Kind::Uih),
         cr: address / 2 % 2 == 1,
         pf: control / 16 % 2 == 1,
-        info: &octets[1 + size..1 + check_place],
+        info: &left[1 + size..1 + check_place],
     }
 }

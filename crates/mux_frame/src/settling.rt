@@ -1,15 +1,14 @@
 //! Takes octets into a deframer, and drops what begins no frame.
-ghost use Rattle.std.specs.Prelude.{◌≡◌, ◌≢◌, ◌+◌, ◌≤◌, ◌++◌, ◌==◌, ℕ, [], ◌∷◌, true, not, drop, length, position, slice_get, IfSome};
-ghost use Rattle.circular_buffer.specs.Buffer.{buffer};
+ghost use Rattle.std.specs.Prelude.{◌≡◌, ◌≢◌, ◌+◌, ◌-◌, ◌^◌, ◌<◌, ◌≤◌, ◌++◌, ◌==◌, ℕ, [], ◌∷◌, true, not, drop, length, position, slice_get, IfSome};
 ghost use Rattle.mux_frame.specs.Deframing.{decision_on, SameReading};
-ghost use Rattle.mux_frame.specs.Judged.{IsCandidate, IsPassed, IsSearched, IsSought, Settles, StandsSo, len_to_check, verdict_seen};
+ghost use Rattle.mux_frame.specs.Judged.{IsCandidate, IsPassed, IsSearched, IsSought, Settles, SettlesFrom, StandsAt, StandsSo, len_to_check, verdict_seen};
 ghost use Rattle.mux_frame.specs.Judging.{refused};
 ghost use Rattle.mux_frame.specs.Laws.{AreOctets};
 ghost use Rattle.mux_frame.specs.Places.{flags_at_front, from_flag};
 ghost use Rattle.mux_frame.specs.Spelling.{flag};
 
 use crate::judge::Verdict;
-use crate::straight::append;
+use crate::straight::{append, straighten};
 use crate::write::FLAG;
 use circular_buffer::HeapCircularBuffer;
 use memchr::memchr;
@@ -28,16 +27,6 @@ fn flag_in(octets: &[u8]) -> usize
         return 0;
     }
     memchr(FLAG, octets).unwrap_or(octets.len())
-}
-
-#[inline(always)]
-/// Takes this many octets off the front.
-fn remove_front(octets: &mut HeapCircularBuffer<u8>, count: usize)
-    requires { count ≤ length octets.old.items }
-    ensures { octets.new ≡ buffer (drop count octets.old.items) octets.old.capacity }
-{
-    let kept = octets.len() - count;
-    octets.truncate_front(kept);
 }
 
 #[inline(always)]
@@ -140,7 +129,7 @@ fn decided(front: &[u8], back: &[u8], n1: u16) -> Verdict
 
 #[inline(always)]
 /// The two slices of a ring from a place on.
-fn slices_from<'a>(front: &'a [u8], back: &'a [u8], place: usize) -> (&'a [u8], &'a [u8])
+pub(crate) fn slices_from<'a>(front: &'a [u8], back: &'a [u8], place: usize) -> (&'a [u8], &'a [u8])
     requires { place ≤ length (front.now ++ back.now) }
     ensures { result.0.now ++ result.1.now ≡ drop place (front.now ++ back.now) }
 {
@@ -207,36 +196,16 @@ fn searched_on(front: &[u8], back: &[u8], passed: usize, n1: u16) -> (usize, Opt
     }
 }
 
-/// The same in the two slices of a ring: in the first one, and where that doesn't tell, in both.
+/// The same in the two slices of a ring: in the first one, and where that has no whole frame, in both.
 fn searched_both(front: &[u8], back: &[u8], n1: u16) -> (usize, Option<usize>)
     requires { AreOctets (front.now ++ back.now) }
     ensures { IsSearched n1 (front.now ++ back.now) result.0 result.1 }
 {
     let (start, check_place) = searched(front, n1);
-    if check_place.is_some() || back.is_empty() {
+    if check_place.is_some() {
         return (start, check_place);
     }
     searched_on(front, back, start, n1)
-}
-
-#[inline(always)]
-/// The octets from a place on that stand behind a flag or behind two, where a header may be whole.
-/// The first of two flags most often closes another frame.
-fn candidate(octets: &[u8], place: usize) -> Option<(bool, &[u8])>
-    requires { place ≤ length octets.now }
-    ensures { IfSome result (λ c. IsCandidate (drop place octets.now) c.0 c.1.now) }
-{
-    let (_, left) = octets.split_at(place);
-    if left.len() < LONGEST_HEAD {
-        return None;
-    }
-    match left.split_first() {
-        Some((&FLAG, text)) => match text.split_first() {
-            Some((&FLAG, text)) => Some((true, text)),
-            _ => Some((false, text)),
-        },
-        _ => None,
-    }
 }
 
 /// What a candidate is.
@@ -262,6 +231,26 @@ fn judged(n1: u16, text: &[u8]) -> Standing
 }
 
 #[inline(always)]
+/// Where the flag of the candidate at a place stands, and what the candidate is; nothing where no header may be whole. Its flag
+/// is the second one of two: the first most often closes another frame.
+fn standing_at(octets: &[u8], place: usize, n1: u16) -> Option<(usize, Standing)>
+    requires { place ≤ length octets.now }
+    ensures { IfSome result (λ s. StandsAt n1 octets.now place s.0 s.1) }
+{
+    let (_, left) = octets.split_at(place);
+    if left.len() < LONGEST_HEAD {
+        return None;
+    }
+    match left.split_first() {
+        Some((&FLAG, text)) => match text.split_first() {
+            Some((&FLAG, text)) => Some((place + 1, judged(n1, text))),
+            _ => Some((place, judged(n1, text))),
+        },
+        _ => None,
+    }
+}
+
+#[inline(always)]
 /// How many octets at the front of one slice begin no frame, as far as its candidates tell. If a whole frame follows them, it
 /// also gives the place of that frame's check octet, counted from its address octet.
 fn sought(octets: &[u8], n1: u16) -> (usize, Option<usize>)
@@ -270,50 +259,36 @@ fn sought(octets: &[u8], n1: u16) -> (usize, Option<usize>)
 {
     let mut start = 0;
     loop {
-        let Some((is_second, text)) = candidate(octets, start) else {
+        let Some((begin, standing)) = standing_at(octets, start, n1) else {
             return (start, None);
         };
-        start += usize::from(is_second);
-        match judged(n1, text) {
-            Standing::Whole(place) => return (start, Some(place)),
-            Standing::Unfinished => return (start, None),
+        match standing {
+            Standing::Whole(place) => return (begin, Some(place)),
+            Standing::Unfinished => return (begin, None),
             Standing::Refused => {
-                let (_, text) = octets.split_at(start + 1);
-                start += 1 + begin_in(text);
+                let (_, text) = octets.split_at(begin + 1);
+                start = begin + (1 + begin_in(text));
             }
         }
     }
 }
 
 #[inline(always)]
-/// Takes so many octets off the front, and then those that begin no frame. If a whole frame stands
-/// at the front then, it gives the place of that frame's check octet, counted from its address
-/// octet.
-pub(crate) fn settle(octets: &mut HeapCircularBuffer<u8>, passed: usize, n1: u16) -> Option<usize>
-    requires octets { AreOctets octets.old.items }
-    requires passed { passed ≤ length octets.old.items }
-    ensures { Settles n1 (buffer (drop passed octets.old.items) octets.old.capacity) octets.new result }
+/// From a place on, passes over octets that begin no frame. If a whole frame stands there then, it gives the place of that
+/// frame's check octet, counted from its address octet.
+pub(crate) fn settle(octets: &[u8], from: usize, passed: &mut usize, n1: u16) -> Option<usize>
+    requires octets { AreOctets octets.now }
+    requires from { from ≤ length octets.now }
+    ensures { SettlesFrom n1 octets.now from passed.new result }
 {
-    let (front, back) = octets.as_slices();
-    let is_all = back.is_empty();
-    if front.len() < passed {
-        return settle_searching(octets, passed, n1);
-    }
-    let Some((is_second, text)) = candidate(front, passed) else {
-        return settle_few(octets, passed, n1);
+    let Some((begin, standing)) = standing_at(octets, from, n1) else {
+        return settle_few(octets, from, passed, n1);
     };
-    let start = passed + usize::from(is_second);
-    match judged(n1, text) {
-        Standing::Whole(place) => {
-            remove_front(octets, start);
-            Some(place)
-        }
-        Standing::Unfinished if is_all => {
-            remove_front(octets, start);
-            None
-        }
-        Standing::Unfinished => settle_searching(octets, start, n1),
-        Standing::Refused => settle_behind(octets, start, n1),
+    *passed = begin;
+    match standing {
+        Standing::Whole(place) => Some(place),
+        Standing::Unfinished => None,
+        Standing::Refused => settle_behind(octets, begin, passed, n1),
     }
 }
 
@@ -328,93 +303,141 @@ fn is_last_flag(octets: &[u8], place: usize) -> bool
 }
 
 /// The same, where no header is whole. Most often the flag that closed the last frame is all that is left.
-fn settle_few(octets: &mut HeapCircularBuffer<u8>, passed: usize, n1: u16) -> Option<usize>
-    requires octets { AreOctets octets.old.items }
-    requires passed { passed ≤ length octets.old.items }
-    ensures { Settles n1 (buffer (drop passed octets.old.items) octets.old.capacity) octets.new result }
+fn settle_few(octets: &[u8], from: usize, passed: &mut usize, n1: u16) -> Option<usize>
+    requires octets { AreOctets octets.now }
+    requires from { from ≤ length octets.now }
+    ensures { SettlesFrom n1 octets.now from passed.new result }
 {
-    let (front, back) = octets.as_slices();
-    if back.is_empty() && passed <= front.len() && is_last_flag(front, passed) {
-        remove_front(octets, passed);
+    if is_last_flag(octets, from) {
+        *passed = from;
         return None;
     }
-    settle_searching(octets, passed, n1)
+    settle_searching(octets, from, passed, n1)
 }
 
 #[inline(never)]
-/// The same, where the candidate of the flag there has failed. The candidates behind it are tried without taking anything off.
-fn settle_behind(octets: &mut HeapCircularBuffer<u8>, failed: usize, n1: u16) -> Option<usize>
-    requires octets { AreOctets octets.old.items }
-    requires failed { refused ≡ decision_on n1 (drop failed octets.old.items) }
-    ensures { Settles n1 (buffer (drop failed octets.old.items) octets.old.capacity) octets.new result }
+/// The same, where the candidate of the flag there has failed: what stands before the next flag is passed over too.
+fn settle_behind(octets: &[u8], failed: usize, passed: &mut usize, n1: u16) -> Option<usize>
+    requires octets { AreOctets octets.now }
+    requires failed { refused ≡ decision_on n1 (drop failed octets.now) }
+    ensures { SettlesFrom n1 octets.now failed passed.new result }
 {
-    let (front, _) = octets.as_slices();
-    if front.len() <= failed {
-        return settle_searching(octets, failed, n1);
-    }
-    let (_, text) = front.split_at(failed + 1);
-    let place = begin_in(text);
-    let (_, left) = text.split_at(place);
-    let begin = failed + 1 + place;
+    let (_, text) = octets.split_at(failed + 1);
+    let begin = failed + 1 + flag_in(text);
+    let (_, left) = octets.split_at(begin);
     match sought(left, n1) {
         (start, Some(check_place)) => {
-            remove_front(octets, begin + start);
+            *passed = begin + start;
             Some(check_place)
         }
-        (start, None) => settle_searching(octets, begin + start, n1),
+        (start, None) => settle_searching(octets, begin + start, passed, n1),
     }
 }
 
 #[inline(never)]
 /// The same, whatever stands there.
-fn settle_searching(octets: &mut HeapCircularBuffer<u8>, passed: usize, n1: u16) -> Option<usize>
-    requires octets { AreOctets octets.old.items }
-    requires passed { passed ≤ length octets.old.items }
-    ensures { Settles n1 (buffer (drop passed octets.old.items) octets.old.capacity) octets.new result }
+fn settle_searching(octets: &[u8], from: usize, passed: &mut usize, n1: u16) -> Option<usize>
+    requires octets { AreOctets octets.now }
+    requires from { from ≤ length octets.now }
+    ensures { SettlesFrom n1 octets.now from passed.new result }
 {
-    remove_front(octets, passed);
-    let (front, back) = octets.as_slices();
-    let (count, check_place) = searched_both(front, back, n1);
-    remove_front(octets, count);
+    let (_, left) = octets.split_at(from);
+    let (count, check_place) = searched(left, n1);
+    *passed = from + count;
     check_place
 }
 
 #[inline(always)]
-/// How many octets the candidate at the front has before its check octet, by its length octets; none where these haven't come.
-fn len_to_check(octets: &[u8]) -> usize
-    ensures { result ≡ len_to_check octets.now }
+/// How many octets the candidate at a place has before its check octet, by its length octets; none where these haven't come.
+fn len_to_check(octets: &HeapCircularBuffer<u8>, place: usize) -> usize
+    requires { place < 2 ^ 63 }
+    ensures { result ≡ len_to_check (drop place octets.now.items) }
 {
-    match octets {
-        [_, _, _, first, second, ..] => {
-            let low = usize::from(*first / 2);
-            if *first % 2 == 1 {
-                4 + low
-            } else {
-                5 + low + 128 * usize::from(*second)
-            }
-        }
-        _ => 0,
+    let Some(second) = octets.get(place + 4) else {
+        return 0;
+    };
+    let Some(first) = octets.get(place + 3) else {
+        return 0;
+    };
+    let low = usize::from(*first / 2);
+    if *first % 2 == 1 {
+        4 + low
+    } else {
+        5 + low + 128 * usize::from(*second)
     }
 }
 
-/// Appends octets, and settles. Where there are none yet, what begins no frame isn't taken in. While the check octet of the candidate
-/// hasn't come, nothing is looked at. The condition is that the octets there don't begin with what begins no frame.
-pub(crate) fn take_in(octets: &mut HeapCircularBuffer<u8>, more: &[u8], n1: u16) -> Option<usize>
-    requires octets { AreOctets (octets.old.items ++ more.now) }
-    requires room { length octets.old.items + length more.now ≤ octets.old.capacity }
-    requires decided { decision_on n1 octets.old.items ≢ refused }
-    ensures { Settles n1 (buffer (octets.old.items ++ more.now) octets.old.capacity) octets.new result }
+#[inline(never)]
+/// Takes octets in where all others are done with, and settles. What begins no frame isn't taken in.
+fn take_first(
+    octets: &mut HeapCircularBuffer<u8>,
+    passed: &mut usize,
+    more: &[u8],
+    n1: u16,
+) -> Option<usize>
+    requires passed { length octets.old.items ≡ passed.old }
+    requires octets { AreOctets octets.old.items }
+    requires more { AreOctets more.now }
+    requires room { length more.now ≤ octets.old.capacity }
+    ensures octets { AreOctets octets.new.items }
+    ensures capacity { octets.new.capacity ≡ octets.old.capacity }
+    ensures within { passed.new ≤ length octets.new.items }
+    ensures settles { Settles n1 more.now (drop passed.new octets.new.items) result }
 {
-    if octets.is_empty() {
-        let (start, check_place) = searched(more, n1);
-        append(octets, &more[start..]);
+    let (start, check_place) = searched(more, n1);
+    let (_, left) = more.split_at(start);
+    if left.is_empty() {
         return check_place;
     }
-    let (front, _) = octets.as_slices();
-    let least = len_to_check(front);
-    append(octets, more);
+    append(octets, *passed, left);
+    *passed = 0;
+    check_place
+}
+
+/// Settles all octets. Where a whole frame stands then, they don't wrap, so that it can be lent.
+fn settle_all(octets: &mut HeapCircularBuffer<u8>, passed: &mut usize, n1: u16) -> Option<usize>
+    requires { AreOctets octets.old.items }
+    ensures octets { octets.new ≡ octets.old }
+    ensures settles { SettlesFrom n1 octets.old.items 0 passed.new result }
+{
+    let (front, back) = octets.as_slices();
+    if back.is_empty() {
+        return settle(front, 0, passed, n1);
+    }
+    let (start, check_place) = searched_both(front, back, n1);
+    *passed = start;
+    if check_place.is_some() {
+        straighten(octets);
+    }
+    check_place
+}
+
+/// Appends octets to those that aren't done with, and settles. While the check octet of the candidate hasn't come, nothing is looked
+/// at. The condition is that the octets there don't begin with what begins no frame.
+pub(crate) fn take_in(
+    octets: &mut HeapCircularBuffer<u8>,
+    passed: &mut usize,
+    more: &[u8],
+    n1: u16,
+) -> Option<usize>
+    requires within { passed.old ≤ length octets.old.items }
+    requires octets { AreOctets octets.old.items }
+    requires more { AreOctets more.now }
+    requires room { length octets.old.items - passed.old + length more.now ≤ octets.old.capacity }
+    requires decided { decision_on n1 (drop passed.old octets.old.items) ≢ refused }
+    ensures octets { AreOctets octets.new.items }
+    ensures capacity { octets.new.capacity ≡ octets.old.capacity }
+    ensures within { passed.new ≤ length octets.new.items }
+    ensures settles { Settles n1 (drop passed.old octets.old.items ++ more.now) (drop passed.new octets.new.items) result }
+{
+    if octets.len() == *passed {
+        return take_first(octets, passed, more, n1);
+    }
+    let least = len_to_check(octets, *passed);
+    append(octets, *passed, more);
+    *passed = 0;
     if octets.len() <= least {
         return None;
     }
-    settle(octets, 0, n1)
+    settle_all(octets, passed, n1)
 }

@@ -1,5 +1,5 @@
 //! Keeps the octets of a ring from wrapping round the end of its block.
-ghost use Rattle.std.specs.Prelude.{◌≡◌, ◌+◌, ◌<◌, ◌≤◌, ◌++◌, drop, length};
+ghost use Rattle.std.specs.Prelude.{◌≡◌, ◌+◌, ◌-◌, ◌<◌, ◌≤◌, ◌++◌, drop, length, take};
 ghost use Rattle.circular_buffer.specs.Buffer.{buffer};
 ghost use Rattle.mux_frame.specs.Places.{turned};
 
@@ -8,35 +8,8 @@ use circular_buffer::HeapCircularBuffer;
 /// How many octets are put aside at once.
 const PIECE: usize = 256;
 
-/// Writes octets anew at the beginning of the ring's block: as many of its front as the piece is long, and these, which follow
-/// them.
-fn write_anew(octets: &mut HeapCircularBuffer<u8>, piece: &mut [u8], more: &[u8])
-    requires within { length piece.old ≤ length octets.old.items }
-    requires room { length octets.old.items ≤ octets.old.capacity }
-    requires more { drop (length piece.old) octets.old.items ≡ more.now }
-    ensures { octets.new ≡ octets.old }
-{
-    let (_, wrapped) = octets.as_slices();
-    let count = wrapped.len();
-    octets.read_into(piece);
-    // Now the front is the block's beginning.
-    octets.truncate_front(count);
-    octets.clear();
-    octets.fill_from_slice(piece);
-    octets.fill_from_slice(more);
-}
-
-#[inline(never)]
-/// The same, where so many octets precede these and fit into the piece.
-fn begin_anew(octets: &mut HeapCircularBuffer<u8>, kept: usize, more: &[u8], piece: &mut [u8])
-    requires piece { kept ≤ length piece.old }
-    requires within { kept ≤ length octets.old.items }
-    requires room { length octets.old.items ≤ octets.old.capacity }
-    requires more { drop kept octets.old.items ≡ more.now }
-    ensures { octets.new ≡ octets.old }
-{
-    write_anew(octets, &mut piece[..kept], more);
-}
+/// How many octets that are done with are worth writing over.
+const MANY: usize = 256;
 
 #[inline(always)]
 /// Puts octets behind the others. A single one, as from a line that is read octet by octet, is put there at once.
@@ -54,17 +27,51 @@ fn put_behind(octets: &mut HeapCircularBuffer<u8>, more: &[u8])
     }
 }
 
-/// Appends octets that there is room for. Where they wrap then, they are written anew at the block's beginning, unless more
-/// than a piece precedes them.
-pub(crate) fn append(octets: &mut HeapCircularBuffer<u8>, more: &[u8])
-    requires { length octets.old.items + length more.now ≤ octets.old.capacity }
-    ensures { octets.new ≡ buffer (octets.old.items ++ more.now) octets.old.capacity }
+/// Writes over so many octets in front that are done with: first those behind them, then these.
+fn overwrite(octets: &mut [u8], passed: usize, more: &[u8])
+    requires passed { length octets.old ≤ passed + passed }
+    requires within { passed ≤ length octets.old }
+    requires room { length more.now ≤ passed }
+    ensures len { length octets.new ≡ length octets.old }
+    ensures front { take (length octets.old - passed + length more.now) octets.new ≡ drop passed octets.old ++ more.now }
 {
-    let kept = octets.len();
-    put_behind(octets, more);
-    let (_, wrapped) = octets.as_slices();
-    if kept <= PIECE && !wrapped.is_empty() {
-        begin_anew(octets, kept, more, &mut [0; PIECE]);
+    let kept = octets.len() - passed;
+    let (front, back) = octets.split_at_mut(passed);
+    front[..kept].copy_from_slice(back);
+    octets[kept..kept + more.len()].copy_from_slice(more);
+}
+
+#[inline(never)]
+/// Drops so many octets that are done with, and appends others. Those that stay are moved to the front, so they are no more than
+/// those that go, and the others are written behind them.
+fn write_over(octets: &mut HeapCircularBuffer<u8>, passed: usize, more: &[u8])
+    requires passed { length octets.old.items ≤ passed + passed }
+    requires within { passed ≤ length octets.old.items }
+    requires room { length octets.old.items - passed + length more.now ≤ octets.old.capacity }
+    ensures { octets.new ≡ buffer (drop passed octets.old.items ++ more.now) octets.old.capacity }
+{
+    let kept = octets.len() - passed;
+    let (over, behind) = more.split_at(more.len().min(passed));
+    straighten(octets);
+    overwrite(octets.make_contiguous(), passed, over);
+    octets.truncate_back(kept + over.len());
+    octets.fill_from_slice(behind);
+}
+
+#[inline(always)]
+/// Drops so many octets that are done with, and appends others, which there is room for then. Where many are done with, and no
+/// fewer than stay, they are written over, so that octets seldom wrap.
+pub(crate) fn append(octets: &mut HeapCircularBuffer<u8>, passed: usize, more: &[u8])
+    requires within { passed ≤ length octets.old.items }
+    requires room { length octets.old.items - passed + length more.now ≤ octets.old.capacity }
+    ensures { octets.new ≡ buffer (drop passed octets.old.items ++ more.now) octets.old.capacity }
+{
+    let kept = octets.len() - passed;
+    if passed >= MANY && kept <= passed {
+        write_over(octets, passed, more);
+    } else {
+        octets.truncate_front(kept);
+        put_behind(octets, more);
     }
 }
 
@@ -93,26 +100,43 @@ fn turn(octets: &mut HeapCircularBuffer<u8>, count: usize, piece: &mut [u8])
     }
 }
 
-#[inline(never)]
 /// Moves all octets to the block's beginning, where so many of them lie up to its end and the others wrap.
-fn move_round(octets: &mut HeapCircularBuffer<u8>, count: usize)
+fn move_round(octets: &mut HeapCircularBuffer<u8>, count: usize, piece: &mut [u8])
+    requires within { count ≤ length octets.old.items }
+    requires room { length octets.old.items ≤ octets.old.capacity }
+    requires some { 0 < length piece.old }
+    ensures { octets.new ≡ octets.old }
+{
+    turn(octets, count, piece);
+    octets.make_contiguous().rotate_right(count);
+}
+
+#[inline(never)]
+/// Moves octets that wrap to where they don't, where so many of them lie up to the block's end. Few are put aside and written anew
+/// behind their old place.
+fn move_wrapped(octets: &mut HeapCircularBuffer<u8>, count: usize)
     requires within { count ≤ length octets.old.items }
     requires room { length octets.old.items ≤ octets.old.capacity }
     ensures { octets.new ≡ octets.old }
 {
-    turn(octets, count, &mut [0; PIECE]);
-    octets.make_contiguous().rotate_right(count);
+    let len = octets.len();
+    let mut piece = [0; PIECE];
+    if len <= PIECE {
+        turn_piece(octets, &mut piece[..len]);
+    } else {
+        move_round(octets, count, &mut piece);
+    }
 }
 
 #[inline(always)]
-/// Where octets wrap, moves all of them to the block's beginning. So what is taken next doesn't wrap at once again, as it
+/// Where octets wrap, moves them, most often to the block's beginning. So what is taken next doesn't wrap at once again, as it
 /// would behind `make_contiguous` alone.
 pub(crate) fn straighten(octets: &mut HeapCircularBuffer<u8>)
     ensures { octets.new ≡ octets.old }
 {
-    let (front, _) = octets.as_slices();
-    let count = front.len();
-    if count < octets.len() {
-        move_round(octets, count);
+    let (_, back) = octets.as_slices();
+    if !back.is_empty() {
+        let count = octets.len() - back.len();
+        move_wrapped(octets, count);
     }
 }

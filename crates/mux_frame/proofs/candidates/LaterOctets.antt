@@ -94,10 +94,6 @@ stands_same : (v w : Verdict) → Stands v w → v ≢ unfinished → v ≡ w
 stands_same _ _ (opens w) h = absurd (h refl)
 stands_same _ _ (keeps v) h = refl
 
--- a verdict on octets is the verdict on them and more
-pub verdict_later : (n1 : ℕ) (t x : List ℕ) (v : Verdict) → v ≡ verdict_on n1 t → v ≢ unfinished → v ≡ verdict_on n1 (t ++ x)
-verdict_later n1 t x v e h = e ∙ stands_same _ _ (verdict_stands n1 t x) (λ k. h (e ∙ k))
-
--- and so is a decision
+-- a decision on octets is the decision on them and more
 pub decision_later : (n1 : ℕ) (u x : List ℕ) (v : Verdict) → v ≡ decision_on n1 u → v ≢ unfinished → v ≡ decision_on n1 (u ++ x)
 decision_later n1 u x v e h = e ∙ stands_same _ _ (decision_stands n1 u x) (λ k. h (e ∙ k))

@@ -1,6 +1,7 @@
 -- Octets of a candidate whose check octet hasn't come.
-use Rattle.std.specs.Prelude.{◌≡◌, ◌≢◌, ℕ, ◌+◌, ◌*◌, ◌/◌, ◌%◌, ◌≤◌, ◌==◌, nat_lt, Bool, true, false, List, [], ◌∷◌, ◌++◌, length, Option, None, Some, if◌then◌else◌}
+use Rattle.std.specs.Prelude.{◌≡◌, ◌≢◌, ℕ, ◌+◌, ◌*◌, ◌/◌, ◌%◌, ◌≤◌, ◌==◌, nat_lt, Bool, true, false, List, [], ◌∷◌, ◌++◌, length, Option, None, Some, if◌then◌else◌, slice_get}
 use Rattle.std.proofs.Common.{refl, sym, ap, arith}
+use Rattle.std.proofs.lemmas.Bool.{eqb-true}
 use Rattle.std.proofs.lemmas.Option.{slice_get_past}
 use Rattle.mux_frame.specs.Spelling.{flag, most_info}
 use Rattle.mux_frame.specs.declared.frame.Kind.{Kind}
@@ -76,12 +77,48 @@ none_open n1 [] e = refl
 none_open n1 (x ∷ u) e = absurd (omega (arith, e))
 
 -- octets that aren't refused, with more behind them, may become a frame while the check octet hasn't come
-pub short_open : (n1 : ℕ) (front back more : List ℕ) → decision_on n1 (front ++ back) ≢ refused → length ((front ++ back) ++ more) ≤ len_to_check front → unfinished ≡ decision_on n1 ((front ++ back) ++ more)
-short_open n1 [] back more k short = none_open n1 (back ++ more) short
-short_open n1 (f ∷ []) back more k short = absurd (omega (arith, short))
-short_open n1 (f ∷ x ∷ []) back more k short = absurd (omega (arith, short))
-short_open n1 (f ∷ x ∷ y ∷ []) back more k short = absurd (omega (arith, short))
-short_open n1 (f ∷ x ∷ y ∷ l ∷ []) back more k short = absurd (omega (arith, short))
-short_open n1 (f ∷ x ∷ y ∷ l ∷ m ∷ t) back more k short =
-    open-at n1 x y l m (t ++ back) ((t ++ back) ++ more) (f == flag) k
-    (told_so l m (length (x ∷ y ∷ l ∷ m ∷ ((t ++ back) ++ more))) (l % 2 == 1) (omega (arith, short)))
+pub short_open : (n1 : ℕ) (u more : List ℕ) → decision_on n1 u ≢ refused → length (u ++ more) ≤ len_to_check u → unfinished ≡ decision_on n1 (u ++ more)
+short_open n1 [] more k short = none_open n1 more short
+short_open n1 (f ∷ []) more k short = absurd (omega (arith, short))
+short_open n1 (f ∷ x ∷ []) more k short = absurd (omega (arith, short))
+short_open n1 (f ∷ x ∷ y ∷ []) more k short = absurd (omega (arith, short))
+short_open n1 (f ∷ x ∷ y ∷ l ∷ []) more k short = absurd (omega (arith, short))
+short_open n1 (f ∷ x ∷ y ∷ l ∷ m ∷ t) more k short =
+    open-at n1 x y l m t (t ++ more) (f == flag) k
+    (told_so l m (length (x ∷ y ∷ l ∷ m ∷ (t ++ more))) (l % 2 == 1) (omega (arith, short)))
+
+-- What the length octets tell.
+
+-- where both have come
+pub len_told : (u : List ℕ) (l m : ℕ) → Some l ≡ slice_get u 3 → Some m ≡ slice_get u 4 → (if l % 2 == 1 then 4 + l / 2 else 5 + l / 2 + 128 * m) ≡ len_to_check u
+len_told [] l m e g = cc
+len_told (f ∷ []) l m e g = cc
+len_told (f ∷ x ∷ []) l m e g = cc
+len_told (f ∷ x ∷ y ∷ []) l m e g = cc
+len_told (f ∷ x ∷ y ∷ k ∷ []) l m e g = cc
+len_told (f ∷ x ∷ y ∷ k ∷ n ∷ t) l m e g = cc
+
+even-at : (b : Bool) (l m n : ℕ) → (l % 2 == 1) ≡ b → l % 2 ≢ 1 → (if b then 4 + l / 2 else 5 + l / 2 + 128 * m) ≡ n → 5 + l / 2 + 128 * m ≡ n
+even-at true l m n e k h = absurd (k (eqb-true (l % 2) 1 e))
+even-at false l m n e k h = h
+
+-- and both count
+pub len_even : (u : List ℕ) (l m : ℕ) → Some l ≡ slice_get u 3 → Some m ≡ slice_get u 4 → l % 2 ≢ 1 → 5 + l / 2 + 128 * m ≡ len_to_check u
+len_even u l m e g k = even-at (l % 2 == 1) l m (len_to_check u) refl k (len_told u l m e g)
+
+-- where the second hasn't come
+pub len_untold : (u : List ℕ) → None ≡ slice_get u 4 → 0 ≡ len_to_check u
+len_untold [] e = refl
+len_untold (f ∷ []) e = refl
+len_untold (f ∷ x ∷ []) e = refl
+len_untold (f ∷ x ∷ y ∷ []) e = refl
+len_untold (f ∷ x ∷ y ∷ k ∷ []) e = refl
+len_untold (f ∷ x ∷ y ∷ k ∷ n ∷ t) e = cc
+
+-- where the first hasn't
+pub len_none : (u : List ℕ) → None ≡ slice_get u 3 → 0 ≡ len_to_check u
+len_none [] e = refl
+len_none (f ∷ []) e = refl
+len_none (f ∷ x ∷ []) e = refl
+len_none (f ∷ x ∷ y ∷ []) e = refl
+len_none (f ∷ x ∷ y ∷ k ∷ t) e = cc

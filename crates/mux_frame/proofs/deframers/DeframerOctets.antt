@@ -7,11 +7,10 @@ use Rattle.std.proofs.lemmas.List.{drop_all, drop-append-le, append-nil, drop-dr
 use Rattle.memchr.specs.Find.{IsFirstByte, is_byte}
 use Rattle.mux_frame.specs.Spelling.{flag}
 use Rattle.mux_frame.specs.Reading.{after_flag}
-use Rattle.circular_buffer.specs.Buffer.{Buffer, buffer}
 use Rattle.mux_frame.specs.Places.{from_flag}
 use Rattle.mux_frame.specs.Judging.{Header, Verdict, unfinished, refused, fits, by_header, verdict_on, IsRefused, Means}
 use Rattle.mux_frame.specs.Deframing.{decision_on, SameReading}
-use Rattle.mux_frame.specs.Judged.{IsAtHand, IsCandidate, IsPassed, Settles}
+use Rattle.mux_frame.specs.Judged.{IsAtHand, IsCandidate, IsPassed, Settles, SettlesFrom}
 use Rattle.mux_frame.specs.Laws.{AreOctets}
 use Rattle.mux_frame.proofs.candidates.Verdicts.{verdict_means}
 use Rattle.mux_frame.proofs.readings.ComputedReadings.{refused_reads}
@@ -120,12 +119,6 @@ octets-drop zero xs o = o
 octets-drop (suc n) [] o = o
 octets-drop (suc n) (x ∷ xs) o = octets-drop n xs (λ i. o (suc i))
 
--- and of joined octets the first are
-pub octets-front : (xs ys : List ℕ) → AreOctets (xs ++ ys) → AreOctets xs
-octets-front [] ys o i = omega arith
-octets-front (x ∷ xs) ys o zero = o zero
-octets-front (x ∷ xs) ys o (suc i) = octets-front xs ys (λ j. o (suc j)) i
-
 -- octets are read as themselves
 pub same_reading_none : (n1 : ℕ) (u : List ℕ) → SameReading n1 u u
 same_reading_none n1 u = record { reads = λ x gs rest r. r }
@@ -229,39 +222,64 @@ flag_in_slice xs None n h e = ap (λ i. drop i xs) e ∙ drop_all (length xs) xs
 flag_in_slice xs (Some k) n h e = ap (λ i. drop i xs) e ∙ (flag_in_front xs [] xs k (append-nil xs) h)
 
 -- what is passed is dropped
-pub settles : (n1 start : ℕ) (old new : Buffer ℕ) (o : Option ℕ)
-    → AreOctets old.items
-    → IsPassed n1 old.items start
-    → new ≡ buffer (drop start old.items) old.capacity
-    → decision_on n1 (drop start old.items) ≢ refused
-    → IsAtHand n1 (drop start old.items) o
-    → Settles n1 old new o
-settles n1 start old new o a p e d h = subst (λ v. Settles n1 old v o) (sym e) record {
+pub settles : (n1 start : ℕ) (old : List ℕ) (o : Option ℕ)
+    → AreOctets old
+    → IsPassed n1 old start
+    → decision_on n1 (drop start old) ≢ refused
+    → IsAtHand n1 (drop start old) o
+    → Settles n1 old (drop start old) o
+settles n1 start old o a p d h = record {
   decided = d;
   reads = p.reads;
-  kept = λ k. ap (λ xs. buffer xs old.capacity) (p.kept k);
-  octets = octets-drop start old.items a;
-  shorter = let l = length-drop start old.items in omega (arith, l);
-  capacity = refl;
+  kept = p.kept;
+  octets = octets-drop start old a;
+  shorter = let l = length-drop start old in omega (arith, l);
   at_hand = h;
 }
 
 -- what stands before a place that is passed is dropped before
-pub settles_then : (n1 start : ℕ) (old new : Buffer ℕ) (o : Option ℕ)
-    → IsPassed n1 old.items start
-    → Settles n1 (buffer (drop start old.items) old.capacity) new o
+pub settles_then : (n1 start : ℕ) (old new : List ℕ) (o : Option ℕ)
+    → IsPassed n1 old start
+    → Settles n1 (drop start old) new o
     → Settles n1 old new o
 settles_then n1 start old new o p s =
-    let l = length-drop start old.items in
+    let l = length-drop start old in
     let m = s.shorter in
     record {
       decided = s.decided;
-      reads = same_reading_then n1 old.items (drop start old.items) new.items p.reads s.reads;
+      reads = same_reading_then n1 old (drop start old) new p.reads s.reads;
       kept = λ k.
           let e = p.kept k in
-          s.kept (subst (λ z. decision_on n1 z ≢ refused) (sym e) k) ∙ ap (λ xs. buffer xs old.capacity) e;
+          s.kept (subst (λ z. decision_on n1 z ≢ refused) (sym e) k) ∙ e;
       octets = s.octets;
       shorter = omega (arith, l, m);
-      capacity = s.capacity;
       at_hand = s.at_hand;
     }
+
+-- What is done with is dropped.
+
+-- so it is behind so many octets
+pub settles_from : (n1 passed start : ℕ) (s : List ℕ) (o : Option ℕ)
+    → AreOctets s
+    → passed ≤ length s
+    → IsPassed n1 (drop passed s) start
+    → decision_on n1 (drop start (drop passed s)) ≢ refused
+    → IsAtHand n1 (drop start (drop passed s)) o
+    → SettlesFrom n1 s passed (passed + start) o
+settles_from n1 passed start s o a w p d h =
+    let l = length-drop passed s in
+    let k = p.within in
+    record {
+      within = omega (arith, w, l, k);
+      settles = subst (λ z. Settles n1 (drop passed s) z o) (drop-drop start passed s) (settles n1 start (drop passed s) o (octets-drop passed s a) p d h);
+    }
+
+-- and what is passed behind them is dropped before
+pub settles_from_then : (n1 passed start place : ℕ) (s : List ℕ) (o : Option ℕ)
+    → IsPassed n1 (drop passed s) start
+    → SettlesFrom n1 s (passed + start) place o
+    → SettlesFrom n1 s passed place o
+settles_from_then n1 passed start place s o p q = record {
+  within = q.within;
+  settles = settles_then n1 start (drop passed s) (drop place s) o p (subst (λ z. Settles n1 z (drop place s) o) (sym (drop-drop start passed s)) q.settles);
+}

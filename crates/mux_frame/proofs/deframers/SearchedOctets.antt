@@ -2,20 +2,19 @@
 use Rattle.std.proofs.Common.{◌≡◌, ◌≢◌, ℕ, ◌+◌, ◌≤◌, ◌==◌, Bool, true, List, [], ◌∷◌, ◌++◌, Option, None, Some, length, drop, sym, ap, subst, ◌∙◌, arith, append_assoc, length-append, refl}
 use Rattle.std.specs.Prelude.{is_some}
 use mir.Val.{bool_byte}
-use Rattle.circular_buffer.specs.Buffer.{Buffer, buffer}
 use Rattle.std.proofs.lemmas.Bool.{eqb-true}
-use Rattle.std.proofs.lemmas.List.{append-nil, drop-append-le, drop-drop, length-drop}
+use Rattle.std.proofs.lemmas.List.{drop-append-le, drop-drop, length-drop}
 use Rattle.mux_frame.specs.Reading.{Reads}
 use Rattle.mux_frame.specs.Judging.{Header, Verdict, unfinished, refused, fits, by_header, verdict_on}
 use Rattle.mux_frame.specs.Deframing.{decision_on, SameReading}
-use Rattle.mux_frame.specs.Judged.{IsAtPlace, IsCandidate, IsPassed, IsSearched, IsWholeTo, Settles, len_to_check}
+use Rattle.mux_frame.specs.Judged.{IsAtPlace, IsCandidate, IsPassed, IsSearched, IsWholeTo, Settles, SettlesFrom, len_to_check}
 use Rattle.mux_frame.specs.Laws.{AreOctets}
+use Rattle.mux_frame.specs.Places.{from_flag}
 use Rattle.mux_frame.specs.Spelling.{flag}
-use Rattle.mux_frame.proofs.candidates.LaterOctets.{decision_later, verdict_later}
+use Rattle.mux_frame.proofs.candidates.LaterOctets.{decision_later}
 use Rattle.mux_frame.proofs.candidates.ShortOctets.{short_open}
-use Rattle.mux_frame.proofs.deframers.DeframerOctets.{candidate_decision, candidate_passed, fits_stays, octets-drop, octets-front, passed_none, passed_on, passed_then, settles, settles_then, unfinished_stays}
+use Rattle.mux_frame.proofs.deframers.DeframerOctets.{candidate_decision, candidate_passed, fits_stays, octets-drop, passed_more, passed_none, passed_then, refused_some, settles, settles_from, settles_from_then, unfinished_stays}
 use Rattle.mux_frame.proofs.deframers.DeframerPasts.{at_place, next_of}
-use Rattle.mux_frame.proofs.deframers.WrappedOctets.{candidate_later}
 
 -- a frame is whole at this place
 pub searched_fits : (n1 start place : ℕ) (s : List ℕ) (h : Header) → AreOctets s → IsPassed n1 s start → fits h ≡ decision_on n1 (drop start s) → place ≡ h.size + h.info_len → IsSearched n1 s start (Some place)
@@ -70,12 +69,7 @@ searched_later n1 start place s t o q =
     let d : drop start s ++ t ≡ drop start (s ++ t) = sym (drop-append-le start s t q.passed.within) in
     searched_fits n1 start place (s ++ t) a.header o (passed_later n1 start s t q.passed) (e ∙ ap (decision_on n1) d) a.place_is
 
--- without other octets behind, the search says the same
-pub searched_alone : (n1 start : ℕ) (s t : List ℕ) (o : Option ℕ) → true ≡ (length t == 0) → IsSearched n1 s start o → IsSearched n1 (s ++ t) start o
-searched_alone n1 start s [] o e q = subst (λ z. IsSearched n1 z start o) (sym (append-nil s)) q
-searched_alone n1 start s (x ∷ t) o e q = let z = eqb-true (length (x ∷ t)) 0 (sym e) in absurd (omega (arith, z))
-
--- and with some it does where a frame was found
+-- with other octets behind, the search says the same where a frame was found
 pub some_found : (n1 start : ℕ) (s t : List ℕ) (o : Option ℕ) → AreOctets (s ++ t) → true ≡ is_some o → IsSearched n1 s start o → IsSearched n1 (s ++ t) start o
 some_found n1 start s t None a e q = cc
 some_found n1 start s t (Some place) a e q = searched_later n1 start place s t a q
@@ -85,77 +79,84 @@ unfolding verdict_on by_header
 flag_open n1 = refl
 
 -- a flag alone may begin a frame
-pub settles_flag : (n1 passed : ℕ) (front back : List ℕ) (old new : Buffer ℕ) → AreOctets old.items → front ++ back ≡ old.items → true ≡ (length back == 0) → drop passed front ≡ flag ∷ []
-    → new ≡ buffer (drop passed old.items) old.capacity → Settles n1 (buffer (drop passed old.items) old.capacity) new None
-settles_flag n1 passed front [] old new o both e f n =
-    let left : drop passed old.items ≡ flag ∷ [] = ap (drop passed) (sym both ∙ append-nil front) ∙ f in
-    let x : unfinished ≡ decision_on n1 (drop passed old.items) = flag_open n1 ∙ ap (decision_on n1) (sym left) in
-    settles n1 0 (buffer (drop passed old.items) old.capacity) new None (octets-drop passed old.items o) (passed_none n1 (drop passed old.items)) n (unfinished_stays n1 (drop passed old.items) x)
-    (sym (next_of n1 (drop passed old.items) unfinished x))
-settles_flag n1 passed front (x ∷ t) old new o both e f n = let z = eqb-true (length (x ∷ t)) 0 (sym e) in absurd (omega (arith, z))
+pub settles_flag : (n1 passed : ℕ) (s : List ℕ) → AreOctets s → passed ≤ length s → drop passed s ≡ flag ∷ [] → SettlesFrom n1 s passed passed None
+settles_flag n1 passed s o l e =
+    let z : passed + 0 ≡ passed = omega arith in
+    let x : unfinished ≡ decision_on n1 (drop passed s) = flag_open n1 ∙ ap (decision_on n1) (sym e) in
+    subst (λ i. SettlesFrom n1 s passed i None) z
+    (settles_from n1 passed 0 s None o l (passed_none n1 (drop passed s)) (unfinished_stays n1 (drop passed s) x) (sym (next_of n1 (drop passed s) unfinished x)))
 
 -- octets that aren't refused are taken in with more, and the check octet hasn't come
-pub settles_short : (n1 capacity least : ℕ) (old front back more : List ℕ) (new : Buffer ℕ) → AreOctets (old ++ more) → decision_on n1 old ≢ refused → front ++ back ≡ old → least ≡ len_to_check front
-    → new ≡ buffer (old ++ more) capacity → length new.items ≤ least → Settles n1 (buffer (old ++ more) capacity) new None
-settles_short n1 capacity least old front back more new o d both l n short =
-    let all : length new.items ≡ length ((front ++ back) ++ more) = ap (λ b. length b.items) n ∙ ap (λ z. length (z ++ more)) (sym both) in
-    let open_so = short_open n1 front back more (subst (λ z. decision_on n1 z ≢ refused) (sym both) d) (omega (arith, short, all, l)) in
-    let x : unfinished ≡ decision_on n1 (old ++ more) = subst (λ z. unfinished ≡ decision_on n1 (z ++ more)) both open_so in
-    settles n1 0 (buffer (old ++ more) capacity) new None o (passed_none n1 (old ++ more)) n (unfinished_stays n1 (old ++ more) x) (sym (next_of n1 (old ++ more) unfinished x))
+pub settles_short : (n1 : ℕ) (old more : List ℕ) → AreOctets (old ++ more) → decision_on n1 old ≢ refused → length (old ++ more) ≤ len_to_check old → Settles n1 (old ++ more) (old ++ more) None
+settles_short n1 old more o d short =
+    let x : unfinished ≡ decision_on n1 (old ++ more) = short_open n1 old more d short in
+    settles n1 0 (old ++ more) None o (passed_none n1 (old ++ more)) (unfinished_stays n1 (old ++ more) x) (sym (next_of n1 (old ++ more) unfinished x))
 
--- with no octets behind it, a verdict is the same
-verdict_alone : (n1 : ℕ) (t x : List ℕ) → true ≡ (length x == 0) → unfinished ≡ verdict_on n1 t → unfinished ≡ verdict_on n1 (t ++ x)
-verdict_alone n1 t [] e v = v ∙ ap (verdict_on n1) (sym (append-nil t))
-verdict_alone n1 t (y ∷ x) e v = let z = eqb-true (length (y ∷ x)) 0 (sym e) in absurd (omega (arith, z))
+-- octets are searched before they are taken in
+pub settles_searched : (n1 start : ℕ) (s : List ℕ) (o : Option ℕ) → AreOctets s → IsSearched n1 s start o → Settles n1 s (drop start s) o
+settles_searched n1 start s o a q = settles n1 start s o a q.passed q.decided q.at_hand
 
--- A candidate at the front of the first slice, behind one flag or two.
-module _ (n1 passed start : ℕ) (front back text : List ℕ) (b : Bool) (old : Buffer ℕ) (o : AreOctets old.items) (both : front ++ back ≡ old.items) (l : passed ≤ length front) (k : IsCandidate (drop passed front) b text) (s : start ≡ passed + bool_byte b) where
-  -- what is left where so many octets go
+-- where all begin no frame, none are taken in
+pub settles_nothing : (n1 start : ℕ) (s left gone : List ℕ) (o : Option ℕ) → AreOctets s → IsSearched n1 s start o → left ≡ drop start s → true ≡ (length left == 0) → gone ≡ [] → Settles n1 s gone o
+settles_nothing n1 start s [] gone o a q e z g = subst (λ u. Settles n1 s u o) (sym e ∙ sym g) (settles_searched n1 start s o a q)
+settles_nothing n1 start s (x ∷ t) gone o a q e z g = let y = eqb-true (length (x ∷ t)) 0 (sym z) in absurd (omega (arith, y))
+
+-- what is taken in settles where no others are left
+pub settles_first : (n1 : ℕ) (gone more new : List ℕ) (o : Option ℕ) → gone ≡ [] → Settles n1 more new o → Settles n1 (gone ++ more) new o
+settles_first n1 [] more new o e q = q
+settles_first n1 (x ∷ t) more new o e q = cc
+
+-- behind the frame at hand, what settles in the octets settles in those that weren't done with
+pub settles_advanced : (n1 passed place until : ℕ) (both s : List ℕ) (r : Option ℕ) → both ≡ s → SettlesFrom n1 both (passed + place + 2) until r → Settles n1 (drop (place + 2) (drop passed s)) (drop until s) r
+settles_advanced n1 passed place until both s r e q =
+    let i : passed + place + 2 ≡ passed + (place + 2) = omega arith in
+    let d : drop (passed + place + 2) both ≡ drop (place + 2) (drop passed s) = ap (λ j. drop j both) i ∙ ap (drop (passed + (place + 2))) e ∙ sym (drop-drop (place + 2) passed s) in
+    subst (λ z. Settles n1 z (drop until s) r) d (subst (λ z. Settles n1 (drop (passed + place + 2) both) (drop until z) r) e q.settles)
+
+-- so it is with octets that are searched behind so many
+pub settles_from_searched : (n1 passed start : ℕ) (s left : List ℕ) (o : Option ℕ) → AreOctets s → passed ≤ length s → left ≡ drop passed s → IsSearched n1 left start o → SettlesFrom n1 s passed (passed + start) o
+settles_from_searched n1 passed start s left o a w e q =
+    let r : IsSearched n1 (drop passed s) start o = subst (λ z. IsSearched n1 z start o) e q in
+    settles_from n1 passed start s o a w r.passed r.decided r.at_hand
+
+-- A candidate behind one flag or two, where so many octets are done with.
+module _ (n1 passed start : ℕ) (s text : List ℕ) (b : Bool) (o : AreOctets s) (l : passed ≤ length s) (k : IsCandidate (drop passed s) b text) (e : start ≡ passed + bool_byte b) where
   abbrev left : List ℕ
-  left = drop passed old.items
-
-  left_octets : AreOctets left
-  left_octets = octets-drop passed old.items o
-
-  its_candidate : IsCandidate left b (text ++ back)
-  its_candidate = candidate_later b (drop passed front) back text left k (sym (drop-append-le passed front back l) ∙ ap (drop passed) both)
-
-  behind : drop (bool_byte b) left ≡ drop start old.items
-  behind = drop-drop (bool_byte b) passed old.items ∙ ap (λ i. drop i old.items) (sym s)
+  left = drop passed s
 
   flag_passed : IsPassed n1 left (bool_byte b)
-  flag_passed = candidate_passed n1 (bool_byte b) left (text ++ back) b refl its_candidate left_octets
+  flag_passed = candidate_passed n1 (bool_byte b) left text b refl k (octets-drop passed s o)
 
   -- a verdict on it is the decision
-  decision_is : (v : Verdict) → v ≡ verdict_on n1 text → v ≢ unfinished → v ≡ decision_on n1 (drop (bool_byte b) left)
-  decision_is v e f = candidate_decision n1 (bool_byte b) left (text ++ back) b v refl its_candidate (verdict_later n1 text back v e f)
+  decision_is : (v : Verdict) → v ≡ verdict_on n1 text → v ≡ decision_on n1 (drop (bool_byte b) left)
+  decision_is v h = candidate_decision n1 (bool_byte b) left text b v refl k h
 
   -- it is whole
-  pub settles_fits : (place : ℕ) (new : Buffer ℕ) → IsWholeTo n1 text place → new ≡ buffer (drop start old.items) old.capacity → Settles n1 (buffer left old.capacity) new (Some place)
-  settles_fits place new w n =
+  pub settles_fits : (place : ℕ) → IsWholeTo n1 text place → SettlesFrom n1 s passed start (Some place)
+  settles_fits place w =
       let h = w.header in
-      let x = decision_is (fits h) w.fits_so (fits_finished h) in
-      settles n1 (bool_byte b) (buffer left old.capacity) new (Some place) left_octets flag_passed
-      (n ∙ ap (λ z. buffer z old.capacity) (sym behind))
+      let x = decision_is (fits h) w.fits_so in
+      subst (λ i. SettlesFrom n1 s passed i (Some place)) (sym e)
+      (settles_from n1 passed (bool_byte b) s (Some place) o l flag_passed
       (fits_stays n1 (drop (bool_byte b) left) h x)
-      (at_place n1 place (drop (bool_byte b) left) h (octets-drop (bool_byte b) left left_octets) x w.place_is)
+      (at_place n1 place (drop (bool_byte b) left) h (octets-drop (bool_byte b) left (octets-drop passed s o)) x w.place_is))
 
-  -- it can become a frame, and nothing stands behind it
-  pub settles_unfinished : (new : Buffer ℕ) → true ≡ (length back == 0) → unfinished ≡ verdict_on n1 text → new ≡ buffer (drop start old.items) old.capacity → Settles n1 (buffer left old.capacity) new None
-  settles_unfinished new t v n =
-      let x = candidate_decision n1 (bool_byte b) left (text ++ back) b unfinished refl its_candidate (verdict_alone n1 text back t v) in
-      settles n1 (bool_byte b) (buffer left old.capacity) new None left_octets flag_passed
-      (n ∙ ap (λ z. buffer z old.capacity) (sym behind))
+  -- it can become a frame
+  pub settles_unfinished : unfinished ≡ verdict_on n1 text → SettlesFrom n1 s passed start None
+  settles_unfinished v =
+      let x = decision_is unfinished v in
+      subst (λ i. SettlesFrom n1 s passed i None) (sym e)
+      (settles_from n1 passed (bool_byte b) s None o l flag_passed
       (unfinished_stays n1 (drop (bool_byte b) left) x)
-      (sym (next_of n1 (drop (bool_byte b) left) unfinished x))
-
-  -- it doesn't tell yet, and only a flag before it goes
-  pub settles_open : (new : Buffer ℕ) (r : Option ℕ) → Settles n1 (buffer (drop start old.items) old.capacity) new r → Settles n1 (buffer left old.capacity) new r
-  settles_open new r t = settles_then n1 (bool_byte b) (buffer left old.capacity) new r flag_passed (subst (λ z. Settles n1 (buffer z old.capacity) new r) (sym behind) t)
+      (sym (next_of n1 (drop (bool_byte b) left) unfinished x)))
 
   -- it fails
-  pub fails : refused ≡ verdict_on n1 text → refused ≡ decision_on n1 (drop start old.items)
-  fails v = subst (λ z. refused ≡ decision_on n1 z) behind (decision_is refused v refused_finished)
+  pub fails : refused ≡ verdict_on n1 text → refused ≡ decision_on n1 (drop start s)
+  fails v = decision_is refused v ∙ ap (decision_on n1) (drop-drop (bool_byte b) passed s ∙ ap (λ i. drop i s) (sym e))
+
+  -- then only a flag before it is passed
+  pub settles_open : (place : ℕ) (r : Option ℕ) → SettlesFrom n1 s start place r → SettlesFrom n1 s passed place r
+  settles_open place r t = settles_from_then n1 passed (bool_byte b) place s r flag_passed (subst (λ i. SettlesFrom n1 s i place r) e t)
 
 -- A candidate behind one flag or two, from a place on before which nothing begins a frame.
 module _ (n1 place start : ℕ) (s text : List ℕ) (b : Bool) (o : AreOctets s) (p : IsPassed n1 s place) (k : IsCandidate (drop place s) b text) (e : start ≡ place + bool_byte b) where
@@ -173,73 +174,48 @@ module _ (n1 place start : ℕ) (s text : List ℕ) (b : Bool) (o : AreOctets s)
   pub sought_whole : (check_place : ℕ) → IsWholeTo n1 text check_place → IsSearched n1 s start (Some check_place)
   sought_whole check_place w = searched_fits n1 start check_place s w.header o second_passed (verdict_decides (fits w.header) w.fits_so) w.place_is
 
--- What was sought in the first slice, with the octets before it taken off.
-module _ (n1 passed start : ℕ) (front back left : List ℕ) (old : Buffer ℕ) (o : AreOctets old.items) (both : front ++ back ≡ old.items) (l : passed ≤ length front) (k : left ≡ drop passed front) where
-  abbrev all_left : List ℕ
-  all_left = drop passed old.items
-
-  goes_on : left ++ back ≡ all_left
-  goes_on = ap (λ z. z ++ back) k ∙ sym (drop-append-le passed front back l) ∙ ap (drop passed) both
-
-  -- what is left of the first slice is of octets
-  pub sought_octets : AreOctets left
-  sought_octets = subst AreOctets (sym k) (octets-drop passed front (octets-front front back (subst AreOctets (sym both) o)))
-
-  all_octets : AreOctets all_left
-  all_octets = octets-drop passed old.items o
-
-  off : drop start all_left ≡ drop (passed + start) old.items
-  off = drop-drop start passed old.items
-
-  -- a whole frame was found
-  pub settles_found : (check_place : ℕ) (new : Buffer ℕ) → IsSearched n1 left start (Some check_place) → new ≡ buffer (drop (passed + start) old.items) old.capacity → Settles n1 (buffer all_left old.capacity) new (Some check_place)
-  settles_found check_place new q n =
-      let r : IsSearched n1 all_left start (Some check_place) = subst (λ z. IsSearched n1 z start (Some check_place)) goes_on (searched_later n1 start check_place left back (subst AreOctets (sym goes_on) all_octets) q) in
-      settles n1 start (buffer all_left old.capacity) new (Some check_place) all_octets r.passed (n ∙ ap (λ z. buffer z old.capacity) (sym off)) r.decided r.at_hand
-
-  -- what stands before begins no frame
-  pub settles_on : (new : Buffer ℕ) (r : Option ℕ) → IsPassed n1 left start → Settles n1 (buffer (drop (passed + start) old.items) old.capacity) new r → Settles n1 (buffer all_left old.capacity) new r
-  settles_on new r p t =
-      settles_then n1 start (buffer all_left old.capacity) new r (subst (λ z. IsPassed n1 z start) goes_on (passed_later n1 start left back p)) (subst (λ z. Settles n1 (buffer z old.capacity) new r) (sym off) t)
-
--- A candidate has failed, and behind its flag so many octets of the first slice begin no frame.
-module _ (n1 failed place start : ℕ) (front back text left : List ℕ) (old : Buffer ℕ) (o : AreOctets old.items) (both : front ++ back ≡ old.items) (l : failed + 1 ≤ length front) (k : text ≡ drop (failed + 1) front) (w : place ≤ length text) (d : left ≡ drop place text) (h : AreOctets text → (m : ℕ) → SameReading m text (drop place text)) (e : refused ≡ decision_on n1 (drop failed old.items)) where
-  text_octets : AreOctets text
-  text_octets = subst AreOctets (sym k) (octets-drop (failed + 1) front (octets-front front back (subst AreOctets (sym both) o)))
-
-  begin_within : failed + 1 + place ≤ length front
+-- A candidate has failed, and so many octets stand between its flag and the next.
+module _ (n1 failed place start : ℕ) (s text left : List ℕ) (o : AreOctets s) (k : text ≡ drop (failed + 1) s) (w : place ≤ length text) (d : left ≡ drop (failed + 1 + place) s) (h : drop place text ≡ from_flag text) (e : refused ≡ decision_on n1 (drop failed s)) where
+  -- they stand within the octets
+  pub begin_within : failed + 1 + place ≤ length s
   begin_within =
-      let m = length-drop (failed + 1) front in
+      let f = refused_some n1 failed s e in
+      let m = length-drop (failed + 1) s in
       let t = ap length k in
-      omega (arith, l, w, m, t)
+      omega (arith, f, w, m, t)
 
-  begin_left : left ≡ drop (failed + 1 + place) front
-  begin_left = d ∙ ap (drop place) k ∙ drop-drop place (failed + 1) front
-
-  -- what is left behind the failed candidate is of octets
+  -- what is left behind them is of octets
   pub behind_octets : AreOctets left
-  behind_octets = sought_octets n1 (failed + 1 + place) start front back left old o both begin_within begin_left
+  behind_octets = subst AreOctets (sym d) (octets-drop (failed + 1 + place) s o)
 
-  goes_behind : text ++ back ≡ drop 1 (drop failed old.items)
-  goes_behind = ap (λ z. z ++ back) k ∙ sym (drop-append-le (failed + 1) front back l) ∙ ap (drop (failed + 1)) both ∙ sym (drop-drop 1 failed old.items)
+  goes_behind : text ≡ drop 1 (drop failed s)
+  goes_behind = k ∙ sym (drop-drop 1 failed s)
 
-  behind_passed : IsPassed n1 (drop failed old.items) (1 + place)
+  behind_passed : IsPassed n1 (drop failed s) (1 + place)
   behind_passed =
-      let s = length-append text back in
-      let r : SameReading n1 (drop 1 (drop failed old.items)) (drop place (drop 1 (drop failed old.items))) = subst (λ z. SameReading n1 z (drop place z)) goes_behind (reads_later n1 place text back w (h text_octets n1)) in
-      let m : place ≤ length (drop 1 (drop failed old.items)) = subst (λ z. place ≤ length z) goes_behind (omega (arith, w, s)) in
+      let r : drop place (drop 1 (drop failed s)) ≡ from_flag (drop 1 (drop failed s)) = subst (λ z. drop place z ≡ from_flag z) goes_behind h in
+      let m : place ≤ length (drop 1 (drop failed s)) = subst (λ z. place ≤ length z) goes_behind w in
       let z : 0 + (1 + place) ≡ 1 + place = omega arith in
-      subst (IsPassed n1 (drop failed old.items)) z (passed_on n1 0 place (drop failed old.items) (octets-drop failed old.items o) (passed_none n1 (drop failed old.items)) e m r)
+      subst (IsPassed n1 (drop failed s)) z (passed_more n1 0 place (drop failed s) (octets-drop failed s o) (passed_none n1 (drop failed s)) e m r)
 
-  settles_behind : (new : Buffer ℕ) (r : Option ℕ) → Settles n1 (buffer (drop (failed + 1 + place) old.items) old.capacity) new r → Settles n1 (buffer (drop failed old.items) old.capacity) new r
-  settles_behind new r t =
-      let d : drop (1 + place) (drop failed old.items) ≡ drop (failed + 1 + place) old.items = drop-drop (1 + place) failed old.items ∙ ap (λ i. drop i old.items) (omega arith) in
-      settles_then n1 (1 + place) (buffer (drop failed old.items) old.capacity) new r behind_passed (subst (λ z. Settles n1 (buffer z old.capacity) new r) (sym d) t)
+  settles_behind : (until : ℕ) (r : Option ℕ) → SettlesFrom n1 s (failed + 1 + place) until r → SettlesFrom n1 s failed until r
+  settles_behind until r t =
+      let i : failed + 1 + place ≡ failed + (1 + place) = omega arith in
+      settles_from_then n1 failed (1 + place) until s r behind_passed (subst (λ j. SettlesFrom n1 s j until r) i t)
 
   -- a whole frame was found behind the failed candidate
-  pub found_behind : (check_place : ℕ) (new : Buffer ℕ) → IsSearched n1 left start (Some check_place) → new ≡ buffer (drop (failed + 1 + place + start) old.items) old.capacity → Settles n1 (buffer (drop failed old.items) old.capacity) new (Some check_place)
-  found_behind check_place new q n = settles_behind new (Some check_place) (settles_found n1 (failed + 1 + place) start front back left old o both begin_within begin_left check_place new q n)
+  pub found_behind : (check_place : ℕ) → IsSearched n1 left start (Some check_place) → SettlesFrom n1 s failed (failed + 1 + place + start) (Some check_place)
+  found_behind check_place q = settles_behind (failed + 1 + place + start) (Some check_place) (settles_from_searched n1 (failed + 1 + place) start s left (Some check_place) o begin_within d q)
 
   -- up to a later place no frame begins behind it either, and what settles from there on settles all
-  pub on_behind : (new : Buffer ℕ) (r : Option ℕ) → IsPassed n1 left start → Settles n1 (buffer (drop (failed + 1 + place + start) old.items) old.capacity) new r → Settles n1 (buffer (drop failed old.items) old.capacity) new r
-  on_behind new r p t = settles_behind new r (settles_on n1 (failed + 1 + place) start front back left old o both begin_within begin_left new r p t)
+  pub on_behind : (until : ℕ) (r : Option ℕ) → IsPassed n1 left start → SettlesFrom n1 s (failed + 1 + place + start) until r → SettlesFrom n1 s failed until r
+  on_behind until r p t = settles_behind until r (settles_from_then n1 (failed + 1 + place) start until s r (subst (λ z. IsPassed n1 z start) d p) t)
+
+  -- the later place is within the octets
+  pub behind_within : IsPassed n1 left start → failed + 1 + place + start ≤ length s
+  behind_within p =
+      let m = length-drop (failed + 1 + place) s in
+      let t = ap length d in
+      let b = begin_within in
+      let v = p.within in
+      omega (arith, m, t, b, v)

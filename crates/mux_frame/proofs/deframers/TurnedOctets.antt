@@ -1,7 +1,7 @@
 -- A ring whose first octets are moved behind the others.
 use Rattle.circular_buffer.specs.Buffer.{Buffer, buffer}
-use Rattle.std.proofs.Common.{◌≡◌, ℕ, ◌+◌, ◌-◌, ◌≤◌, List, [], ◌++◌, min, length, take, drop, ap, sym, ◌∙◌, append_assoc, length-append, arith}
-use Rattle.std.proofs.lemmas.List.{append-nil, drop-append-le, drop-drop, drop_all, length-drop, length-take-le, take-append-drop, take-append-le, take_all}
+use Rattle.std.proofs.Common.{◌≡◌, ℕ, ◌+◌, ◌-◌, ◌≤◌, List, [], ◌++◌, min, length, take, drop, ap, ◌∙◌, append_assoc, length-append, arith}
+use Rattle.std.proofs.lemmas.List.{append-nil, drop-append-le, drop-drop, drop_all, length-drop, length-take-le, take-append-le, take_all}
 use Rattle.std.proofs.Math.Seq.{take-add}
 use Rattle.mux_frame.specs.Places.{turned}
 
@@ -38,28 +38,3 @@ turned_length count ring l =
     let t = length-take-le count ring.items l in
     let s = length-append (drop count ring.items) (take count ring.items) in
     omega (arith, l, d, t, s)
-
--- octets that are written anew behind those that were read into a piece
-pub written_anew : (u d e more : List ℕ) (capacity n m k : ℕ)
-    → length d ≤ length u
-    → length u ≤ capacity
-    → drop (length d) u ≡ more
-    → n ≡ min (length d) (length u)
-    → e ≡ take n u ++ drop n d
-    → m ≡ min (length e) (capacity - 0)
-    → k ≡ min (length more) (capacity - length (take m e))
-    → take m e ++ take k more ≡ u
-written_anew u d e more capacity n m k within room follow count read first second =
-    let same : n ≡ length d = omega (arith, count, within) in
-    let none : drop n d ≡ [] = ap (λ i. drop i d) same ∙ drop_all (length d) d (omega arith) in
-    let all : e ≡ take n u = read ∙ ap (λ xs. take n u ++ xs) none ∙ append-nil (take n u) in
-    let size : length e ≡ n = ap length all ∙ length-take-le n u (omega (arith, same, within)) in
-    let most : m ≡ length e = omega (arith, first, size, room, same, within) in
-    let taken : take m e ≡ e = ap (λ i. take i e) most ∙ take_all (length e) e (omega arith) in
-    let taken_size = ap length taken in
-    let left = length-drop (length d) u in
-    let more_size = ap length follow in
-    let rest : k ≡ length more = omega (arith, second, taken_size, size, left, more_size, room, same, within) in
-    let all_more : take k more ≡ more = ap (λ i. take i more) rest ∙ take_all (length more) more (omega arith) in
-    let front : take m e ≡ take (length d) u = taken ∙ all ∙ ap (λ i. take i u) same in
-    ap (λ xs. xs ++ take k more) front ∙ ap (λ xs. take (length d) u ++ xs) (all_more ∙ sym follow) ∙ take-append-drop (length d) u

@@ -8,7 +8,6 @@ use Rattle.mux_frame.specs.Spelling.{flag}
 use Rattle.mux_frame.specs.Places.{from_flag}
 use Rattle.mux_frame.specs.Judging.{Header, Verdict, fits, by_header, by_end, by_rest, verdict_on}
 use Rattle.mux_frame.specs.Deframing.{decision_on}
-use Rattle.mux_frame.specs.Judged.{IsCandidate}
 use Rattle.mux_frame.proofs.deframers.DeframerOctets.{decision_behind}
 
 -- Flags.
@@ -52,11 +51,6 @@ flag_in_second n m xs ys s e d =
 pub decision_alone : (n1 : ℕ) (xs ys : List ℕ) (v : Verdict) → v ≡ decision_on n1 xs → true ≡ (length ys == 0) → v ≡ decision_on n1 (xs ++ ys)
 decision_alone n1 xs [] v e h = e ∙ ap (decision_on n1) (sym (append-nil xs))
 decision_alone n1 xs (y ∷ ys) v e h = let z = eqb-true (length (y ∷ ys)) 0 (sym h) in absurd (omega (arith, z))
-
--- a candidate in the first slice goes on in the second
-pub candidate_later : (b : Bool) (xs ys text s : List ℕ) → IsCandidate xs b text → xs ++ ys ≡ s → IsCandidate s b (text ++ ys)
-candidate_later true xs ys text s h e = sym e ∙ ap (λ z. z ++ ys) h
-candidate_later false xs ys text s h e = sym e ∙ ap (λ z. z ++ ys) h
 
 -- Octet by octet.
 

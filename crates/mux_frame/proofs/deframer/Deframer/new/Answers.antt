@@ -1,4 +1,4 @@
-use Rattle.std.proofs.Common.{refl, rules}
+use Rattle.std.proofs.Common.{arith, refl, rules}
 use Rattle.mux_frame.specs.Deframing.{next_in}
 use Rattle.mux_frame.proofs.deframers.DeframerPasts.{past_none}
 use Rattle.mux_frame.proofs.deframer.Deframer.new.Goals as goal
@@ -14,6 +14,8 @@ returns-clause-past c = rw (c.in_ok-octets.ensures, c.in-Some.ensures.octets) (p
 pub invariant_of-result : goal.invariant_of-result
 unfolding next_in
 invariant_of-result c = rw c.in_ok-octets.ensures record {
+  within = omega arith;
+  are_octets = search rules;
   settled = search rules;
   at_hand = refl;
 }
