@@ -248,20 +248,6 @@ impl DriverEnd {
         self.kinds.contains(&kind)
     }
 
-    /// The same, uncounted. A queue that is empty is seen sooner than a pop sees it.
-    fn next_queued<R: Wait>(&mut self, rt: &R) -> Option<Request>
-        ensures same { self.new ≡ record self.old { taken = self.new.taken } }
-        ensures numbered { AreNumbered self.new.taken }
-        ensures taken { MatchOption result (self.new.taken ≡ self.old.taken) (λ request.
-            (self.new.taken ≡ self.old.taken ++ request ∷ [])
-            × (request.caller < length self.old.desk.rings)) }
-    {
-        if self.queue.is_empty_as::<Takes>(&mut self.pass) {
-            return None;
-        }
-        self.queue.pop_as::<Takes, R>(rt, &mut self.pass)
-    }
-
     /// Takes the next request that waits, of any caller. Requests of one caller come in the order in which it submitted
     /// them.
     pub fn next<R: Wait>(&mut self, rt: &R) -> Option<Request>
@@ -281,6 +267,20 @@ impl DriverEnd {
             self.found_none = self.found_none.saturating_add(1);
         }
         request
+    }
+
+    /// The same, but what finds nothing isn't counted. An empty queue is seen sooner than a pop sees it.
+    fn next_queued<R: Wait>(&mut self, rt: &R) -> Option<Request>
+        ensures same { self.new ≡ record self.old { taken = self.new.taken } }
+        ensures numbered { AreNumbered self.new.taken }
+        ensures taken { MatchOption result (self.new.taken ≡ self.old.taken) (λ request.
+            (self.new.taken ≡ self.old.taken ++ request ∷ [])
+            × (request.caller < length self.old.desk.rings)) }
+    {
+        if self.queue.is_empty_as::<Takes>(&mut self.pass) {
+            return None;
+        }
+        self.queue.pop_as::<Takes, R>(rt, &mut self.pass)
     }
 
     /// Gives an outcome to its caller. Requires a caller of this desk. Hands it back if 8 wait for that caller. It never does
