@@ -227,8 +227,8 @@ pushed_shows lines ends octets new_ends new_octets line end octets_are end_is en
     ∙ ap (λ (ls : List AnswerLine). ls ++ line_of line ∷ []) shows
 
 -- what a call left that succeeded
-pub when_ok : (ok : Bool) (items good bad : List ℕ) → ok ≡ true → items ≡ (if ok then good else bad) → items ≡ good
-when_ok ok items good bad is items_are = items_are ∙ rw is refl
+pub when_well : (ok : Bool) (items good bad : List ℕ) → ok ≡ true → items ≡ (if ok then good else bad) → items ≡ good
+when_well ok items good bad is items_are = items_are ∙ rw is refl
 
 -- ## Equality
 

@@ -13,12 +13,12 @@ pub refused_long : (text : List ℕ) → has_at text ≡ true → list_all is_pr
 refused_long text at good long = rw (at, good) (grind (arith, nat_tests))
 
 -- and is taken if it hasn't
-pub taken : (text : List ℕ) → has_at text ≡ true → list_all is_printable text ≡ true → length text ≤ 256 → refusal_of text ≡ None
-taken text at good short = rw (at, good) (grind (arith, nat_tests))
+pub taken_unrefused : (text : List ℕ) → has_at text ≡ true → list_all is_printable text ≡ true → length text ≤ 256 → refusal_of text ≡ None
+taken_unrefused text at good short = rw (at, good) (grind (arith, nat_tests))
 
 -- for callers: a command line is short
 pub short : (text : List ℕ) → refusal_of text ≡ None → length text ≤ 256
-short text taken = grind (arith, nat_tests)
+short text taken_unrefused = grind (arith, nat_tests)
 
 -- ## A text and CR
 

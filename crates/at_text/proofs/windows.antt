@@ -2,3 +2,4 @@
 pub mod AnswerWindows
 pub mod AllLines
 pub mod PlacedLines
+pub mod AnswersUnderWay

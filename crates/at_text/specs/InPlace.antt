@@ -1,11 +1,11 @@
 -- Lines placed in a window where an answer that is whole stays, and the way back.
 use Rattle.std.specs.Prelude.{◌≡◌, ℕ, Bool, false, List, [], ◌++◌, length, take, Option, Some, None, if◌then◌else◌}
 use Rattle.at_text.specs.declared.answer.AnswerLine.{AnswerLine}
-use Rattle.at_text.specs.declared.window.Placed.{Placed}
-use Rattle.at_text.specs.declared.window.Placed.TheVariants as is
+use Rattle.at_text.specs.declared.under_way.Placed.{Placed}
+use Rattle.at_text.specs.declared.under_way.Placed.TheVariants as is
 use Rattle.at_text.specs.declared.window.Seen.{Seen}
 use Rattle.at_text.specs.declared.window.Seen.TheVariants as seen
-use Rattle.at_text.specs.declared.window.WindowMark.{WindowMark}
+use Rattle.at_text.specs.declared.under_way.WindowMark.{WindowMark}
 use Rattle.at_text.specs.Dialects.{Dialect, is_solicited}
 use Rattle.at_text.specs.OpenWindow.{OpenWindow, is_echo, with_line, seen_by}
 

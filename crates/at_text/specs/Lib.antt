@@ -1,6 +1,7 @@
 pub mod Octets
 pub mod Lines
 pub mod Reading
+pub mod Runs
 pub mod Finals
 pub mod Kinds
 pub mod Unsolicited
@@ -16,6 +17,7 @@ pub mod AnswerParts
 pub mod Windows
 pub mod Seeing
 pub mod OpenWindow
+pub mod UnderWay
 pub mod InPlace
 pub mod Whole
 pub mod Placing

@@ -15,11 +15,6 @@ pub record OpenWindow : Type 0 where
   pub lines : List AnswerLine
   pub fresh : Bool
 
--- what is shown of a window, by whether a command is under way
-abbrev pub shown_if : Bool → OpenWindow → Option OpenWindow
-shown_if false o = None
-shown_if true o = Some o
-
 -- the window of a command, of whose answer no line has come yet
 abbrev pub opened : List ℕ → OpenWindow
 opened command = record { command = command; lines = []; fresh = true }

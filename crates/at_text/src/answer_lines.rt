@@ -94,8 +94,8 @@ impl AnswerLines {
         ensures ok { OnOk result (self.new ≡ self.old ++ line_of line.now ∷ []) }
         ensures err { OnErr result (self.new ≡ self.old) }
     {
-        make_room(&mut self.octets, line.len())?;
         make_room_for_end(&mut self.ends)?;
+        make_room(&mut self.octets, line.len())?;
         let _ = self.octets.extend_from_slice(line);
         self.ends.push_reserved(self.octets.len());
         Ok(())
@@ -139,6 +139,16 @@ fn make_room(octets: &mut Vec<u8>, more: usize) -> Result<(), AllocError>
     if more <= octets.capacity() - octets.len() {
         return Ok(());
     }
+    grow(octets, more)
+}
+
+#[inline(never)]
+/// The same, by a larger block.
+fn grow(octets: &mut Vec<u8>, more: usize) -> Result<(), AllocError>
+    ensures items { octets.new.items ≡ octets.old.items }
+    ensures len { vec_len octets.new ≡ vec_len octets.old }
+    ensures room { OnOk result (vec_len octets.new + more ≤ vec_capacity octets.new) }
+{
     let growth = octets.capacity().saturating_mul(GROWTH - 1);
     octets.try_reserve(more.max(growth).max(FIRST_OCTETS))
 }
@@ -151,6 +161,15 @@ fn make_room_for_end(ends: &mut SmallVec<usize, SHORT>) -> Result<(), AllocError
     if ends.len() < ends.capacity() {
         return Ok(());
     }
+    grow_ends(ends)
+}
+
+#[inline(never)]
+/// The same, by a larger block.
+fn grow_ends(ends: &mut SmallVec<usize, SHORT>) -> Result<(), AllocError>
+    ensures items { ends.new.items ≡ ends.old.items }
+    ensures room { OnOk result (HasRoomFor ends.new 1) }
+{
     ends.reserve(ends.capacity().saturating_mul(GROWTH - 1).max(1))
 }
 

@@ -32,7 +32,7 @@ impl Model for CommandLine {
     ghost invariant = { λ c. IsEnded c.octets.items };
 }
 
-#[tactic(auto, using(crate::proofs::CommandTexts::refused_long, crate::proofs::CommandTexts::taken, crate::proofs::CommandTexts::is_ended, crate::proofs::CommandTexts::text_ended))]
+#[tactic(auto, using(crate::proofs::CommandTexts::refused_long, crate::proofs::CommandTexts::taken_unrefused, crate::proofs::CommandTexts::is_ended, crate::proofs::CommandTexts::text_ended))]
 impl CommandLine {
     /// A command line of this text, given without its CR. Refused with the first that applies: 1 NoAt, 2 BadOctet, 3
     /// TooLong, 4 NoMemory.

@@ -173,7 +173,8 @@ impl Dialect {
         }
     }
 
-    /// The kind of a line by the dialect's own rules of unsolicited lines.
+    #[inline(always)]
+    /// The kind of a line by the dialect's own rules of unsolicited lines. That there are none is seen at once.
     fn own_kind_of(&self, line: &[u8]) -> Option<UrcKind>
         ensures kind { result ≡ option_map (λ u. UrcKind.Own u.kind) (find (λ u. takes u.pattern line.now) self.now.urcs) }
         ensures sound { IsSound self.now }
@@ -181,6 +182,14 @@ impl Dialect {
         if self.urcs.is_empty() {
             return None;
         }
+        self.ruled_kind_of(line)
+    }
+
+    /// The same, by a look at the rules.
+    fn ruled_kind_of(&self, line: &[u8]) -> Option<UrcKind>
+        ensures kind { result ≡ option_map (λ u. UrcKind.Own u.kind) (find (λ u. takes u.pattern line.now) self.now.urcs) }
+        ensures sound { IsSound self.now }
+    {
         let span = self.urc_spans[head(line)];
         first_kind(span.part(&self.urcs), line)
     }

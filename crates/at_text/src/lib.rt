@@ -4,10 +4,11 @@
 //!
 //! # Layout
 //!
-//! - `command`, `error`: what is sent. `reader`, `text`, `octets`: lines of what comes.
+//! - `command`, `error`: what is sent. `reader`, `line_run`, `text`, `octets`: lines of what comes.
 //! - `finals`, `unsolicited`: the standards' lists. `dialect`, `dialect_error`, `rules`, `heads`, `known_rules`, `clashes`: rules beside
 //!   them.
-//! - `window`: which lines answer a command. `answer_lines`: the lines of an answer, one text. `answer`: one such line by itself.
+//! - `window`: which lines answer a command. `under_way`: the same, its text lent. `answer_lines`: the lines of an answer, one text.
+//!   `answer`: one such line by itself.
 //! - `laws`, `dialect_laws`.
 #![tactic(auto)]
 
@@ -23,10 +24,12 @@ mod finals;
 mod heads;
 mod known_rules;
 pub mod laws;
+mod line_run;
 pub mod octets;
 mod reader;
 mod rules;
 mod text;
+mod under_way;
 mod unsolicited;
 mod window;
 
@@ -38,8 +41,10 @@ pub use dialect::Dialect;
 pub use dialect_error::DialectError;
 pub use error::TextError;
 pub use finals::{Final, final_of};
+pub use line_run::{LineRun, RunMark};
 pub use reader::{Line, LineReader, run_len};
 pub use rules::Form;
 pub use text::Text;
+pub use under_way::{Placed, UnderWay, WindowMark};
 pub use unsolicited::{UrcKind, unsolicited_of};
-pub use window::{Placed, Seen, Window, WindowMark};
+pub use window::{Seen, Window};

@@ -3,19 +3,18 @@ ghost use Rattle.std.specs.Prelude.{Option, ◌≡◌, List, [], ◌∷◌, ◌+
 ghost use Rattle.at_text.specs.Dialects.{Dialect as Codes, standard};
 ghost use Rattle.at_text.specs.Rules.{dialect_of};
 ghost use Rattle.at_text.specs.Windows.{Mark, Begun};
-ghost use Rattle.at_text.specs.Seeing.{by_kind};
-ghost use Rattle.at_text.specs.OpenWindow.{OpenWindow, opened, FitsMarks, Sees, is_echo, with_line, solicited_by, after_solicited, seen_by, after_line};
-ghost use Rattle.at_text.specs.InPlace.{lines_so_far, placed_as, placed_by, after_placed, solicited_placed, said_where, left_where, Grows, mark_of, back_at};
+ghost use Rattle.at_text.specs.OpenWindow.{OpenWindow, opened, FitsMarks, Sees, seen_by, after_line};
+ghost use Rattle.at_text.specs.InPlace.{lines_so_far, placed_by, after_placed, said_where, left_where, Grows, mark_of, back_at};
 
 use crate::answer_lines::AnswerLines;
 use crate::command::{COMMAND_LEN, CommandLine};
 use crate::dialect::Dialect;
 use crate::error::TextError;
+use crate::under_way::{Placed, UnderWay, WindowMark};
 use crate::unsolicited::UrcKind;
 use arrayvec::ArrayVec;
-use std::alloc::{AllocError, Global};
+use std::alloc::Global;
 use std::marker::Model;
-use std::mem;
 
 /// What a line is, where its end stands.
 #[derive(Drop, PartialEq, Eq)]
@@ -32,120 +31,31 @@ pub enum Seen {
     Other,
 }
 
-/// What a line is, where its end stands, while an answer stays in its window.
-#[derive(Clone, Copy)]
-pub enum Placed {
-    /// The echo of the command.
-    Echo,
-    /// A line of the answer, which goes on.
-    Kept,
-    /// The final code: the answer is whole, and all of it stands in the window.
-    Whole,
-    /// A line that no command asked for, of this kind.
-    Unsolicited(UrcKind),
-    /// A line of no kind, outside of every window.
-    Other,
-}
-
-/// How far a window's answer had come: its lines, and whether the next line might be the echo.
-#[derive(Clone, Copy)]
-pub struct WindowMark {
-    /// How many lines there were.
-    pub lines: usize,
-    /// Whether no line but unsolicited ones had come.
-    pub fresh: bool,
-}
-
-/// A command, and what has come of its answer.
-#[derive(Drop)]
-struct Open {
-    command: ArrayVec<u8, COMMAND_LEN>,
-    lines: AnswerLines,
-    fresh: bool,
-}
-
-impl Model for Open {
-    ghost use Rattle.at_text.specs.OpenWindow.{OpenWindow};
-
-    ghost Value = { OpenWindow };
-
-    ghost view = { λ o. record { command = o.command.items; lines = o.lines; fresh = o.fresh } };
-}
-
-impl Open {
-    /// No command.
-    fn none(alloc: Global) -> Open {
-        Open {
-            command: ArrayVec::new(),
-            lines: AnswerLines::new(alloc),
-            fresh: true,
-        }
-    }
-
-    /// Begins with this command. The list of lines keeps its memory.
-    fn begin(&mut self, line: &CommandLine)
-        ensures { self.new ≡ opened line.now }
-    {
-        self.command.clear();
-        let _ = self.command.try_extend_from_slice(line.text());
-        self.lines.clear();
-        self.fresh = true;
-    }
-
-    /// Takes the lines out.
-    fn take_lines(&mut self, alloc: Global) -> AnswerLines
-        ensures { result ≡ self.old.lines }
-    {
-        let mut lines = AnswerLines::new(alloc);
-        mem::swap(&mut lines, &mut self.lines);
-        lines
-    }
-
-    fn is_echo(&self, line: &[u8]) -> bool
-        ensures { result ≡ is_echo self.now line.now }
-    {
-        self.fresh && line == self.command.as_slice()
-    }
-
-    fn keep(&mut self, line: &[u8]) -> Result<(), AllocError>
-        ensures ok { OnOk result (self.new ≡ with_line self.old line.now) }
-        ensures err { OnErr result (self.new ≡ self.old) }
-    {
-        self.lines.push(line)?;
-        self.fresh = false;
-        Ok(())
-    }
-
-    fn copy(&self) -> Result<Open, AllocError>
-        ensures { IfOk result (λ copy. copy ≡ self.now) }
-    {
-        let lines = self.lines.copy()?;
-        let mut command = ArrayVec::new();
-        let _ = command.try_extend_from_slice(self.command.as_slice());
-        Ok(Open {
-            command,
-            lines,
-            fresh: self.fresh,
-        })
-    }
+/// Keeps the text of this command alone.
+fn copy_text(kept: &mut ArrayVec<u8, COMMAND_LEN>, line: &CommandLine)
+    ensures { kept.new.items ≡ line.now }
+{
+    kept.clear();
+    let _ = kept.try_extend_from_slice(line.text());
 }
 
 /// Tells which lines answer the command under way. Contracts see that command, if there is one.
 #[derive(Drop)]
 pub struct Window {
-    /// Whether a command is under way. If not, what stands in `open` counts for nothing.
-    is_open: bool,
-    open: Open,
+    /// The text of the command. If none is under way, it counts for nothing.
+    command: ArrayVec<u8, COMMAND_LEN>,
+    under_way: UnderWay,
     alloc: Global,
 }
 
 impl Model for Window {
     ghost use Rattle.std.specs.Prelude.{Option};
-    ghost use Rattle.at_text.specs.OpenWindow.{OpenWindow, shown_if};
+    ghost use Rattle.at_text.specs.OpenWindow.{OpenWindow};
+    ghost use Rattle.at_text.specs.UnderWay.{window_of};
 
     ghost Value = { Option OpenWindow };
 
-    ghost view = { λ w. shown_if w.is_open w.open };
+    ghost view = { λ w. window_of w.command.items w.under_way };
 }
 
 impl Window {
@@ -155,8 +65,8 @@ impl Window {
         ensures past { (dialect : Codes) → FitsMarks dialect result [] }
     {
         Window {
-            is_open: false,
-            open: Open::none(alloc),
+            command: ArrayVec::new(),
+            under_way: UnderWay::new(alloc),
             alloc,
         }
     }
@@ -165,7 +75,7 @@ impl Window {
     pub fn idle(&self) -> bool
         ensures { IsTrue result ↔ IsNone self.now }
     {
-        !self.is_open
+        self.under_way.idle()
     }
 
     /// Begins the window of a command that has wholly been sent. Requires `idle()`.
@@ -175,8 +85,8 @@ impl Window {
         ensures past { (dialect : Codes) (past : List Mark) → FitsMarks dialect self.old past
             → FitsMarks dialect self.new (past ++ Begun line.now ∷ []) }
     {
-        self.open.begin(line);
-        self.is_open = true;
+        copy_text(&mut self.command, line);
+        self.under_way.begin();
     }
 
     /// Forgets the command and what has come of its answer.
@@ -184,8 +94,7 @@ impl Window {
         ensures none { self.new ≡ None }
         ensures past { (dialect : Codes) → FitsMarks dialect self.new [] }
     {
-        self.is_open = false;
-        self.open.lines.clear();
+        self.under_way.drop_command();
     }
 
     /// Says what the next line is, by the standard's codes. Refused with 4 NoMemory, which leaves the window as it was:
@@ -222,13 +131,12 @@ impl Window {
         ensures copy { IfOk result (λ copy. copy ≡ self.now) }
         ensures refused { IfErr result (λ why. why ≡ TextError.NoMemory) }
     {
-        if !self.is_open {
-            return Ok(Window::new(self.alloc));
-        }
-        let open = self.open.copy()?;
+        let under_way = self.under_way.copy()?;
+        let mut command = ArrayVec::new();
+        let _ = command.try_extend_from_slice(self.command.as_slice());
         Ok(Window {
-            is_open: true,
-            open,
+            command,
+            under_way,
             alloc: self.alloc,
         })
     }
@@ -245,8 +153,8 @@ impl Window {
         ensures refused { IfErr result (λ why. why ≡ TextError.NoMemory) }
         ensures err { OnErr result (self.new ≡ self.old) }
     {
-        let placed = self.place(dialect, line)?;
-        Ok(placed)
+        self.under_way
+            .place_by(self.command.as_slice(), dialect, line)
     }
 
     /// Takes the lines so far out. No command is under way then.
@@ -254,27 +162,14 @@ impl Window {
         ensures lines { result ≡ lines_so_far self.old }
         ensures none { self.new ≡ None }
     {
-        if !self.is_open {
-            return AnswerLines::new(self.alloc);
-        }
-        self.is_open = false;
-        self.open.take_lines(self.alloc)
+        self.under_way.close()
     }
 
     /// How far the answer has come.
     pub fn mark(&self) -> WindowMark
         ensures { result ≡ mark_of self.now }
     {
-        if !self.is_open {
-            return WindowMark {
-                lines: 0,
-                fresh: false,
-            };
-        }
-        WindowMark {
-            lines: self.open.lines.len(),
-            fresh: self.open.fresh,
-        }
+        self.under_way.mark()
     }
 
     /// Forgets the lines since the mark was taken. It takes no memory. After `place_by` alone, however often, the window is as it
@@ -283,64 +178,7 @@ impl Window {
         ensures back { self.new ≡ back_at mark self.old }
         ensures was { (was : Option OpenWindow) → Grows was self.old → mark ≡ mark_of was → self.new ≡ was }
     {
-        self.shorten(mark);
-    }
-
-    fn shorten(&mut self, mark: WindowMark)
-        ensures { self.new ≡ back_at mark self.old }
-    {
-        if self.is_open {
-            self.open.lines.truncate(mark.lines);
-            self.open.fresh = mark.fresh;
-        }
-    }
-
-    fn place(&mut self, dialect: &Dialect, line: &[u8]) -> Result<Placed, AllocError>
-        ensures placed { IfOk result (λ placed. placed ≡ placed_by (dialect_of dialect.now) self.old line.now) }
-        ensures after { OnOk result (self.new ≡ after_placed (dialect_of dialect.now) self.old line.now) }
-        ensures err { OnErr result (self.new ≡ self.old) }
-    {
-        self.place_kind(dialect.unsolicited_of(line), dialect, line)
-    }
-
-    /// What a line of this kind is, or of none.
-    fn place_kind(
-        &mut self,
-        kind: Option<UrcKind>,
-        dialect: &Dialect,
-        line: &[u8],
-    ) -> Result<Placed, AllocError>
-        ensures placed { IfOk result (λ placed. placed ≡ placed_as (by_kind kind (solicited_by (dialect_of dialect.now) self.old line.now))) }
-        ensures after { OnOk result (
-            self.new ≡ (if is_none kind then solicited_placed self.old line.now else self.old)) }
-        ensures err { OnErr result (self.new ≡ self.old) }
-    {
-        match kind {
-            Some(kind) => Ok(Placed::Unsolicited(kind)),
-            None => self.place_solicited(dialect, line),
-        }
-    }
-
-    /// What a line of no kind is. The echo is looked at before the final code: no command line is a final code.
-    fn place_solicited(&mut self, dialect: &Dialect, line: &[u8]) -> Result<Placed, AllocError>
-        ensures placed { IfOk result (λ placed. placed ≡ placed_as (solicited_by (dialect_of dialect.now) self.old line.now)) }
-        ensures after { OnOk result (self.new ≡ solicited_placed self.old line.now) }
-        ensures err { OnErr result (self.new ≡ self.old) }
-    {
-        if !self.is_open {
-            return Ok(Placed::Other);
-        }
-        let open = &mut self.open;
-        if open.is_echo(line) {
-            open.fresh = false;
-            return Ok(Placed::Echo);
-        }
-        open.keep(line)?;
-        if dialect.is_final(line) {
-            Ok(Placed::Whole)
-        } else {
-            Ok(Placed::Kept)
-        }
+        self.under_way.go_back(mark);
     }
 
     /// What the line is that was placed. An answer that is whole is taken out.

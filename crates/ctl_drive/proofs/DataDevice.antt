@@ -212,9 +212,9 @@ files_refused device capture at data_paths silent said why is fault = record {
 }
 
 -- with the path of the capture, where the settings name one
-pub by_capture : (device capture path : List ℕ) (data_paths : List DataPath) (silent said : Option (List ℕ)) → path ≡ capture → EndsFilesByFault device path data_paths silent said
+pub files_by_capture : (device capture path : List ℕ) (data_paths : List DataPath) (silent said : Option (List ℕ)) → path ≡ capture → EndsFilesByFault device path data_paths silent said
     → EndsFilesByFault device capture data_paths silent said
-by_capture device capture path data_paths silent said is h = subst (λ (p : List ℕ). EndsFilesByFault device p data_paths silent said) is h
+files_by_capture device capture path data_paths silent said is h = subst (λ (p : List ℕ). EndsFilesByFault device p data_paths silent said) is h
 
 -- a line between two rings was driven with files between rings
 pub drove_files_device : (b c : Bool) (rules : Rules) (text : List ℕ) (n1 : ℕ) (line : StreamState) (files opened : List (FileState StreamState)) (before after silent said : Option (List ℕ)) (r : Result Driven DriveFault)

@@ -18,3 +18,4 @@ pub mod Captured
 pub mod OnDevice
 pub mod DataDevice
 pub mod DeskRuns
+pub mod OrderRowFacts

@@ -95,8 +95,8 @@ why_in [] = Carrier
 why_in (b ∷ more) = b.why
 
 -- and not those
-pub refused : AreRefused
-refused = record {
+pub refusals_said : AreRefused
+refusals_said = record {
   place_before = λ h. let e : 1 ≡ 2 = ap place_in (one_naming (input_lines three_lines) _ _ h between) in omega (arith, e);
   another_reason = λ h. let e : Command ≡ Carrier = ap why_in (one_naming (input_lines three_lines) _ _ h between) in cc;
   none = λ h. let e : 0 ≡ 2 = ap place_in (one_naming (input_lines three_lines) _ _ h between) in omega (arith, e);

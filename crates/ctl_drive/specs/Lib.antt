@@ -17,3 +17,4 @@ pub mod OnDevice
 pub mod FileEnds
 pub mod DataDevice
 pub mod DeskRun
+pub mod OrderRows

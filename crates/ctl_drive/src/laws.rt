@@ -1,7 +1,9 @@
 //! Laws of the definitions, as contracts of functions that do nothing.
 ghost use Rattle.std.specs.Prelude.{◌≡◌, ℕ, List};
+ghost use Rattle.modem_desk.specs.Ends.{Place, Subscription};
 ghost use Rattle.modem_history.specs.Sessions.{LineView};
 ghost use Rattle.ctl_drive.specs.DeskRun.{DrivesSettle};
+ghost use Rattle.ctl_drive.specs.OrderRows.{WereNot, WereTold};
 ghost use Rattle.ctl_drive.specs.Saying.{AreBad, BadLine};
 ghost use Rattle.ctl_drive.specs.SayingRows.{AreNotTaken, AreRefused, AreTaken, AreWorked};
 
@@ -12,12 +14,19 @@ pub fn one_naming()
 {}
 
 /// Worked inputs, each with its bad lines, and what stands on a writer.
-#[tactic(auto, using(crate::proofs::SayingRowFacts::worked, crate::proofs::SayingRowFacts::refused, crate::proofs::SayingRowFacts::taken, crate::proofs::SayingRowFacts::not_taken))]
+#[tactic(auto, using(crate::proofs::SayingRowFacts::worked, crate::proofs::SayingRowFacts::refusals_said, crate::proofs::SayingRowFacts::taken, crate::proofs::SayingRowFacts::not_taken))]
 pub fn worked_inputs()
     ensures bad { AreWorked }
     ensures refused { AreRefused }
     ensures taken { AreTaken }
     ensures not_taken { AreNotTaken }
+{}
+
+/// Worked callers: which were told enough before they submitted. And a line that was heard and that no listener took.
+#[tactic(auto, using(crate::proofs::OrderRowFacts::not_told))]
+pub fn worked_orders()
+    ensures told { (p : Place) → WereTold p }
+    ensures not_told { (p : Place) (e : Subscription) → WereNot p e }
 {}
 
 /// Each drive is a settled run of its desk, over one history that grew with its polls and ticks, and so has the headline.

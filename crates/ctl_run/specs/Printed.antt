@@ -46,7 +46,8 @@ pub record IsReplayedBy (rules : Rules) (n1 : ℕ) (text shown : List ℕ) : Typ
 
 -- A text has what so many callers submit, and this is printed of what they were told for it, each line of a
 -- caller for the line of the text at its place, by a driver over a new line with room for so many octets each way.
--- A simulated modem that had just started, with this script, began at the line's other end, and came to its end.
+-- A simulated modem that had just started, with this script, began at the line's other end, and came to its end. Of the octets that
+-- driver and modem sent each other received the first.
 pub record IsBenched (callers cut : ℕ) (script : Script) (text shown : List ℕ) : Type 0 where
   pub submissions : List Submission
   pub outcomes : List (List Outcome)

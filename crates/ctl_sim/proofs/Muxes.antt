@@ -6,7 +6,6 @@ use Rattle.mux_station.specs.declared.role.ChannelState.{ChannelState}
 use Rattle.mux_station.specs.declared.role.ChannelState.TheVariants.{Opened}
 use Rattle.mux_station.specs.Stages.{as_shown}
 use Rattle.mux_station.specs.States.{State, IsShut, IsOpening, IsOpened, IsClosing, IsStopping, is_opened, state_of}
-use Rattle.mux_station.proofs.states.OpenedStates.{opened_is_open}
 use Rattle.serial_line.specs.LineViews.{LineView, unused_line}
 use Rattle.modem_sim.specs.declared.sim.SimTurn.{SimTurn}
 use Rattle.modem_sim.specs.declared.sim.SimTurn.TheVariants.{Moved, Idle, Ended}
@@ -86,11 +85,11 @@ shown_other (IsStopping n) other = refl
 
 -- shown as opened, it is
 pub up_is : (past : List Act) (shown : ChannelState) → shown ≡ state_shown 0 past → shown ≡ Opened → true ≡ is_open_at_modem 0 past
-up_is past shown is opened = sym (sym (opened_is_open Responder (wire past) 0) ∙ shown_open (state_of Responder 0 (wire past)) (sym is ∙ opened))
+up_is past shown is opened = sym (shown_open (state_of Responder 0 (wire past)) (sym is ∙ opened))
 
 -- shown otherwise, it isn't
 pub down_is : (past : List Act) (shown : ChannelState) → shown ≡ state_shown 0 past → shown ≢ Opened → false ≡ is_open_at_modem 0 past
-down_is past shown is other = sym (sym (opened_is_open Responder (wire past) 0) ∙ shown_other (state_of Responder 0 (wire past)) (λ same. other (is ∙ same)))
+down_is past shown is other = sym (shown_other (state_of Responder 0 (wire past)) (λ same. other (is ∙ same)))
 
 -- ## A piece
 

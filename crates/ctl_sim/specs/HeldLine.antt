@@ -1,5 +1,5 @@
 -- The line of a modem whose client hands octets in and takes octets out.
-use Rattle.std.specs.Prelude.{ℕ, List, [], ◌++◌}
+use Rattle.std.specs.Prelude.{ℕ, List, [], ◌++◌, None}
 use Rattle.serial_line.specs.OtherSide.{OtherSide}
 use Rattle.serial_line.specs.LineViews.{LineView}
 
@@ -26,7 +26,7 @@ new_held = record {
 
 -- what was handed in and handed out
 abbrev pub held_side : HeldState → OtherSide
-held_side l = record { given = l.received ++ l.waiting; passed_on = l.taken }
+held_side l = record { given = l.received ++ l.waiting; passed_on = l.taken; rings = None }
 
 -- what is seen of it as of any line: no call fails
 abbrev pub held_view : HeldState → LineView

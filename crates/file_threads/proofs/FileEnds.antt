@@ -40,8 +40,8 @@ said_four a b c d e ws xs ys zs one two three four =
     said_both a d e (ws ++ xs ++ ys) zs (said_both a c d (ws ++ xs) ys (said_both a b c ws xs one two) three) four
 
 -- of no files nothing is said
-pub files_none : {Y : Type 0} (pipes : PipeSet) (a : Option (List ℕ)) (files : List (FileState Y)) → SaysEnds pipes (take 0 files) a a
-files_none pipes a files = record { ends = []; ends_are = AreEnds.ends_none; said = AreSaid.said_none a }
+pub ends_of_none : {Y : Type 0} (pipes : PipeSet) (a : Option (List ℕ)) (files : List (FileState Y)) → SaysEnds pipes (take 0 files) a a
+ends_of_none pipes a files = record { ends = []; ends_are = AreEnds.ends_none; said = AreSaid.said_none a }
 
 -- behind what was said of some files, it was said what came of another
 said_ends : (a b c : Option (List ℕ)) (ends : List FileEnd) (e : FileEnd) → AreSaid a b (ends_texts ends) → AreSaid b c (end_texts e)
@@ -52,9 +52,9 @@ said_ends a b c ends e h one =
     (said_both a b c (ends_texts ends) (end_texts e) h one)
 
 -- behind what came of some files it was said what came of the next
-pub files_more : {Y : Type 0} (pipes : PipeSet) (a b c : Option (List ℕ)) (files : List (FileState Y)) (i : ℕ) (f : FileState Y) → i < length files
+pub ends_more : {Y : Type 0} (pipes : PipeSet) (a b c : Option (List ℕ)) (files : List (FileState Y)) (i : ℕ) (f : FileState Y) → i < length files
     → SaysEnds pipes (take i files) a b → SaysEnd pipes (slice_index_or files i f) b c → SaysEnds pipes (take (i + 1) files) a c
-files_more pipes a b c files i f there h one =
+ends_more pipes a b c files i f there h one =
     subst (λ (xs : List (FileState _)). SaysEnds pipes xs a c) (sym (take_more files i f there))
     (record {
       ends = h.ends ++ one.end ∷ [];
@@ -63,9 +63,9 @@ files_more pipes a b c files i f there h one =
     })
 
 -- when it was said of all of them, it was said of each
-pub files_all : {Y : Type 0} (pipes : PipeSet) (a b : Option (List ℕ)) (files : List (FileState Y)) (i : ℕ) → length files ≤ i
+pub ends_all : {Y : Type 0} (pipes : PipeSet) (a b : Option (List ℕ)) (files : List (FileState Y)) (i : ℕ) → length files ≤ i
     → SaysEnds pipes (take i files) a b → SaysEnds pipes files a b
-files_all pipes a b files i most h = subst (λ (xs : List (FileState _)). SaysEnds pipes xs a b) (take_all i files most) h
+ends_all pipes a b files i most h = subst (λ (xs : List (FileState _)). SaysEnds pipes xs a b) (take_all i files most) h
 
 -- ## All is written
 

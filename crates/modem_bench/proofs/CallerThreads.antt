@@ -144,10 +144,10 @@ unfolding StopsFirst
 stops_first [] w d lt e h = absurd (omega (arith, lt))
 stops_first (x ∷ ws) w d lt e h = (subst (λ (y : Worked). Stops y.caller d) e h, ap (λ (y : Worked). y.outcomes) e, refl)
 
--- what follows from two things that are told of the value of an Ok is told of it too
-pub ok_both : {A E : Type 0} (P Q R : A → Type 0) (r : Result A E) → ((x : A) → P x → Q x → R x) → IfOk r P → IfOk r Q → IfOk r R
-ok_both P Q R (Ok x) f p q = f x p q
-ok_both P Q R (Err e) f p q = tt
+-- what follows from two things that are told of the value of an Ok, and one that holds then, is told of it too
+pub ok_three : {A E : Type 0} (P : A → Type 0) (O : Type 0) (Q R : A → Type 0) (r : Result A E) → ((x : A) → P x → O → Q x → R x) → IfOk r P → OnOk r O → IfOk r Q → IfOk r R
+ok_three P O Q R (Ok x) f p o q = f x p o q
+ok_three P O Q R (Err e) f p o q = tt
 
 -- what was kept is handed back where nothing failed
 pub kept_ok : {A E : Type 0} (P : A → Type 0) (ended : Result (Unit {0}) E) (r : Result A E) (x : A) → OnOk ended (P x) → IfOk r (λ _. ended ≡ Ok tt) → IfOk r (λ y. y ≡ x) → IfOk r P
@@ -158,3 +158,8 @@ kept_ok P ended (Err e) x h done same = tt
 pub on_given : {A E : Type 0} (P : Type 0) (ended r s : Result A E) → OnOk ended P → IfOk r (λ v. ended ≡ Ok v) → s ≡ r → OnOk s P
 on_given {A} {E} P ended (Ok v) s h is same = subst (λ (t : Result A E). OnOk t P) (sym same) (subst (λ (t : Result A E). OnOk t P) is h)
 on_given {A} {E} P ended (Err e) s h is same = subst (λ (t : Result A E). OnOk t P) (sym same) tt
+
+-- what follows from what holds where something ended well holds there too
+pub on_ok : {A E : Type 0} {P Q : Type 0} (r : Result A E) → OnOk r P → (P → Q) → OnOk r Q
+on_ok (Ok v) p f = f p
+on_ok (Err e) p f = tt

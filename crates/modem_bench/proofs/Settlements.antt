@@ -23,6 +23,7 @@ use Rattle.modem_driver.proofs.law_proofs.DeskHeadlines.{desk_headline}
 use Rattle.modem_driver.proofs.law_proofs.OneSessions.{one_session}
 use Rattle.modem_sim.specs.Sims.{SimState}
 use Rattle.modem_bench.specs.Driving.{Continues, Goes, GoesByStandard, IsBegun, IsOver, MakesPolls, MovesAndPolls, moves, no_poll, one_more, stays}
+use Rattle.modem_bench.specs.Lines.{AreConnected}
 use Rattle.modem_bench.specs.Running.{AreCalled, RanFor}
 use Rattle.modem_bench.specs.Simulating.{IsSimulated}
 use Rattle.modem_bench.specs.declared.calling.Worked.{Worked}
@@ -158,14 +159,14 @@ module _ {X : Type 0} (look : X → LineView) where
         books = over.books;
       }
 
-  -- where the callers worked, the session stopped and is over, and the modem came to its end, the bench ran for them
-  pub ran_for : (all : List Submission) (fresh cs : List CallerView) (ws : List Worked) (vs : List (Vec Outcome Global)) (s0 s1 : SessionState X) (m : SimState X) (ls : List ListenerView) (settled : Settled)
+  -- where the callers worked, the session stopped and is over, and the modem came to its end at the same line, the bench ran for them
+  pub ran_for : (all : List Submission) (fresh cs : List CallerView) (ws : List Worked) (vs : List (Vec Outcome Global)) (s0 s1 : SessionState X) (m0 m1 : SimState X) (ls : List ListenerView) (settled : Settled)
       → AreCalled all fresh ws → cs ≡ map (λ (w : Worked). w.caller) ws → vs ≡ map (λ (w : Worked). w.outcomes) ws
-      → IsBegun look s0 → Continues look s0 s1 → IsSimulated look m
+      → IsBegun look s0 → Continues look s0 s1 → IsSimulated look m0 m1 → AreConnected (look s1.line) (look m1.line)
       → IsWhole s1.driver.desk (map place_of cs) → AreSubscribed s1.driver.desk (map subscription_of ls) → IsOver look s1 cs ls settled
-      → RanFor look all fresh s0 m (map vec_items vs)
+      → RanFor look all fresh s0 m0 (map vec_items vs)
   unfolding IsDeskHeadline
-  ran_for all fresh cs ws vs s0 s1 m ls settled h callers e begun on simulated whole subscribed over =
+  ran_for all fresh cs ws vs s0 s1 m0 m1 ls settled h callers e begun on simulated connected whole subscribed over =
       let done = settles s0 s1 cs ls settled begun on whole subscribed over in
       record {
         worked = ws;
@@ -175,7 +176,9 @@ module _ {X : Type 0} (look : X → LineView) where
         begun = begun;
         stopped = s1;
         driven = on;
+        ended = m1;
         simulated = simulated;
+        connected = connected;
         calls = calls_of s0 s1 on;
         spell = spell_of s0 s1 cs ls settled begun on over;
         start_is = refl;

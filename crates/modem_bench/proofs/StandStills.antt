@@ -1,10 +1,11 @@
 -- The polls of a bench: what each comes to, and what they come to one after the other.
-use Rattle.std.specs.Prelude.{◌≡◌, ℕ, ◌+◌, ◌<◌, ◌≤◌, ◌==◌, ◌||◌, not, nat_le, nat_lt, Bool, true, false, List, [], ◌∷◌, ◌++◌, length, refl, None, Some, Result, Ok, Err, if◌then◌else◌}
+use Rattle.std.specs.Prelude.{◌≡◌, ℕ, ◌+◌, ◌<◌, ◌≤◌, ◌==◌, ◌||◌, not, nat_le, nat_lt, Bool, true, false, List, [], ◌∷◌, ◌++◌, length, refl, None, Some, Result, Ok, Err, IfOk, OnOk, if◌then◌else◌}
 use Rattle.std.specs.List.{list_any}
 use Rattle.std.proofs.Common.{ap, sym, ◌∙◌, subst, arith, eqb-true}
 use Rattle.std.proofs.lemmas.Bool.{or_parts}
 use Rattle.std.proofs.lemmas.Bool.Decides.{nat_tests}
 use Rattle.std.proofs.lemmas.List.{append-nil, length-append}
+use Rattle.serial_line.specs.OtherSide.{OtherSide}
 use Rattle.modem_desk.specs.declared.request.Request.{Request}
 use Rattle.modem_history.specs.Acts.{Act, Took, Got, Sent, Told, Heard, Tick, Lost, Held, Freed, Given, after}
 use Rattle.modem_history.specs.Sessions.{Beginning, LineView}
@@ -19,7 +20,7 @@ use Rattle.modem_driver.specs.SessionStates.{FitsAll, SessionState, TakesMore, s
 use Rattle.modem_driver.specs.SessionTurns.{Faults, HasTurned, TakesTurn, fault_of, standing_of}
 use Rattle.modem_driver.proofs.sessions.polls.Polls.{fault_goes, goes_none, goes_then, moved_is, turn_goes}
 use Rattle.modem_driver.proofs.sessions.steps.TakenRequests.{takes_none, takes_then}
-use Rattle.modem_bench.specs.Driving.{Advances, Continues, Goes, GoesOnce, Halts, IsCounted, IsRefused, MakesPolls, MovesAndPolls, MovesNothing, Steps, at_once, behind, led_to, moves, no_poll, one_more, stays}
+use Rattle.modem_bench.specs.Driving.{Advances, Continues, Goes, GoesOnce, Halts, IsCounted, IsRefused, MakesPolls, MovesAndPolls, MovesNothing, Steps, StopsAtLine, at_once, behind, led_to, moves, no_poll, one_more, stays}
 use Rattle.modem_bench.specs.Faults.{session_fault}
 use Rattle.modem_bench.specs.Limits.{cause_at, fresh_limit}
 use Rattle.modem_bench.specs.declared.cause.Cause.{Cause}
@@ -28,6 +29,8 @@ use Rattle.modem_bench.specs.declared.driving.Halt.{Halt}
 use Rattle.modem_bench.specs.declared.driving.Halt.TheVariants as halt
 use Rattle.modem_bench.specs.declared.limit.Limit.{Limit}
 use Rattle.modem_bench.specs.declared.limit.Limits.{Limits}
+use Rattle.modem_bench.specs.declared.signals.Fault.{Fault}
+use Rattle.modem_bench.proofs.CallerThreads.{kept_ok, on_ok}
 
 -- ## A turn that doesn't answer Moved
 
@@ -235,3 +238,8 @@ module _ {X : Type 0} (look : X → LineView) where
   driven_halts limits old mid new limit later (halt.Told given) d s = tt
   driven_halts limits old mid new limit later (halt.Failed told) d s = record { count = d.count; quiet = limit.quiet; mid = mid; waits = d.made; fails = s }
   driven_halts limits old mid new limit later (halt.Limited cause) d s = subst (λ (x : SessionState X). Halts look limits old x (halt.Limited cause)) (sym s.1) (limited_so limits old mid limit cause d s.0)
+
+  -- where it stopped at the line at which it was, what is given back is the session as it stopped
+  pub stopped_back : (side : X → OtherSide) (old new : SessionState X) (ended : Result (Unit {0}) Fault) (back : Result (SessionState X) Fault) → OnOk ended (Continues look old new) → side new.line ≡ side old.line
+      → IfOk back (λ _. ended ≡ Ok tt) → IfOk back (λ s. s ≡ new) → IfOk back (StopsAtLine look side old)
+  stopped_back side old new ended back so same done kept = kept_ok (StopsAtLine look side old) ended back new (on_ok ended so (λ d. record { driven = d; same_line = same })) done kept

@@ -1,6 +1,7 @@
 -- The session of a bench: how it begins, how it goes on in its thread, and how it ends.
 use Rattle.std.specs.Prelude.{◌≡◌, ℕ, ◌+◌, ◌<◌, ◌≤◌, Bool, true, false, List, [], Option, None, Some, Result, Ok, Err, map, slice_index_or, vec_items}
 use Rattle.at_text.specs.Dialects.{standard}
+use Rattle.serial_line.specs.OtherSide.{OtherSide}
 use Rattle.modem_desk.specs.declared.settling.Settled.{Settled}
 use Rattle.modem_desk.specs.Books.{DeskBooks}
 use Rattle.modem_desk.specs.Ends.{CallerView, ListenerView}
@@ -158,6 +159,12 @@ pub record Continues {X : Type 0} (look : X → LineView) (old new : SessionStat
   pub stops : MovesAndPolls look mid new (Ended (Ok Stopped))
   pub takes : TakesMore old.driver new.driver
   pub goes : SessionGoesOn look old new
+
+-- the same, at the line at which it was
+pub record StopsAtLine {X : Type 0} (look : X → LineView) (side : X → OtherSide) (old new : SessionState X) :
+    Type 0 where
+  pub driven : Continues look old new
+  pub same_line : side new.line ≡ side old.line
 
 -- after polls that gave no end the session gave a fault, which is told as this one
 pub record FailsLater {X : Type 0} (look : X → LineView) (old new : SessionState X) (told : Fault) :

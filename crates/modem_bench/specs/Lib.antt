@@ -3,6 +3,7 @@ pub mod Calling
 pub mod Driving
 pub mod Faults
 pub mod Limits
+pub mod Lines
 pub mod OneLine
 pub mod Rounds
 pub mod Running

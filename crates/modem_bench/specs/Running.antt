@@ -14,6 +14,7 @@ use Rattle.modem_sim.specs.declared.script.Script.{Script}
 use Rattle.modem_bench.specs.Asks.{asks_for}
 use Rattle.modem_bench.specs.Calling.{OpensAll, Stops, Works}
 use Rattle.modem_bench.specs.Driving.{Continues, IsBegun}
+use Rattle.modem_bench.specs.Lines.{AreConnected}
 use Rattle.modem_bench.specs.Simulating.{IsSimulated, IsStarted}
 use Rattle.modem_bench.specs.declared.calling.Worked.{Worked}
 use Rattle.modem_bench.specs.declared.crew.HasWorked.{HasWorked}
@@ -96,7 +97,7 @@ AreCalled all (c ∷ cs) (w ∷ ws) = Leads all c w.caller w.outcomes.items × A
 
 -- These callers did what the submissions ask of them, and these are the outcomes that each took for it, each
 -- for the line at its place. The session was polled in its thread until it stopped, and the simulated modem
--- until it had ended. The session, the only one of its desk, had done nothing before, and neither had the desk, of which
+-- until it had ended. Of the octets that each of them sent the other received the first. The session, the only one of its desk, had done nothing before, and neither had the desk, of which
 -- these are all the callers; it was finished, nothing was done with what that gave, and then the desk was settled with the
 -- driver's end and with them: so the headline holds of that run.
 pub record RanFor {X : Type 0} (look : X → LineView) (all : List Submission)
@@ -110,7 +111,9 @@ pub record RanFor {X : Type 0} (look : X → LineView) (all : List Submission)
   pub stopped : SessionState X
   pub driven : Continues look session stopped
   pub calls : HasCalls look session stopped
-  pub simulated : IsSimulated look sim
+  pub ended : SimState X
+  pub simulated : IsSimulated look sim ended
+  pub connected : AreConnected (look stopped.line) (look ended.line)
   pub spell : Spell
   pub start_is : spell.start ≡ begun.start
   pub session_is : spell.session ≡ session_view look stopped
@@ -136,7 +139,7 @@ pub record IsLine (cut : ℕ) (near far : EndState) : Type 0 where
 
 -- So many callers, which had done nothing before, did what the submissions ask of them, by a session at one end
 -- of a new line with this room, to its end. A simulated modem that had just started, with this script, began at the
--- line's other end, and came to its end too. That what each end received is what the other sent isn't said.
+-- line's other end, and came to its end too.
 pub record Ran (all : List Submission) (count cut : ℕ) (script : Script) (outcomes : List (List Outcome)) :
     Type 0 where
   pub near : EndState

@@ -2,7 +2,7 @@
 ghost use Rattle.std.specs.Prelude.{◌≡◌, IfErr, IfOk, OnOk};
 ghost use Rattle.modem_history.specs.Turns.{says_moved};
 ghost use Rattle.modem_driver.specs.SessionTurns.{turn_answer};
-ghost use Rattle.modem_bench.specs.Driving.{Advances, Continues, Halts, IsCounted, IsRefused, Steps, led_to};
+ghost use Rattle.modem_bench.specs.Driving.{Advances, Continues, Halts, IsCounted, IsRefused, Steps, StopsAtLine, led_to};
 ghost use Rattle.modem_bench.specs.Faults.{halt_fault, session_fault};
 
 use crate::cause::Cause;
@@ -29,7 +29,7 @@ pub fn fault_of(fault: SessionFault) -> Fault
 pub struct Later<L: SerialLine + Drop, R: Wait + Drop>(pub Snapshot<Session<L, R>>);
 
 impl<L: SerialLine + Drop, R: Wait + Drop> Promise<Result<Session<L, R>, Fault>> for Later<L, R> {
-    ghost kept_by = { λ p r. IfOk r (Continues L.seen p.0.value) };
+    ghost kept_by = { λ p r. IfOk r (StopsAtLine L.seen L.other_side p.0.value) };
 }
 
 /// Why a session's thread ends its bench.
@@ -68,7 +68,8 @@ fn is_moved(turn: Turn) -> bool
 fn poll<L: SerialLine, R: Wait + Drop>(
     session: &mut Session<L, R>,
 ) -> Result<Option<Progress>, SessionFault>
-    ensures { Advances L.seen session.old session.new result }
+    ensures polled { Advances L.seen session.old session.new result }
+    ensures beyond { L.other_side session.new.line ≡ L.other_side session.old.line }
 {
     let said = session.turn()?;
     if is_moved(said) {
@@ -115,7 +116,8 @@ fn step<'a, L: SerialLine, R: Wait + Drop>(
     signals: &'a Signals,
     limit: &mut Limit,
 ) -> Result<bool, Halt<'a>>
-    ensures { Steps L.seen session.old session.new limit.old limit.new result }
+    ensures stepped { Steps L.seen session.old session.new limit.old limit.new result }
+    ensures beyond { L.other_side session.new.line ≡ L.other_side session.old.line }
 {
     may_poll(signals, limit)?;
     match poll(session) {
@@ -142,6 +144,7 @@ fn drive_on<'a, L: SerialLine, R: Wait + Drop>(
 ) -> Result<(), Halt<'a>>
     ensures stops { OnOk result (Continues L.seen session.old session.new) }
     ensures halts { IfErr result (Halts L.seen limits session.old session.new) }
+    ensures beyond { L.other_side session.new.line ≡ L.other_side session.old.line }
 {
     let mut limit = Limit::new(limits);
     for _ in rt.forever() {
@@ -164,7 +167,8 @@ fn drive_or_give_up<L: SerialLine, R: Wait + Drop>(
     signals: &Signals,
     limits: Limits,
 ) -> Result<(), Fault>
-    ensures { OnOk result (Continues L.seen session.old session.new) }
+    ensures stops { OnOk result (Continues L.seen session.old session.new) }
+    ensures beyond { L.other_side session.new.line ≡ L.other_side session.old.line }
 {
     match drive_on(rt, session, signals, limits) {
         Ok(()) => Ok(()),
@@ -173,14 +177,14 @@ fn drive_or_give_up<L: SerialLine, R: Wait + Drop>(
 }
 
 /// What the driver does in its thread, within these limits.
-#[tactic(auto, using(crate::proofs::CallerThreads::kept_ok))]
+#[tactic(auto, using(crate::proofs::StandStills::stopped_back))]
 pub fn drive<L: SerialLine + Drop, R: Wait + Drop>(
     rt: &R,
     session: Session<L, R>,
     signals: Signals,
     limits: Limits,
 ) -> Result<Session<L, R>, Fault>
-    ensures { IfOk result (Continues L.seen session) }
+    ensures { IfOk result (StopsAtLine L.seen L.other_side session) }
 {
     let mut session = session;
     let ended = drive_or_give_up(rt, &mut session, &signals, limits);

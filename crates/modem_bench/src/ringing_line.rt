@@ -1,5 +1,7 @@
 //! A line between two threads, of which each wakes the other.
 ghost use Rattle.std.specs.Prelude.{◌≡◌};
+ghost use Rattle.serial_line.specs.OtherSide.{AreOpposite};
+ghost use Rattle.modem_bench.specs.Lines.{AreConnected};
 
 use bell::Bell;
 use serial_line::{LineFault, SerialLine, ThreadLine};
@@ -9,6 +11,15 @@ use std::marker::Model;
 pub trait CountedLine {
     /// How many octets it gave and took so far. The count ends at `u64::MAX`.
     fn moved(&self) -> u64;
+}
+
+/// An end of a line between two threads.
+pub trait PairedLine: SerialLine {
+    /// Ends a line, once one thread holds both its ends: of the octets that each of them sent the other received the first.
+    /// Requires the two ends of one line.
+    fn part(self, other: Self)
+        requires { AreOpposite (Self.other_side self) (Self.other_side other) }
+        ensures { AreConnected (Self.seen self) (Self.seen other) };
 }
 
 /// An end of a line between two threads. Each call that moves octets rings the bell of the thread at the other end, which has
@@ -57,13 +68,22 @@ impl CountedLine for RingingLine {
     }
 }
 
+impl PairedLine for RingingLine {
+    #[tactic(auto, using(crate::proofs::Lines::ends_of, crate::proofs::Lines::ends_back, crate::proofs::Lines::connected))]
+    fn part(self, other: RingingLine) {
+        let mut near = self.line;
+        let mut far = other.line;
+        let _to_far = near.under_way(&mut far);
+        let _to_near = far.under_way(&mut near);
+    }
+}
+
 impl SerialLine for RingingLine {
-    ghost use Rattle.serial_line.specs.OtherSide.{unknown_side};
-    ghost use Rattle.serial_line.specs.ThreadLine.{thread_view};
+    ghost use Rattle.serial_line.specs.ThreadLine.{thread_side, thread_view};
 
     ghost seen = { thread_view };
 
-    ghost other_side = { λ _. unknown_side };
+    ghost other_side = { thread_side };
 
     /// Reads. Where octets came, the other end has room.
     fn try_read(&mut self, buffer: &mut [u8]) -> Result<usize, LineFault> {

@@ -1,12 +1,13 @@
 //! A bench: callers, the driver and a simulated modem in threads of their own.
 ghost use Rattle.std.specs.Prelude.{◌≡◌, ◌≤◌, ◌<◌, IfOk, length, map, vec_items};
 ghost use Rattle.modem_desk.specs.Ends.{AreSubscribed, IsWhole, subscription_of, place_of};
+ghost use Rattle.serial_line.specs.OtherSide.{AreOpposite};
 ghost use Rattle.modem_bench.specs.Driving.{IsBegun};
 ghost use Rattle.modem_bench.specs.Running.{Ran, RanFor};
 
 use crate::ends::{Ends, begin, make_line};
 use crate::limit::Limits;
-use crate::ringing_line::CountedLine;
+use crate::ringing_line::{CountedLine, PairedLine};
 use crate::settling::settle_run;
 use crate::signals::{Fault, Signals};
 use crate::submission::Submission;
@@ -14,7 +15,6 @@ use crate::threads::run_beside;
 use modem_desk::Outcome;
 use modem_sim::Script;
 use results::beside;
-use serial_line::SerialLine;
 use std::alloc::Global;
 use std::sync::Wait;
 use std::thread::Threads;
@@ -32,10 +32,11 @@ fn run_threads<L, R>(
     limits: Limits,
 ) -> Result<Vec<Vec<Outcome>>, Fault>
 where
-    L: SerialLine + CountedLine + Drop + Send + 'static,
+    L: PairedLine + CountedLine + Drop + Send + 'static,
     R: Threads + Wait + Copy + Send + Drop + 'static,
     requires few { (0 < length ends.callers.items) × (length ends.callers.items ≤ 8) }
     requires begun { IsBegun L.seen ends.session }
+    requires one_line { AreOpposite (L.other_side ends.session.line) (L.other_side ends.sim.line) }
     requires callers { IsWhole ends.session.driver.desk (map place_of ends.callers.items) }
     requires listeners { AreSubscribed ends.session.driver.desk (map subscription_of ends.listeners.items) }
     ensures { IfOk result (λ outcomes. RanFor L.seen submissions.now ends.callers.items ends.session ends.sim (map vec_items outcomes.items)) }
@@ -46,7 +47,7 @@ where
         callers,
         listeners,
     } = ends;
-    let (session, back) = run_beside(
+    let back = run_beside(
         rt,
         alloc,
         session,
@@ -56,7 +57,7 @@ where
         signals,
         limits,
     )?;
-    settle_run(rt, alloc, session, back, listeners)
+    settle_run(rt, alloc, back, listeners)
 }
 
 /// Makes the line, begins at its two ends, and runs all.

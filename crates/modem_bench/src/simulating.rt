@@ -1,14 +1,14 @@
 //! The simulated modem's thread of a bench.
-ghost use Rattle.std.specs.Prelude.{◌≡◌, OnOk, Ok};
+ghost use Rattle.std.specs.Prelude.{◌≡◌, IfOk, OnOk, Ok};
 ghost use Rattle.modem_sim.specs.declared.sim.SimTurn.TheVariants.{Ended};
 ghost use Rattle.modem_bench.specs.Faults.{sim_end, sim_fault};
-ghost use Rattle.modem_bench.specs.Simulating.{IsSimulated};
+ghost use Rattle.modem_bench.specs.Simulating.{EndsAtLine, IsSimulated};
 
 use crate::cause::Cause;
 use crate::ringing_line::CountedLine;
 use crate::signals::{Fault, Signals};
 use modem_sim::{Sim, SimError, SimTurn};
-use results::spent;
+use results::unless_failed;
 use serial_line::SerialLine;
 use std::snapshot::Snapshot;
 use std::sync::Wait;
@@ -44,12 +44,14 @@ fn rest<R: Wait>(rt: &R, signals: &Signals, moved: bool) {
 }
 
 /// Polls a simulated modem to its end. Where a poll moved no octet it waits on its bell.
+#[tactic(auto, using(crate::proofs::Simulations::waited_none))]
 fn simulate_on<L: SerialLine + CountedLine, R: Wait>(
     rt: &R,
     sim: &mut Sim<L>,
     signals: &Signals,
 ) -> Result<(), Fault>
-    ensures { OnOk result (IsSimulated L.seen sim.old) }
+    ensures ended { OnOk result (IsSimulated L.seen sim.old sim.new) }
+    ensures beyond { L.other_side sim.new.line ≡ L.other_side sim.old.line }
 {
     for _ in rt.forever() {
         signals.check()?;
@@ -62,23 +64,23 @@ fn simulate_on<L: SerialLine + CountedLine, R: Wait>(
     unreachable!()
 }
 
-/// What the simulated modem does in its thread.
+/// What the simulated modem does in its thread. It is given back as it ended.
 pub fn simulate<L: SerialLine + CountedLine + Drop, R: Wait>(
     rt: &R,
     sim: Sim<L>,
     signals: Signals,
-) -> Result<(), Fault>
-    ensures { OnOk result (IsSimulated L.seen sim) }
+) -> Result<Sim<L>, Fault>
+    ensures { IfOk result (EndsAtLine L.seen L.other_side sim) }
 {
     let mut sim = sim;
     let ended = simulate_on(rt, &mut sim, &signals);
-    spent(signals.or_give_up(rt, ended), sim)
+    unless_failed(signals.or_give_up(rt, ended), sim)
 }
 
-/// The end of this simulated modem.
+/// The same simulated modem, once it has ended.
 #[derive(Drop)]
 pub struct Ending<L: SerialLine + Drop>(pub Snapshot<Sim<L>>);
 
-impl<L: SerialLine + Drop> Promise<Result<(), Fault>> for Ending<L> {
-    ghost kept_by = { λ p r. OnOk r (IsSimulated L.seen p.0.value) };
+impl<L: SerialLine + Drop> Promise<Result<Sim<L>, Fault>> for Ending<L> {
+    ghost kept_by = { λ p r. IfOk r (EndsAtLine L.seen L.other_side p.0.value) };
 }

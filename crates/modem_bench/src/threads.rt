@@ -1,8 +1,8 @@
 //! The threads of a bench: the driver's, the simulated modem's, and the callers' in between.
-ghost use Rattle.std.specs.Prelude.{◌≡◌, ◌≤◌, ◌<◌, IfOk, Ok, OnOk, length};
-ghost use Rattle.modem_bench.specs.Driving.{Continues};
+ghost use Rattle.std.specs.Prelude.{◌≡◌, ◌≤◌, ◌<◌, IfOk, Ok, length};
+ghost use Rattle.modem_bench.specs.Driving.{StopsAtLine};
 ghost use Rattle.modem_bench.specs.Running.{AreCalled};
-ghost use Rattle.modem_bench.specs.Simulating.{IsSimulated};
+ghost use Rattle.modem_bench.specs.Simulating.{EndsAtLine};
 
 use crate::calling::Worked;
 use crate::crew::call;
@@ -23,6 +23,14 @@ use std::sync::Wait;
 use std::thread;
 use std::thread::{PromisedHandle, SpawnError, Threads};
 
+/// What comes back from the threads of a bench: the session, the simulated modem, and the callers.
+#[derive(Drop)]
+pub struct Back<L: SerialLine + Drop, R: Wait + Drop> {
+    pub session: Session<L, R>,
+    pub sim: Sim<L>,
+    pub worked: Vec<Worked>,
+}
+
 /// A thread that was spawned. Generic, because proving the drop of a concrete closure is slow.
 fn spawned<H: Drop, F: Drop>(thread: Result<H, SpawnError<F>>) -> Result<H, Fault>
     ensures { IfOk result (λ h. thread ≡ Ok h) }
@@ -35,7 +43,7 @@ fn send_modem<L, R>(
     rt: &R,
     sim: Sim<L>,
     signals: &Signals,
-) -> Result<PromisedHandle<Result<(), Fault>, Ending<L>>, Fault>
+) -> Result<PromisedHandle<Result<Sim<L>, Fault>, Ending<L>>, Fault>
 where
     L: SerialLine + CountedLine + Drop + Send + 'static,
     R: Threads + Wait + Copy + Send + Drop + 'static,
@@ -47,7 +55,7 @@ where
     spawned(thread::spawn_with(rt, promise, move || simulate(&own, sim, theirs)))
 }
 
-/// What the callers do, beside the simulated modem's thread.
+/// What the callers do, beside the simulated modem's thread. It gives the simulated modem back as it ended.
 fn call_modem<L, R>(
     rt: &R,
     alloc: Global,
@@ -55,21 +63,20 @@ fn call_modem<L, R>(
     callers: Vec<Caller>,
     submissions: &[Submission],
     signals: &Signals,
-) -> Result<Vec<Worked>, Fault>
+) -> Result<(Sim<L>, Vec<Worked>), Fault>
 where
     L: SerialLine + CountedLine + Drop + Send + 'static,
     R: Threads + Wait + Copy + Send + Drop + 'static,
     requires { (0 < length callers.items) × (length callers.items ≤ 8) }
-    ensures called { IfOk result (λ back. AreCalled submissions.now callers.items back.items) }
-    ensures simulated { OnOk result (IsSimulated L.seen sim) }
+    ensures ended { IfOk result (λ r. EndsAtLine L.seen L.other_side sim r.0) }
+    ensures called { IfOk result (λ r. AreCalled submissions.now callers.items r.1.items) }
 {
     let simulating = send_modem(rt, sim, signals)?;
     let called = call(rt, alloc, callers, submissions, signals);
     if let Err(fault) = &called {
         signals.give_up(rt, *fault);
     }
-    simulating.join(rt)?;
-    called
+    both(simulating.join(rt), called)
 }
 
 /// Has a session go on in a thread of its own.
@@ -100,19 +107,24 @@ pub fn run_beside<L, R>(
     submissions: &[Submission],
     signals: &Signals,
     limits: Limits,
-) -> Result<(Session<L, R>, Vec<Worked>), Fault>
+) -> Result<Back<L, R>, Fault>
 where
     L: SerialLine + CountedLine + Drop + Send + 'static,
     R: Threads + Wait + Copy + Send + Drop + 'static,
     requires { (0 < length callers.items) × (length callers.items ≤ 8) }
-    ensures continues { IfOk result (λ r. Continues L.seen session r.0) }
-    ensures called { IfOk result (λ r. AreCalled submissions.now callers.items r.1.items) }
-    ensures simulated { OnOk result (IsSimulated L.seen sim) }
+    ensures stopped { IfOk result (λ b. StopsAtLine L.seen L.other_side session b.session) }
+    ensures ended { IfOk result (λ b. EndsAtLine L.seen L.other_side sim b.sim) }
+    ensures called { IfOk result (λ b. AreCalled submissions.now callers.items b.worked.items) }
 {
     let (driving, sim) = beside(send_driver(rt, session, signals, limits), sim)?;
     let called = call_modem(rt, alloc, sim, callers, submissions, signals);
     if let Err(fault) = &called {
         signals.give_up(rt, *fault);
     }
-    both(driving.join(rt), called)
+    let (session, (sim, worked)) = both(driving.join(rt), called)?;
+    Ok(Back {
+        session,
+        sim,
+        worked,
+    })
 }

@@ -1,5 +1,4 @@
 pub mod commands
-pub mod lists
 pub mod replays
 pub mod cores
 pub mod requests

@@ -4,6 +4,7 @@ pub mod LanesAfterFrame
 pub mod OtherFrames
 pub mod DataLines
 pub mod DataLanes
+pub mod OpenCommands
 pub mod DataFrames
 pub mod QueueRoom
 pub mod DataStays

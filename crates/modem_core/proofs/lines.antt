@@ -1,3 +1,4 @@
 -- Lines that are read and reported, and answers that are whole.
+pub mod LateLines
 pub mod ReportedLines
 pub mod WholeAnswers

@@ -1,15 +1,15 @@
 -- What a core keeps after a frame has gone out.
-use Rattle.std.specs.Prelude.{◌≡◌, ◌<◌, ℕ, ◌+◌, IfSome, nat_le, List, length, Option, None, Some, option_map, is_none, slice_set, if◌then◌else◌}
-use Rattle.std.specs.List.{sum_by}
-use Rattle.at_text.specs.OpenWindow.{opened}
+use Rattle.std.specs.Prelude.{◌≡◌, ◌<◌, ℕ, ◌+◌, IfSome, nat_le, Bool, List, length, Option, None, Some, is_none, slice_set, if◌then◌else◌}
+use Rattle.std.specs.List.{list_any, sum_by}
+use Rattle.at_text.specs.UnderWay.{unanswered}
 use Rattle.mux_station.specs.Acts as station
 use Rattle.mux_station.specs.Stations.{Station, Channel, channel_at}
 use Rattle.mux_station.specs.Fitting as station_fits
 use Rattle.mux_station.specs.Giving.{next_sender, station_after, SendsNext}
 use Rattle.mux_station.specs.GivenFrames.{Outgoing}
 use Rattle.modem_history.specs.Acts.{Act}
-use Rattle.modem_history.specs.Information.{line_of}
-use Rattle.modem_history.specs.Calls.{Setting, first_on}
+use Rattle.modem_history.specs.Calls.{Setting}
+use Rattle.modem_history.specs.Requests.{commands_on}
 use Rattle.modem_core.specs.Cores.{Core, Fits, IsRun, IsSettingOf, lane_at}
 use Rattle.modem_history.specs.GoingOut.{next_out, after_out}
 
@@ -19,20 +19,23 @@ pub record StandsIn (s : Setting) (v : Core) (past : List Act) : Type 0 where
   pub fits : Fits v past
   pub run : IsRun s past
 
--- a command's window begins, where none is open
-abbrev pub begun_by : Core → ℕ → Option (List ℕ) → Core
-begun_by v d None = v
-begun_by v d (Some line) =
-    if is_none (lane_at v d).window
-    then record v { lanes = slice_set v.lanes d (record (lane_at v d) { window = Some (opened line) }) }
+-- a command is under way on d, where none was
+abbrev pub begun_lane : Core → ℕ → Core
+begun_lane v d =
+    if is_none (lane_at v d).under_way
+    then record v { lanes = slice_set v.lanes d (record (lane_at v d) { under_way = Some unanswered }) }
     else v
+
+-- the same, where one is in hand
+abbrev pub begun_by : Core → ℕ → (has : Bool) → Core
+begun_by v d has = if has then begun_lane v d else v
 
 -- where all octets that wait on d fit into the next frame, the window of the first command on d begins
 abbrev pub begun_on : Core → Option ℕ → Core
 begun_on v None = v
 begun_on v (Some d) =
     if nat_le (length (channel_at v.station d).waiting) v.station.n1
-    then begun_by v d (option_map line_of (first_on d v.hand)) else v
+    then begun_by v d (list_any (commands_on d) v.hand) else v
 
 -- the core, with the window begun of the command whose last octets go out next
 abbrev pub begun_next : Core → Core

@@ -4,7 +4,7 @@ use Rattle.std.specs.List.{list_all, concat, Contains}
 use Rattle.at_text.specs.declared.unsolicited.UrcKind.{UrcKind}
 use Rattle.at_text.specs.Dialects.{Dialect}
 use Rattle.at_text.specs.Rules.{Rules, no_rules, dialect_of}
-use Rattle.at_text.specs.OpenWindow.{FitsMarks}
+use Rattle.at_text.specs.UnderWay.{FitsUnderWay}
 use Rattle.at_text.specs.Windows.{answered}
 use Rattle.mux_station.specs.declared.role.Role.TheVariants.{Initiator}
 use Rattle.mux_station.specs.declared.role.ChannelState.{ChannelState}
@@ -104,11 +104,11 @@ abbrev pub probe_in : List Act → List Request → Option Waiting
 probe_in past [] = None
 probe_in past (r ∷ rs) = probe_or past r r.ask (probe_in past rs)
 
--- an open connection: what is kept of its unfinished line and of its window is what the past says, and its
+-- an open connection: what is kept of its unfinished line and of the answer under way is what the past says, and its
 -- accepted commands were put into the station's ring as far as the first one whose answer isn't whole
 pub record LaneFits (dialect : Dialect) (d : ℕ) (seen : List station.Act) (past : List Act) (lane : Lane) : Type 0 where
   pub kept_is : run_on Initiator d past ≡ lane.kept
-  pub window_fits : FitsMarks dialect lane.window (marks Initiator d past)
+  pub under_way_fits : FitsUnderWay dialect lane.under_way (marks Initiator d past)
   pub offered_is : offered Initiator d seen
       ≡ concat (texts (take (answered dialect (marks Initiator d past) + 1) (accepted Initiator d past)))
 

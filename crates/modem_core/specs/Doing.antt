@@ -11,12 +11,12 @@ use Rattle.modem_history.specs.Turns.{outcomes_told, lines_heard}
 use Rattle.modem_core.specs.ActLists.{ActList}
 use Rattle.modem_history.specs.Calls.{Setting}
 use Rattle.modem_core.specs.Cores.{Core, Handles, MayCome}
-use Rattle.modem_core.specs.Stops.{asker_of, is_answered, is_stop}
+use Rattle.modem_queues.specs.Stops.{asker_of, is_answered, is_stop}
 use Rattle.modem_core.specs.Holding.{KeepsHeld}
 use Rattle.modem_core.specs.Receiving.{cut_to}
 use Rattle.modem_core.specs.TakenActs.{taken_acts}
 use Rattle.modem_core.specs.Telling.{told_to, Telling}
-use Rattle.modem_core.specs.declared.asker.Asker.{Asker}
+use Rattle.modem_queues.specs.declared.asker.Asker.{Asker}
 
 -- ## The acts
 

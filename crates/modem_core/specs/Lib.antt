@@ -1,5 +1,4 @@
 pub mod Telling
-pub mod Hands
 pub mod Lanes
 pub mod Settling
 pub mod Cores
@@ -20,8 +19,6 @@ pub mod Reports
 pub mod Handing
 pub mod Holding
 pub mod WaitingLists
-pub mod LineQueues
-pub mod Stops
 pub mod Numbers
 pub mod Placing
 pub mod TakenActs

@@ -9,12 +9,10 @@ use Rattle.modem_desk.specs.declared.request.Outcome.{Outcome}
 use Rattle.modem_desk.specs.declared.request.Urc.{Urc}
 use Rattle.modem_desk.specs.Ends.{DriverView, DeskId}
 use Rattle.at_text.specs.Kinds.{kind_place}
+use Rattle.modem_queues.specs.LineQueues.{of_key, place_of}
 use Rattle.modem_history.specs.Sessions.{at_place}
 use Rattle.modem_history.specs.EveryTurn.{count_at}
 use Rattle.modem_history.specs.Turns.{amount, counted}
-
-abbrev pub of_key : {X : Type 0} → (X → ℕ) → ℕ → List X → List X
-of_key key n xs = filter (λ x. key x == n) xs
 
 -- of each ring, what it was given, how many places it is known to have free, and how often something for it was
 -- handed back
@@ -97,10 +95,6 @@ OffersFirst {X} key at known now later held more_held old new moved =
 -- the caller whose outcome it is
 abbrev pub caller_of : Outcome → ℕ
 caller_of o = o.caller
-
--- the place of a line's kind
-abbrev pub place_of : Urc → ℕ
-place_of u = kind_place u.kind
 
 -- no line waits of a kind that is listened to and isn't held up
 abbrev pub LeavesAll : (kinds : List UrcKind) → (held : List Bool) → List Urc → Type 0

@@ -1,5 +1,5 @@
 -- What is said of the lines of a connection, as its octets are read.
-use Rattle.std.specs.Prelude.{◌≡◌, ℕ, ◌↔◌, Bool, true, List, [], ◌∷◌, ◌++◌, Option, None, Some, if◌then◌else◌}
+use Rattle.std.specs.Prelude.{◌≡◌, ℕ, ◌↔◌, Bool, true, List, [], ◌∷◌, ◌++◌, Option, None, Some, option_map, if◌then◌else◌}
 use Rattle.std.specs.List.{Contains}
 use Rattle.at_text.specs.declared.answer.AnswerLine.{AnswerLine}
 use Rattle.at_text.specs.declared.unsolicited.UrcKind.{UrcKind}
@@ -9,10 +9,28 @@ use Rattle.at_text.specs.declared.window.Seen.TheVariants.{Echo, Kept, Unsolicit
 use Rattle.at_text.specs.Dialects.{Dialect}
 use Rattle.at_text.specs.Lines.{lines, kept_run}
 use Rattle.at_text.specs.OpenWindow.{OpenWindow, seen_by, after_line}
+use Rattle.at_text.specs.Rules.{dialect_of}
 use Rattle.modem_desk.specs.declared.request.Answer.TheVariants.{Done}
-use Rattle.modem_core.specs.declared.asker.Asker.{Asker}
+use Rattle.modem_queues.specs.declared.asker.Asker.{Asker}
 use Rattle.modem_core.specs.declared.reports.Reading as code
+use Rattle.modem_queues.specs.Stops.{asker_of}
 use Rattle.modem_history.specs.Acts.{Act, Told, Heard}
+use Rattle.modem_history.specs.Calls.{first_on}
+
+-- how the lines of connection dlci are read: by this dialect, with these kinds listened to, and who asked for the command under way
+pub record ReadingView : Type 0 where
+  pub dialect : Dialect
+  pub kinds : List UrcKind
+  pub dlci : ℕ
+  pub owner : Option Asker
+
+abbrev pub reading_of : code.Reading → ReadingView
+reading_of r = record {
+  dialect = dialect_of r.dialect.now;
+  kinds = r.kinds.now;
+  dlci = r.dlci.number;
+  owner = option_map asker_of (first_on r.dlci.number r.hand.now);
+}
 
 -- these kinds are listened to
 unfoldable pub Listens : (UrcKind → Bool) → List UrcKind → Type 0
@@ -66,20 +84,11 @@ read_each dialect listens d owner v [] = v
 read_each dialect listens d owner v (c ∷ octets) =
     read_each dialect listens d owner (read_on dialect listens d owner v (c ∷ [])) octets
 
--- one octet is read, whatever is listened to
-unfoldable pub ReadsOctet : (dialect : Dialect) → List UrcKind → code.Reading → ℕ → Read → Read → Type 0
-ReadsOctet dialect kinds r c old new =
-    (listens : UrcKind → Bool) → Listens listens kinds
-    → new ≡ read_on dialect listens r.dlci.number r.owner old (c ∷ [])
-
 -- octets are read one after the other, whatever is listened to
-unfoldable pub ReadsAll : (dialect : Dialect) → List UrcKind → code.Reading → List ℕ → Read → Read → Type 0
-ReadsAll dialect kinds r octets old new =
-    (listens : UrcKind → Bool) → Listens listens kinds
-    → new ≡ read_each dialect listens r.dlci.number r.owner old octets
+unfoldable pub ReadsAll : ReadingView → List ℕ → Read → Read → Type 0
+ReadsAll r octets old new =
+    (listens : UrcKind → Bool) → Listens listens r.kinds → new ≡ read_each r.dialect listens r.dlci r.owner old octets
 
 -- these acts are said behind the others, whatever is listened to
-unfoldable pub ReportSays : List UrcKind → code.Reading → ((UrcKind → Bool) → List Act) → List Act → List Act
-    → Type 0
-ReportSays kinds r said old new =
-    (listens : UrcKind → Bool) → Listens listens kinds → new ≡ old ++ said listens
+unfoldable pub ReportSays : ReadingView → ((UrcKind → Bool) → List Act) → List Act → List Act → Type 0
+ReportSays r said old new = (listens : UrcKind → Bool) → Listens listens r.kinds → new ≡ old ++ said listens

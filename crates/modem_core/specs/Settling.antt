@@ -3,16 +3,14 @@
 use Rattle.std.specs.Prelude.{◌≡◌, ℕ, Bool, true, false, List, [], ◌∷◌, Option, None, if◌then◌else◌}
 use Rattle.std.specs.List.{list_any}
 use Rattle.at_text.specs.declared.answer.AnswerLine.{AnswerLine}
-use Rattle.at_text.specs.declared.unsolicited.UrcKind.{UrcKind}
-use Rattle.at_text.specs.declared.window.Placed.{Placed}
+use Rattle.at_text.specs.declared.under_way.Placed.{Placed}
 use Rattle.at_text.specs.OpenWindow.{OpenWindow}
 use Rattle.at_text.specs.InPlace.{lines_so_far, said_where, left_where}
 use Rattle.modem_desk.specs.declared.request.Answer.{Answer}
 use Rattle.modem_desk.specs.declared.request.Answer.TheVariants.{Done}
 use Rattle.modem_history.specs.Acts.{Act, Told}
-use Rattle.modem_core.specs.declared.reports.Reading as code
 use Rattle.modem_core.specs.Lanes.{Lane}
-use Rattle.modem_core.specs.Reports.{Read, ReportSays, said_as}
+use Rattle.modem_core.specs.Reports.{Read, ReadingView, ReportSays, said_as}
 
 -- an answer that has lines
 abbrev pub has_lines : Answer → Bool
@@ -43,9 +41,9 @@ filled_first ls (a ∷ acts) = if tells_lines a then filled ls a ∷ acts else a
 abbrev pub settled_window : (whole : Bool) → Option OpenWindow → Option OpenWindow
 settled_window whole window = if whole then None else window
 
--- the lane with that window
+-- the lane without a command whose answer is whole
 abbrev pub settled_lane : (whole : Bool) → Lane → Lane
-settled_lane whole l = record l { window = settled_window whole l.window }
+settled_lane whole l = record l { under_way = if whole then None else l.under_way }
 
 -- the acts once they tell its lines
 abbrev pub settled_acts : (whole : Bool) → Option OpenWindow → List Act → List Act
@@ -61,10 +59,10 @@ abbrev pub IsUntold : (whole : Bool) → List Act → Type 0
 IsUntold whole acts = whole ≡ false → list_any tells_lines acts ≡ false
 
 -- a line was placed in a window that has become this, where no answer was whole before
-pub record SaysPlaced (kinds : List UrcKind) (r : code.Reading) (line : List ℕ) (placed : Placed) (window : Option OpenWindow)
+pub record SaysPlaced (r : ReadingView) (line : List ℕ) (placed : Placed) (window : Option OpenWindow)
     (old : List Act) (whole : Bool) (new : List Act) : Type 0 where
   pub window_is : settled_window whole window ≡ left_where placed window
   pub says : list_any tells_lines old ≡ false
-      → ReportSays kinds r (λ listens. said_as listens r.dlci.number r.owner line (said_where placed window)) old
+      → ReportSays r (λ listens. said_as listens r.dlci r.owner line (said_where placed window)) old
       (settled_acts whole window new)
   pub untold : list_any tells_lines old ≡ false → IsUntold whole new

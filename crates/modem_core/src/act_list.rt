@@ -3,9 +3,9 @@ ghost use Rattle.std.specs.Prelude.{◌≡◌, ◌-◌, ◌<◌, ◌≤◌, ◌+
 ghost use Rattle.std.specs.VecDeque.{deque_capacity};
 ghost use Rattle.modem_history.specs.Acts.{Told, act_of};
 
-use crate::hand::IN_HAND;
 use modem_desk::Outcome;
 use modem_history::Act;
+use modem_queues::IN_HAND;
 use std::alloc::{AllocError, Global};
 use std::collections::VecDeque;
 use std::marker::Model;

@@ -75,7 +75,7 @@ impl Core {
         self.lanes.holds_none()
     }
 
-    fn is_open(&self, dlci: Dlci) -> bool
+    pub(crate) fn is_open(&self, dlci: Dlci) -> bool
         ensures { result ≡ is_opened (channel_at self.now.station dlci.number).state }
     {
         self.station.state(dlci) == ChannelState::Opened

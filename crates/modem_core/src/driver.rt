@@ -1,7 +1,7 @@
 //! The core: the driver without line, desk, threads and clock.
 ghost use Rattle.std.specs.Prelude.{◌≡◌, ◌≢◌, ◌↔◌, ◌+◌, ◌<◌, ◌≤◌, List, [], length, replicate, map, find, option_map, vec_capacity, true, IfOk, IsErrOf, OnOk, OnErr};
 ghost use Rattle.modem_history.specs.Acts.{Act as Happening, act_of, Lost};
-ghost use Rattle.modem_core.specs.Stops.{asker_of, is_stop};
+ghost use Rattle.modem_queues.specs.Stops.{asker_of, is_stop};
 ghost use Rattle.modem_core.specs.Cores.{core_by, new_core, state_shown, Fits, Handles};
 ghost use Rattle.modem_core.specs.Holding.{HoldsFit, KeepsHeld};
 ghost use Rattle.modem_core.specs.Doing.{Does, QueuesAtMost};
@@ -10,14 +10,13 @@ ghost use Rattle.mux_frame.specs.Spelling.{IsBadN1};
 ghost use Rattle.modem_core.specs.declared.error.CoreError.TheVariants as CoreError;
 
 use crate::act_list::{ActList, none_told, push_told};
-use crate::asker::Asker;
 use crate::error::CoreError;
-use crate::hand::Hand;
 use crate::lanes::Lanes;
 use crate::telling::{Happened, state_of, tell_on};
 use at_text::{Dialect, UrcKind};
 use modem_desk::{Outcome, Request};
 use modem_history::Act;
+use modem_queues::{Asker, Hand};
 use mux_frame::Dlci;
 use mux_station::{ChannelState, Role, Station, StationError};
 use std::alloc::Global;
@@ -162,13 +161,6 @@ impl Core {
             false,
             told,
         )
-    }
-
-    /// How many more requests may be in hand.
-    pub fn hand_left(&self) -> usize
-        ensures { result + length self.now.hand ≡ 128 }
-    {
-        self.hand.left()
     }
 
     /// Whether the line is lost.

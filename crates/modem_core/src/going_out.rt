@@ -1,17 +1,17 @@
 //! Frames that go out.
-ghost use Rattle.std.specs.Prelude.{◌≡◌, ◌≤◌, length, nat_le, option_map, IfNone, IfSome};
+ghost use Rattle.std.specs.Prelude.{◌≡◌, ◌≤◌, length, nat_le, option_map, false, None, IfNone, IfSome};
 ghost use Rattle.modem_core.specs.Running.{CoreIsIdle};
 ghost use Rattle.std.specs.Borrow.{sem};
 ghost use Rattle.std.specs.Io.BufRead.{Rests};
 ghost use Rattle.mux_station.specs.GivenFrames.{outgoing_of};
 ghost use Rattle.mux_station.specs.Stations.{channel_at};
-ghost use Rattle.modem_history.specs.Information.{line_of};
-ghost use Rattle.modem_history.specs.Calls.{first_on};
+ghost use Rattle.std.specs.List.{list_any};
+ghost use Rattle.modem_history.specs.Requests.{commands_on};
 ghost use Rattle.modem_core.specs.CoreGoing.{begun_by, begun_next, gone_on, GoesOut, CoreGoesOn, LeavesLess, SendsTruly};
 ghost use Rattle.modem_core.specs.Holding.{KeepsHeldOut};
 
 use crate::driver::Core;
-use crate::hand::first_line;
+use modem_queues::has_command;
 use mux_frame::Dlci;
 use mux_station::Outgoing;
 use mux_station::laws::givings;
@@ -21,13 +21,11 @@ impl Core {
 
     /// The first command on the connection is whole: its window begins, where none is open.
     fn begin_first(&mut self, dlci: Dlci)
-        ensures { self.new
-            ≡ begun_by self.old dlci.number (option_map line_of (first_on dlci.number self.old.hand)) }
+        ensures { self.new ≡ begun_by self.old dlci.number (list_any (commands_on dlci.number) self.old.hand) }
     {
-        let Some(line) = first_line(self.hand.from_first(dlci), dlci) else {
-            return;
-        };
-        self.lanes.begin(dlci, line);
+        if has_command(&self.hand, dlci) {
+            self.lanes.begin(dlci);
+        }
     }
 
     /// Whether all octets that wait on the connection fit one frame.
@@ -50,6 +48,17 @@ impl Core {
         if self.fits_a_frame(dlci) {
             self.begin_first(dlci);
         }
+    }
+
+    /// False only where `outgoing` lends no frame.
+    pub fn has_outgoing(&self) -> bool
+        ensures none { result ≡ false → GoesOut self.now None }
+        ensures idle { result ≡ false → CoreIsIdle self.now }
+    {
+        if self.lost {
+            return false;
+        }
+        self.station.has_outgoing()
     }
 
     /// Takes out the next frame for the line and lends it: the first of the control queue, or, where that is empty,

@@ -1,5 +1,5 @@
 //! Handles received frames (27.010, 5.4).
-ghost use Rattle.std.specs.Prelude.{List, None, ◌≡◌, ◌≢◌, ◌≤◌, ◌<◌, ◌+◌, ◌-◌, ◌++◌, ◌∷◌, ◌&&◌, ◌||◌, not, [], true, false, length, drop, map, slice_get, slice_set, is_some, is_none, IfOk, IfSome, IfNone, OnOk, OnErr, vec_capacity};
+ghost use Rattle.std.specs.Prelude.{List, None, ◌≡◌, ◌≢◌, ◌≤◌, ◌<◌, ◌+◌, ◌-◌, ◌++◌, ◌∷◌, ◌&&◌, ◌||◌, not, [], true, false, length, drop, map, slice_get, slice_set, is_some, is_none, if◌then◌else◌, IfOk, IfSome, IfNone, OnOk, OnErr, vec_capacity};
 ghost use Rattle.std.specs.VecDeque.{deque_capacity};
 ghost use Rattle.modem_core.specs.Doing.{Does, QueuesAtMost};
 ghost use Rattle.mux_frame.specs.Frames.{frame_of, kept_frame};
@@ -13,8 +13,8 @@ ghost use Rattle.mux_station.specs.Tables.{have_room, octets_of, by_frame};
 ghost use Rattle.modem_history.specs.Acts.{Act as Happening, act_of, Got};
 ghost use Rattle.modem_core.specs.Running.{CoreIsIdle};
 ghost use Rattle.modem_core.specs.Cores.{Handles, shows_opened, lane_at};
-ghost use Rattle.modem_core.specs.Lanes.{new_lane};
-ghost use Rattle.modem_core.specs.Handing.{OffersLine, EndsCommand, EndedBy};
+ghost use Rattle.modem_core.specs.Lanes.{awaits_echo, lane_in, new_lane};
+ghost use Rattle.modem_core.specs.Handing.{text_on, OffersLine, EndsCommand, EndedBy};
 ghost use Rattle.modem_core.specs.Settling.{tells_lines};
 ghost use Rattle.std.specs.List.{list_any};
 ghost use Rattle.modem_core.specs.Receiving.{HasRoom, answer_room, cut_to, sent_in, afresh_if, brings_data};
@@ -24,16 +24,15 @@ ghost use Rattle.modem_core.specs.declared.error.CoreError.TheVariants as CoreEr
 use crate::act_list::{ActList, none_told, push_told};
 use crate::driver::Core;
 use crate::error::CoreError;
-use crate::hand::{first_asker, first_line, remove_command};
-use crate::line_queue::{LineRoom, NoQueue};
-use crate::reports::Reading;
-use crate::settling::Draft;
+use crate::lanes::Lanes;
+use crate::reports::{Reading, Said};
 use crate::telling::{Happened, tell_on};
 use crate::took::offer_line;
 use crate::waiting::Waiting;
 use at_text::CommandLine;
 use modem_desk::Outcome;
 use modem_history::Act;
+use modem_queues::{Hand, LineRoom, NoQueue, first_command, remove_command, text_of};
 use mux_frame::{Dlci, FrameBuf, FrameView, Info, Kind};
 use mux_station::{ChannelState, Noted, Station};
 use std::collections::VecDeque;
@@ -213,7 +212,7 @@ impl Core {
         ensures { EndsCommand self.old self.new dlci.number }
     {
         remove_command(&mut self.hand, dlci);
-        if let Some(line) = first_line(self.hand.from_first(dlci), dlci) {
+        if let Some(line) = first_command(self.hand.from_first(dlci), dlci).line {
             offer_next(&mut self.station, dlci, line);
         }
     }
@@ -227,23 +226,23 @@ impl Core {
         }
     }
 
-    /// Data of an open connection is read, the station stays as it is, and where the command under way has its answer, the next
-    /// one goes out. What is said goes behind the acts. Want of memory changes nothing.
+    /// Data of an open connection is read; the hand lends the text of the command under way. The station stays as it is, and where
+    /// that command has its answer, the next one goes out. What is said goes behind the acts. Want of memory changes nothing.
     fn read<P: LineRoom>(
         &mut self,
         frame: FrameView<'_>,
-        draft: &mut Draft,
+        said: &mut Said,
         lines: &mut P,
     ) -> Result<(), CoreError>
         requires short { length frame.info.now ≤ most_info self.old.station.n1 frame.kind }
         requires is_data { brings_data self.old (frame_of frame) ≡ true }
-        requires untold { list_any tells_lines (map act_of draft.old.said.acts.items) ≡ false }
-        ensures past { OnOk result ((lead : List Happening) → lead ++ map act_of draft.old.said.acts.items ≡ Got (frame_of frame.entry) ∷ []
-            → Handles self.old self.new (Got (frame_of frame.entry)) (lead ++ map act_of draft.new.said.acts.items)) }
-        ensures holds { OnOk result ((lead : List Happening) → lead ++ map act_of draft.old.said.acts.items ≡ Got (frame_of frame.entry) ∷ []
-            → KeepsHeld self.old self.new (Got (frame_of frame.entry)) (lead ++ map act_of draft.new.said.acts.items)) }
+        requires untold { list_any tells_lines (map act_of said.old.acts.items) ≡ false }
+        ensures past { OnOk result ((lead : List Happening) → lead ++ map act_of said.old.acts.items ≡ Got (frame_of frame.entry) ∷ []
+            → Handles self.old self.new (Got (frame_of frame.entry)) (lead ++ map act_of said.new.acts.items)) }
+        ensures holds { OnOk result ((lead : List Happening) → lead ++ map act_of said.old.acts.items ≡ Got (frame_of frame.entry) ∷ []
+            → KeepsHeld self.old self.new (Got (frame_of frame.entry)) (lead ++ map act_of said.new.acts.items)) }
         ensures has_room { OnOk result (HasRoom self.old (Got (frame_of frame.entry)) true) }
-        ensures room { OnOk result (P.has_room lines.new (length draft.new.said.acts.items)) }
+        ensures room { OnOk result (P.has_room lines.new (length said.new.acts.items)) }
         ensures lines { P.lines lines.new ≡ P.lines lines.old }
         ensures no_memory { OnErr result (result ≡ Err CoreError.NoMemory) }
         ensures err { OnErr result (self.new ≡ self.old) }
@@ -253,16 +252,12 @@ impl Core {
         let reading = Reading {
             alloc: self.alloc,
             dlci: frame.dlci,
-            owner: first_asker(self.hand.from_first(frame.dlci), frame.dlci),
+            hand: &self.hand,
+            command: echo_text(&self.hand, &self.lanes, frame.dlci),
+            dialect: &self.dialect,
+            kinds: self.kinds.as_slice(),
         };
-        let done = self.lanes.read(
-            reading,
-            &self.dialect,
-            self.kinds.as_slice(),
-            frame.info,
-            draft,
-            lines,
-        )?;
+        let done = self.lanes.read(&reading, frame.info, said, lines)?;
         self.go_on(frame.dlci, done);
         Ok(())
     }
@@ -280,28 +275,27 @@ impl Core {
         ensures err { OnErr result (self.new ≡ self.old) }
         ensures n1 { self.new.station.n1 ≡ self.old.station.n1 }
     {
-        let mut draft = Draft::new(self.alloc);
-        draft.said.acts.push(Act::Got(frame.to_buf(self.alloc)?))?;
-        self.read(frame, &mut draft, &mut NoQueue)?;
-        let Draft { said, .. } = draft;
+        let mut said = Said::new(self.alloc);
+        said.acts.push(Act::Got(frame.to_buf(self.alloc)?))?;
+        self.read(frame, &mut said, &mut NoQueue)?;
         Ok(said.acts)
     }
 
-    /// As `got_data`, but without the act Got, by a draft of the caller's, in which what is said is left. It makes no copy of the
-    /// frame, and room where what is said can wait. Refusal: 1 NoMemory, which changes nothing else.
+    /// As `got_data`, but without the act Got. What is said is left with the caller, whose list of acts keeps its memory. It makes no
+    /// copy of the frame, and room where what is said can wait. Refusal: 1 NoMemory, which changes nothing else.
     pub fn follow(
         &mut self,
         frame: FrameView<'_>,
-        draft: &mut Draft,
+        said: &mut Said,
         waiting: &mut Waiting,
     ) -> Result<(), CoreError>
         requires short { length frame.info.now ≤ most_info self.old.station.n1 frame.kind }
         requires is_data { brings_data self.old (frame_of frame) ≡ true }
         ensures past { OnOk result (Handles self.old self.new (Got (frame_of frame.entry))
-            (Got (frame_of frame.entry) ∷ map act_of draft.new.said.acts.items)) }
+            (Got (frame_of frame.entry) ∷ map act_of said.new.acts.items)) }
         ensures holds { OnOk result (KeepsHeld self.old self.new (Got (frame_of frame.entry))
-            (Got (frame_of frame.entry) ∷ map act_of draft.new.said.acts.items)) }
-        ensures room { OnOk result (length draft.new.said.acts.items ≤ waiting.new.room) }
+            (Got (frame_of frame.entry) ∷ map act_of said.new.acts.items)) }
+        ensures room { OnOk result (length said.new.acts.items ≤ waiting.new.room) }
         ensures outcomes { waiting.new.outcomes ≡ waiting.old.outcomes }
         ensures lines { waiting.new.lines ≡ waiting.old.lines }
         ensures no_memory { OnErr result (result ≡ Err CoreError.NoMemory) }
@@ -309,8 +303,8 @@ impl Core {
         ensures n1 { self.new.station.n1 ≡ self.old.station.n1 }
         ensures lost { self.new.lost ≡ self.old.lost }
     {
-        draft.said.acts.clear();
-        self.read(frame, draft, &mut waiting.lines)
+        said.acts.clear();
+        self.read(frame, said, &mut waiting.lines)
     }
 
     /// Whether the frame is data of an open connection, and the line isn't lost.
@@ -320,7 +314,7 @@ impl Core {
         !self.lost
             && frame.kind == Kind::Uih
             && frame.dlci.number() != 0
-            && is_opened(self.station.state(frame.dlci))
+            && self.is_open(frame.dlci)
     }
 
     /// The same. Such a frame calls for no other, so there is room for what it calls for.
@@ -359,10 +353,15 @@ impl Core {
     }
 }
 
-fn is_opened(state: ChannelState) -> bool
-    ensures { result ≡ shows_opened state }
+/// The text of the command under way, where the next line may be its echo. Most frames come later: for those no command is looked up.
+fn echo_text<'a>(hand: &'a Hand, lanes: &Lanes, dlci: Dlci) -> &'a [u8]
+    ensures { result.now ≡ (if awaits_echo (lane_in lanes.now dlci.number).under_way
+        then text_on dlci.number hand.now else []) }
 {
-    matches!(state, ChannelState::Opened)
+    if !lanes.awaits_echo(dlci) {
+        return &[];
+    }
+    text_of(first_command(hand.from_first(dlci), dlci).line)
 }
 
 /// The next command goes out as its text and CR (V.250, 5.2.1).

@@ -1,17 +1,15 @@
 //! What is kept of all connections.
 ghost use Rattle.std.specs.Prelude.{◌≡◌, ◌≤◌, ◌&&◌, ℕ, false, true, is_none, is_some, length, map, replicate, slice_set, IfOk, OnErr, OnOk};
 ghost use Rattle.std.specs.List.{list_any};
-ghost use Rattle.at_text.specs.Rules.{dialect_of};
+ghost use Rattle.at_text.specs.UnderWay.{window_of};
 ghost use Rattle.modem_history.specs.Acts.{act_of};
-ghost use Rattle.modem_core.specs.Reports.{ReadsAll};
+ghost use Rattle.modem_core.specs.Reports.{reading_of, ReadsAll};
 ghost use Rattle.modem_core.specs.Settling.{tells_lines};
-ghost use Rattle.modem_core.specs.Lanes.{begun, lane_in, new_lane, turned};
+ghost use Rattle.modem_core.specs.Lanes.{awaits_echo, begun, lane_in, new_lane, turned};
 
 use crate::lane::Lane;
-use crate::line_queue::LineRoom;
-use crate::reports::Reading;
-use crate::settling::Draft;
-use at_text::{CommandLine, Dialect, UrcKind};
+use crate::reports::{Reading, Said};
+use modem_queues::LineRoom;
 use mux_frame::Dlci;
 use std::alloc::{AllocError, Global};
 use std::marker::Model;
@@ -95,48 +93,51 @@ impl Lanes {
         lane.start();
     }
 
-    /// The window of one begins with this command, where none is open.
-    pub(crate) fn begin(&mut self, dlci: Dlci, line: &CommandLine)
-        ensures { self.new ≡ begun self.old dlci.number line.now }
+    /// The first command in hand on one is under way, where none was.
+    pub(crate) fn begin(&mut self, dlci: Dlci)
+        ensures { self.new ≡ begun self.old dlci.number }
     {
         let lane = &mut self.each[usize::from(dlci.number())];
-        if lane.window.idle() {
-            lane.window.begin(line);
+        if lane.under_way.idle() {
+            lane.under_way.begin();
         }
     }
 
-    /// Reads octets of one, and says whether a command that was under way there has ended. Want of memory changes nothing.
+    /// Whether the next line on one may be the echo of the command under way.
+    pub(crate) fn awaits_echo(&self, dlci: Dlci) -> bool
+        ensures { result ≡ awaits_echo (lane_in self.now dlci.number).under_way }
+    {
+        self.each[usize::from(dlci.number())].awaits_echo()
+    }
+
+    /// Reads octets of one, and says whether the command under way has ended. Want of memory changes nothing.
+    #[tactic(auto, using(crate::proofs::cores::HeldLanes::held_as_before))]
     pub(crate) fn read<P: LineRoom>(
         &mut self,
-        reading: Reading,
-        dialect: &Dialect,
-        kinds: &[UrcKind],
+        reading: &Reading<'_>,
         octets: &[u8],
-        draft: &mut Draft,
+        said: &mut Said,
         lines: &mut P,
     ) -> Result<bool, AllocError>
-        requires { list_any tells_lines (map act_of draft.old.said.acts.items) ≡ false }
-        ensures lanes { self.new ≡ slice_set self.old reading.dlci.number (lane_in self.new reading.dlci.number) }
-        ensures read { OnOk result (ReadsAll (dialect_of dialect.now) kinds.now reading octets.now (record {
-          kept = (lane_in self.old reading.dlci.number).kept;
-          window = (lane_in self.old reading.dlci.number).window;
-          acts = map act_of draft.old.said.acts.items;
+        requires { list_any tells_lines (map act_of said.old.acts.items) ≡ false }
+        ensures lanes { self.new ≡ slice_set self.old reading.now.dlci.number (lane_in self.new reading.now.dlci.number) }
+        ensures read { OnOk result (ReadsAll (reading_of reading.now) octets.now (record {
+          kept = (lane_in self.old reading.now.dlci.number).kept;
+          window = window_of reading.now.command.now (lane_in self.old reading.now.dlci.number).under_way;
+          acts = map act_of said.old.acts.items;
         }) (record {
-          kept = (lane_in self.new reading.dlci.number).kept;
-          window = (lane_in self.new reading.dlci.number).window;
-          acts = map act_of draft.new.said.acts.items;
+          kept = (lane_in self.new reading.now.dlci.number).kept;
+          window = window_of reading.now.command.now (lane_in self.new reading.now.dlci.number).under_way;
+          acts = map act_of said.new.acts.items;
         })) }
-        ensures held { (lane_in self.new reading.dlci.number).held ≡ (lane_in self.old reading.dlci.number).held }
+        ensures held { (lane_in self.new reading.now.dlci.number).held ≡ (lane_in self.old reading.now.dlci.number).held }
         ensures done { IfOk result (λ done.
-            done ≡ (is_some (lane_in self.old reading.dlci.number).window && is_none (lane_in self.new reading.dlci.number).window)) }
-        ensures room { OnOk result (P.has_room lines.new (length draft.new.said.acts.items)) }
+            done ≡ (is_some (lane_in self.old reading.now.dlci.number).under_way && is_none (lane_in self.new reading.now.dlci.number).under_way)) }
+        ensures room { OnOk result (P.has_room lines.new (length said.new.acts.items)) }
         ensures lines { P.lines lines.new ≡ P.lines lines.old }
         ensures err { OnErr result (self.new ≡ self.old) }
     {
         let lane = &mut self.each[usize::from(reading.dlci.number())];
-        let may_hold = self.may_hold || lane.held;
-        let done = lane.read(reading, dialect, kinds, octets, draft, lines)?;
-        self.may_hold = may_hold;
-        Ok(done)
+        lane.read(reading, octets, said, lines)
     }
 }

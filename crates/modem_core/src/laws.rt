@@ -1,5 +1,7 @@
-//! Laws of replays.
-ghost use Rattle.std.specs.Prelude.{ℕ, List, []};
+//! Laws of replays, and of open windows.
+ghost use Rattle.std.specs.Prelude.{◌≡◌, ◌<◌, ◌==◌, ℕ, List, [], false};
+ghost use Rattle.modem_core.specs.Cores.{Core};
+ghost use Rattle.modem_core.specs.Handing.{WindowFits};
 ghost use Rattle.modem_core.specs.Replays.{AreFull, Brought, Replays};
 ghost use Rattle.modem_core.specs.ReplayRows.{NoReplay, NoReplayOfAny, WantsRoom, busy_again, busy_at_first, frame_invented, full_frames, full_queue, half_frames, lost_by_itself, one_request, request_dropped, test_comes, two_requests, while_opening};
 ghost use Rattle.modem_core.specs.Room.{EachBeginsEmpty, FindsRoom, FitsEmpty, NeverWantsRoom};
@@ -28,4 +30,11 @@ pub fn replays()
     ensures busy { WantsRoom [] busy_at_first }
     ensures busy_again { FindsRoom 31 while_opening busy_again }
     ensures place { WantsRoom full_queue test_comes }
+{}
+
+/// A core keeps no command's text in its lanes. With the text of the first command in hand on an open connection, what is kept of the
+/// answer there is the window that the past says: the command, its lines so far, and whether the echo may still come.
+#[tactic(auto, using(crate::proofs::frames::OpenCommands::windows_fit))]
+pub fn open_windows()
+    ensures { (v : Core) (d : ℕ) → d < 62 → (d == 0) ≡ false → WindowFits v d }
 {}

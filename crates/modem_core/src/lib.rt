@@ -4,24 +4,21 @@
 //! # Layout
 //!
 //! - `driver` (`Core`), `took`, `got`, `tick`, `backlog`, `going_out`: what it is called with.
-//! - `hand`, `asker`, `lane`, `lanes`, `reports`, `settling`, `telling`, `written`, `act_list`, `error`: what it keeps and does.
-//! - `waiting`, `line_queue`, `placing`: outcomes and lines that wait for a place at the desk.
-//! - `event`, `replaying`, `replaying_by`: replays. `laws`: what is proved of them.
+//! - `lane`, `lanes`, `reports`, `settling`, `telling`, `written`, `act_list`, `error`: what it keeps and does.
+//! - `waiting`, `placing`: outcomes and lines that wait for a place at the desk.
+//! - `event`, `replaying`, `replaying_by`: replays. `laws`: what is proved of them, and of open windows.
 #![tactic(auto)]
 
 mod act_list;
-mod asker;
 mod backlog;
 mod driver;
 mod error;
 mod event;
 mod going_out;
 mod got;
-mod hand;
 mod lane;
 mod lanes;
 pub mod laws;
-mod line_queue;
 mod placing;
 mod replaying;
 mod replaying_by;
@@ -33,14 +30,12 @@ mod took;
 mod waiting;
 mod written;
 
-pub use asker::Asker;
 pub use driver::Core;
 pub use error::CoreError;
 pub use event::{Event, Octets};
-pub use hand::{Hand, IN_HAND, first_asker};
 pub use modem_history::Act;
+pub use modem_queues::{Asker, Hand, IN_HAND, first_asker};
 pub use replaying::replay;
 pub use replaying_by::replay_with_dialect;
 pub use reports::Said;
-pub use settling::Draft;
 pub use waiting::Waiting;

@@ -1,10 +1,11 @@
 //! What waits is offered to the desk.
-ghost use Rattle.std.specs.Prelude.{◌≡◌, ◌<◌, false};
-ghost use Rattle.modem_core.specs.Placing.{LeavesAll, OffersFirst, Placed, TellsAlone, AnnouncesAlone, caller_of, place_of, IsRingOf, IsCaller, IsListenerOf, IsHeard, caller_rings, listener_rings};
+ghost use Rattle.std.specs.Prelude.{◌≡◌, ◌<◌, true, false};
+ghost use Rattle.modem_core.specs.Placing.{LeavesAll, OffersFirst, Placed, TellsAlone, AnnouncesAlone, caller_of, IsRingOf, IsCaller, IsListenerOf, IsHeard, caller_rings, listener_rings};
+ghost use Rattle.modem_queues.specs.LineQueues.{place_of};
 
-use crate::line_queue::KIND_PLACES;
 use crate::waiting::Waiting;
 use modem_desk::DriverEnd;
+use modem_queues::KIND_PLACES;
 
 /// How many callers a number of 8 bits can name.
 const CALLERS: usize = 256;
@@ -37,6 +38,7 @@ impl Waiting {
 
     /// Offers each outcome to its caller, in order. What is handed back stays, in its order. Once one of a caller was
     /// handed back, no other of that caller is offered. Says whether any was told.
+    #[inline(always)]
     pub fn place_outcomes(&mut self, driver: &mut DriverEnd) -> bool
         ensures placed { Placed caller_of IsRingOf (IsCaller driver.old.desk) (caller_rings driver.old)
             (caller_rings driver.new) self.old.outcomes self.new.outcomes result }
@@ -46,6 +48,17 @@ impl Waiting {
         if self.outcomes.is_empty() {
             return false;
         }
+        self.place_each_outcome(driver)
+    }
+
+    /// The same, also where none waits.
+    #[inline(never)]
+    fn place_each_outcome(&mut self, driver: &mut DriverEnd) -> bool
+        ensures placed { Placed caller_of IsRingOf (IsCaller driver.old.desk) (caller_rings driver.old)
+            (caller_rings driver.new) self.old.outcomes self.new.outcomes result }
+        ensures alone { TellsAlone driver.old driver.new }
+        ensures lines { self.new.lines ≡ self.old.lines }
+    {
         let mut held_up = [false; CALLERS];
         let mut moved = false;
         for _place in 0..self.count() {
@@ -90,16 +103,50 @@ impl Waiting {
     /// Offers each line to the listener of its kind, in order. What is handed back stays, in its order. Once one of a
     /// kind was handed back, no other of that kind is offered. It ends where none is left to be offered. Says whether
     /// any was announced.
+    #[inline(always)]
     pub fn place_lines(&mut self, driver: &mut DriverEnd) -> bool
         ensures placed { Placed place_of (IsListenerOf driver.old.desk.kinds) (IsHeard driver.old.desk.kinds)
             (listener_rings driver.old) (listener_rings driver.new) self.old.lines self.new.lines result }
         ensures alone { AnnouncesAlone driver.old driver.new }
         ensures outcomes { self.new.outcomes ≡ self.old.outcomes }
     {
-        let many = self.many();
-        if many == 0 {
+        if self.many() == 0 {
             return false;
         }
+        if self.are_held_up(driver) {
+            return false;
+        }
+        self.place_each_line(driver)
+    }
+
+    /// Whether all lines that wait are of one kind, whose listener has no place: then the first is handed back, and all stay.
+    #[inline(never)]
+    fn are_held_up(&self, driver: &mut DriverEnd) -> bool
+        ensures placed { result ≡ true → Placed place_of (IsListenerOf driver.old.desk.kinds) (IsHeard driver.old.desk.kinds)
+            (listener_rings driver.old) (listener_rings driver.new) self.now.lines self.now.lines false }
+        ensures given { driver.new.announced ≡ driver.old.announced }
+        ensures back { result ≡ false → driver.new.announced_back ≡ driver.old.announced_back }
+        ensures alone { AnnouncesAlone driver.old driver.new }
+    {
+        let Some(line) = self.lines.front() else {
+            return false;
+        };
+        let kind = line.kind;
+        if self.lines.of_kind(kind) < self.many() {
+            return false;
+        }
+        driver.hands_back(kind)
+    }
+
+    /// The same, also where none waits.
+    #[inline(never)]
+    fn place_each_line(&mut self, driver: &mut DriverEnd) -> bool
+        ensures placed { Placed place_of (IsListenerOf driver.old.desk.kinds) (IsHeard driver.old.desk.kinds)
+            (listener_rings driver.old) (listener_rings driver.new) self.old.lines self.new.lines result }
+        ensures alone { AnnouncesAlone driver.old driver.new }
+        ensures outcomes { self.new.outcomes ≡ self.old.outcomes }
+    {
+        let many = self.many();
         let mut held_up = [false; KIND_PLACES];
         let mut moved = false;
         for place in 0..many {

@@ -1,41 +1,20 @@
 //! Reads a frame in place, and settles it once nothing can fail any more. Want of memory leaves a lane as it was.
-ghost use Rattle.std.specs.Prelude.{◌≡◌, ◌≤◌, ◌&&◌, [], false, length, map, position, is_some, is_none, IfOk, OnOk, OnErr};
+ghost use Rattle.std.specs.Prelude.{◌≡◌, ◌≤◌, ◌&&◌, ℕ, List, [], false, length, map, position, is_some, is_none, IfOk, OnOk, OnErr};
 ghost use Rattle.std.specs.List.{list_any};
 ghost use Rattle.modem_history.specs.Acts.{act_of};
 ghost use Rattle.at_text.specs.InPlace.{Grows};
-ghost use Rattle.at_text.specs.Rules.{dialect_of};
-ghost use Rattle.modem_core.specs.Reports.{ReadsAll};
+ghost use Rattle.at_text.specs.UnderWay.{window_of};
+ghost use Rattle.at_text.specs.Runs.{LineRun, kept_in, LeadsBack};
+ghost use Rattle.modem_core.specs.Reports.{reading_of, ReadsAll};
 ghost use Rattle.modem_core.specs.Settling.{tells_lines, filled, filled_answer, filled_first, settled, settled_acts, settled_lane, IsUntold};
 
 use crate::lane::Lane;
-use crate::line_queue::LineRoom;
-use crate::reports::{Reading, Said, read_octets};
-use at_text::{AnswerLines, Dialect, LineReader, UrcKind};
+use crate::reports::{Reading, Said, keep_rest, read_lines};
+use at_text::{AnswerLines, LineRun, UnderWay};
 use modem_desk::Answer;
 use modem_history::Act;
-use std::alloc::{AllocError, Global};
-
-/// What is needed to read a frame: what is said of it, and the reader as it was before.
-#[derive(Drop)]
-pub struct Draft {
-    pub said: Said,
-    pub before: LineReader,
-}
-
-impl Draft {
-    /// Nothing is said.
-    pub fn new(alloc: Global) -> Draft
-        ensures { result.said.acts.items ≡ [] }
-    {
-        Draft {
-            said: Said {
-                acts: Vec::new(alloc),
-                whole: false,
-            },
-            before: LineReader::new(),
-        }
-    }
-}
+use modem_queues::LineRoom;
+use std::alloc::AllocError;
 
 /// Whether an act tells the lines of an answer.
 fn tells_lines(act: &Act) -> bool
@@ -82,88 +61,86 @@ fn fill_first(acts: &mut Vec<Act>, lines: AnswerLines)
     }
 }
 
-impl Lane {
-    /// Reads octets in place, and makes room where what is heard can wait. Where memory is wanted, what is read so far stands there.
-    fn read_on<P: LineRoom>(
-        &mut self,
-        reading: Reading,
-        dialect: &Dialect,
-        kinds: &[UrcKind],
-        octets: &[u8],
-        said: &mut Said,
-        lines: &mut P,
-    ) -> Result<(), AllocError>
-        requires { IsUntold said.old.whole (map act_of said.old.acts.items) }
-        ensures read { OnOk result (ReadsAll (dialect_of dialect.now) kinds.now reading octets.now
-            (settled self.old.kept self.old.window said.old.whole (map act_of said.old.acts.items))
-            (settled self.new.kept self.new.window said.new.whole (map act_of said.new.acts.items))) }
-        ensures grows { Grows self.old.window self.new.window }
-        ensures held { self.new.held ≡ self.old.held }
-        ensures room { OnOk result (P.has_room lines.new (length said.new.acts.items)) }
-        ensures lines { P.lines lines.new ≡ P.lines lines.old }
-    {
-        read_octets(
-            reading,
-            dialect,
-            kinds,
-            octets,
-            &mut self.reader,
-            &mut self.window,
-            said,
-        )?;
-        lines.reserve(said.acts.len())
-    }
+/// Reads octets in place, and makes room where what is heard can wait. Where memory is wanted, there is a way back.
+fn read_all<P: LineRoom>(
+    reading: &Reading<'_>,
+    octets: &[u8],
+    line: &mut LineRun,
+    under_way: &mut UnderWay,
+    said: &mut Said,
+    lines: &mut P,
+) -> Result<(), AllocError>
+    requires { IsUntold said.old.whole (map act_of said.old.acts.items) }
+    ensures read { OnOk result (ReadsAll (reading_of reading.now) octets.now
+        (settled (kept_in line.old) (window_of reading.now.command.now under_way.old) said.old.whole (map act_of said.old.acts.items))
+        (settled (kept_in line.new) (window_of reading.now.command.now under_way.new) said.new.whole (map act_of said.new.acts.items))) }
+    ensures grows { Grows (window_of reading.now.command.now under_way.old) (window_of reading.now.command.now under_way.new) }
+    ensures back { OnErr result ((was : LineRun) → LeadsBack was line.old → LeadsBack was line.new) }
+    ensures room { OnOk result (P.has_room lines.new (length said.new.acts.items)) }
+    ensures lines { P.lines lines.new ≡ P.lines lines.old }
+{
+    let count = read_lines(reading, octets, line, under_way, said)?;
+    lines.reserve(said.acts.len())?;
+    keep_rest(line, &octets[count..]);
+    Ok(())
+}
 
+impl Lane {
     /// An answer that is whole is told, with its lines, and its command is under way no more. Says whether one was.
     fn settle(&mut self, said: &mut Said) -> bool
         ensures lane { self.new ≡ settled_lane said.old.whole self.old }
-        ensures acts { map act_of said.new.acts.items
-            ≡ settled_acts said.old.whole self.old.window (map act_of said.old.acts.items) }
-        ensures done { result ≡ (said.old.whole && is_some self.old.window) }
+        ensures acts { (command : List ℕ) → map act_of said.new.acts.items
+            ≡ settled_acts said.old.whole (window_of command self.old.under_way) (map act_of said.old.acts.items) }
+        ensures done { result ≡ (said.old.whole && is_some self.old.under_way) }
     {
         if !said.whole {
             return false;
         }
-        let done = !self.window.idle();
-        let lines = self.window.close();
+        let done = !self.under_way.idle();
+        let lines = self.under_way.close();
         fill_first(&mut said.acts, lines);
         done
     }
 
-    /// Reads octets, and says whether a command that was under way has ended. Want of memory leaves the lane as it was.
+    /// Reads octets, and says whether the command under way has ended. Want of memory leaves the lane as it was.
     pub(crate) fn read<P: LineRoom>(
         &mut self,
-        reading: Reading,
-        dialect: &Dialect,
-        kinds: &[UrcKind],
+        reading: &Reading<'_>,
         octets: &[u8],
-        draft: &mut Draft,
+        said: &mut Said,
         lines: &mut P,
     ) -> Result<bool, AllocError>
-        requires { list_any tells_lines (map act_of draft.old.said.acts.items) ≡ false }
-        ensures read { OnOk result (ReadsAll (dialect_of dialect.now) kinds.now reading octets.now (record {
+        requires { list_any tells_lines (map act_of said.old.acts.items) ≡ false }
+        ensures read { OnOk result (ReadsAll (reading_of reading.now) octets.now (record {
           kept = self.old.kept;
-          window = self.old.window;
-          acts = map act_of draft.old.said.acts.items;
+          window = window_of reading.now.command.now self.old.under_way;
+          acts = map act_of said.old.acts.items;
         }) (record {
           kept = self.new.kept;
-          window = self.new.window;
-          acts = map act_of draft.new.said.acts.items;
+          window = window_of reading.now.command.now self.new.under_way;
+          acts = map act_of said.new.acts.items;
         })) }
         ensures held { self.new.held ≡ self.old.held }
-        ensures done { IfOk result (λ done. done ≡ (is_some self.old.window && is_none self.new.window)) }
-        ensures room { OnOk result (P.has_room lines.new (length draft.new.said.acts.items)) }
+        ensures done { IfOk result (λ done. done ≡ (is_some self.old.under_way && is_none self.new.under_way)) }
+        ensures room { OnOk result (P.has_room lines.new (length said.new.acts.items)) }
         ensures lines { P.lines lines.new ≡ P.lines lines.old }
         ensures err { OnErr result (self.new ≡ self.old) }
     {
-        draft.said.whole = false;
-        draft.before.copy_from(&self.reader);
-        let mark = self.window.mark();
-        match self.read_on(reading, dialect, kinds, octets, &mut draft.said, lines) {
-            Ok(()) => Ok(self.settle(&mut draft.said)),
+        said.whole = false;
+        let line_mark = self.line.mark();
+        let mark = self.under_way.mark();
+        match read_all(
+            reading,
+            octets,
+            &mut self.line,
+            &mut self.under_way,
+            said,
+            lines,
+        ) {
+            Ok(()) => Ok(self.settle(said)),
             Err(why) => {
-                self.reader.copy_from(&draft.before);
-                self.window.go_back(mark);
+                self.line.go_back(line_mark);
+                self.under_way.go_back(mark);
                 Err(why)
             }
         }

@@ -3,13 +3,12 @@ ghost use Rattle.std.specs.Prelude.{◌≡◌, ◌≤◌, ◌<◌, ◌++◌, ◌
 ghost use Rattle.std.specs.VecDeque.{deque_capacity};
 ghost use Rattle.modem_history.specs.Acts.{Told, act_of};
 ghost use Rattle.modem_core.specs.Doing.{Adds, outcomes_to};
-ghost use Rattle.modem_core.specs.Stops.{asker_of, is_answered, is_stop};
+ghost use Rattle.modem_queues.specs.Stops.{asker_of, is_answered, is_stop};
 ghost use Rattle.modem_core.specs.Telling.{why_shut, probe_happened, stop_outcome, told_by, told_to, left_by};
 ghost use Rattle.modem_core.specs.Cores.{state_shown};
 
-use crate::asker::Asker;
-use crate::hand::Hand;
 use modem_desk::{Answer, Ask, Outcome, Request};
+use modem_queues::{Asker, Hand};
 use mux_frame::Dlci;
 use mux_station::{ChannelState, Noted, Station};
 use std::collections::VecDeque;

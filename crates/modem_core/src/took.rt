@@ -18,14 +18,13 @@ ghost use Rattle.modem_core.specs.declared.error.CoreError.TheVariants as CoreEr
 ghost use Rattle.modem_desk.specs.declared.request.Ask.TheVariants as Ask;
 
 use crate::act_list::{ActList, none_told, push_told};
-use crate::asker::Asker;
 use crate::driver::Core;
 use crate::error::CoreError;
-use crate::hand::{Hand, has_command};
 use crate::telling::{Happened, put_told, tell_on};
 use crate::written::{bare, message};
 use modem_desk::{Answer, Ask, Outcome, Request};
 use modem_history::Act;
+use modem_queues::{Asker, Hand, has_command};
 use mux_frame::{Dlci, FrameBuf, Kind, ProbeData};
 use mux_station::written::{CLD, TEST};
 use mux_station::{ChannelState, Station, StationError};

@@ -9,16 +9,15 @@ ghost use Rattle.modem_core.specs.Running.{CoreIsIdle};
 ghost use Rattle.modem_history.specs.Acts.{act_of, Got, Lost, Tick};
 ghost use Rattle.modem_core.specs.Doing.{Does, Takes};
 ghost use Rattle.modem_history.specs.Sessions.{backlog_in};
-ghost use Rattle.modem_core.specs.LineQueues.{AreFewOnEach};
+ghost use Rattle.modem_queues.specs.LineQueues.{AreFewOnEach};
 ghost use Rattle.modem_core.specs.WaitingLists.{IsFirstOf, IsLeast};
 ghost use Rattle.modem_core.specs.WaitingLists.{Keeps, Puts};
 
 use crate::driver::Core;
-use crate::hand::IN_HAND;
-use crate::line_queue::LineQueue;
 use at_text::UrcKind;
 use modem_desk::{Outcome, Request, Urc};
 use modem_history::Act;
+use modem_queues::{IN_HAND, LineQueue};
 use mux_frame::{Dlci, FrameView};
 use std::alloc::{AllocError, Global};
 use std::collections::VecDeque;
@@ -189,6 +188,9 @@ impl Waiting {
     pub fn least_caller(&self) -> Option<u8>
         ensures { MatchOption result (self.now.outcomes ≡ []) (λ c. IsLeast c self.now.outcomes) }
     {
+        if self.outcomes.is_empty() {
+            return None;
+        }
         let (front, back) = self.outcomes.as_slices();
         let Some(first) = least_of(front) else {
             return None;

@@ -168,9 +168,9 @@ hops_left v w f law none leads out e role n1 ds past h =
 -- ## What a call answers
 
 -- a call that answers that a frame passed lets one come
-pub came_by : {X : Type 0} (v w : Relay) (r : Result Bool X) → IfOk r (λ one. one ≡ true → PassesIn v.outer.next v.pipes w.pipes v.to_driver w.to_driver) → IfOk r (λ one. one ≡ true → PassesOver v.outer w.outer) → w.outer.n1 ≡ v.outer.n1 → w.inner ≡ v.inner → w.to_line ≡ v.to_line → IfOk r (λ one. one ≡ true → HopsBy v w (λ f. Passed (Came f)))
-came_by v w (Ok one) p over n i l = λ e. hops_came v w (p e) (over e) n i l
-came_by v w (Err x) p over n i l = tt
+pub frame_came : {X : Type 0} (v w : Relay) (r : Result Bool X) → IfOk r (λ one. one ≡ true → PassesIn v.outer.next v.pipes w.pipes v.to_driver w.to_driver) → IfOk r (λ one. one ≡ true → PassesOver v.outer w.outer) → w.outer.n1 ≡ v.outer.n1 → w.inner ≡ v.inner → w.to_line ≡ v.to_line → IfOk r (λ one. one ≡ true → HopsBy v w (λ f. Passed (Came f)))
+frame_came v w (Ok one) p over n i l = λ e. hops_came v w (p e) (over e) n i l
+frame_came v w (Err x) p over n i l = tt
 
 -- one that answers that none did leaves none that hasn't come
 pub none_by : {X : Type 0} (v : Relay) (r : Result Bool X) → IsDeframed → IfOk r (λ one. one ≡ false → v.outer.next ≡ None) → IfOk r (λ one. one ≡ false → AllCame v)
@@ -255,14 +255,14 @@ ended_by v w d (Ok x) leads is = hops_ended v w d leads is
 ended_by v w d (Err x) leads is = tt
 
 -- where the call is Ok, it gave as many octets as it counts
-pub gave_by : {X : Type 0} (v w : Relay) (e : ℕ) (octets : List ℕ) (r : Result ℕ X) → IfOk r (λ count. AllLead v.pipes w.pipes (Gave e (take count octets))) → w ≡ record v { pipes = w.pipes } → IfOk r (λ count. Hops v w (Passed (Gave e (take count octets))))
-gave_by v w e octets (Ok count) leads is = hops_gave v w e (take count octets) leads is
-gave_by v w e octets (Err x) leads is = tt
+pub octets_given : {X : Type 0} (v w : Relay) (e : ℕ) (octets : List ℕ) (r : Result ℕ X) → IfOk r (λ count. AllLead v.pipes w.pipes (Gave e (take count octets))) → w ≡ record v { pipes = w.pipes } → IfOk r (λ count. Hops v w (Passed (Gave e (take count octets))))
+octets_given v w e octets (Ok count) leads is = hops_gave v w e (take count octets) leads is
+octets_given v w e octets (Err x) leads is = tt
 
 -- where the call is Ok, a lane began on a connection of data
-pub began_by : {A X : Type 0} (v w : Relay) (d : ℕ) (how : Begin) (until : Until) (r : Result A X) → OnOk r (HasPipe v.pipes d) → OnOk r (AllLead v.pipes w.pipes (Began d how until)) → w ≡ record v { pipes = w.pipes } → OnOk r (Hops v w (Passed (Began d how until)))
-began_by v w d how until (Ok x) has leads is = hops_began v w d how until has leads is
-began_by v w d how until (Err x) has leads is = tt
+pub lane_began : {A X : Type 0} (v w : Relay) (d : ℕ) (how : Begin) (until : Until) (r : Result A X) → OnOk r (HasPipe v.pipes d) → OnOk r (AllLead v.pipes w.pipes (Began d how until)) → w ≡ record v { pipes = w.pipes } → OnOk r (Hops v w (Passed (Began d how until)))
+lane_began v w d how until (Ok x) has leads is = hops_began v w d how until has leads is
+lane_began v w d how until (Err x) has leads is = tt
 
 -- where the call is Ok, what it answers was read
 pub read_by : {X : Type 0} (v w : Relay) (d : ℕ) (octets : Reading → List ℕ) (r : Result Reading X) → IfOk r (λ x. AllLead v.pipes w.pipes (Read d (octets x))) → w ≡ record v { pipes = w.pipes } → IfOk r (λ x. Hops v w (Passed (Read d (octets x))))

@@ -9,21 +9,11 @@ use Rattle.mux_frame.specs.Frames.{Frame}
 use Rattle.mux_frame.specs.declared.frame.Kind.{Kind}
 use Rattle.mux_frame.specs.declared.frame.Kind.TheVariants.{Uih}
 use Rattle.mux_station.specs.Written.{is_on}
-use Rattle.mux_station.specs.Opening.{Standing, asks, is_mode_frame, not_open, standings, standing_after, since, since_after, opens, ends, opens_now, belongs, is_open}
+use Rattle.mux_station.specs.Opening.{asks, is_mode_frame, since, since_after, opens, ends, opens_now, belongs, is_open, is_asked}
+use Rattle.mux_station.specs.OpeningRule.{Standing, not_open, standing_after}
+use Rattle.mux_station.proofs.states.OpeningSteps.{stands_after}
 use Rattle.mux_station.specs.Stopping.{last_said, got_says, msc_says, flow_says}
 use Rattle.modem_data.specs.Watching.{Watch, HasWatched, Watches, dv_says, has_carrier, loses_carrier, watched, watch_opens, watch_ends, watch_loses, ends_now, said_last, SaysMayLeave}
-
--- 0 stands alike whatever connection is looked at
-zero_same : (role : Role) (d : ℕ) (past : List Act) → (standings role 0 past).own ≡ (standings role d past).zero
-zero_same role d [] = refl
-zero_same role d (a ∷ past) = at (standings role 0 past).own (standings role d past).zero (zero_same role d past) (zero_alone past)
-  where
-    at : (x y : Standing) → x ≡ y → (standings role 0 past).zero ≡ x → standing_after role (standings role 0 past).zero.is_open 0 x a ≡ standing_after role y.is_open 0 y a
-    at x y e z = rw z (ap (λ s. standing_after role s.is_open 0 s a) e)
-
-    zero_alone : (past : List Act) → (standings role 0 past).zero ≡ (standings role 0 past).own
-    zero_alone [] = refl
-    zero_alone (b ∷ past) = rw (zero_alone past) refl
 
 -- what the last of the acts says, one act further
 said_after : (say : Act → Option Bool) (opening belonging : Bool) (a : Act) (rest : List Act) → last_said say (since_after opening belonging a rest) ≡ said_last opening belonging (say a) (last_said say rest)
@@ -34,25 +24,25 @@ said_after say false false a rest = refl
 -- the same of what is said of the connection itself
 own_last : (say : Message → Option Bool) (was : Bool) (w : Watch) (past : List Act) (a : Act) → HasWatched w past → was ≡ last_said (got_says say) (since w.role w.dlci past) → said_last (opens w.role w.zero.is_open w.own.is_asked w.dlci a) (w.own.is_open && not (ends w.zero.is_open w.dlci a)) (got_says say a) was ≡ last_said (got_says say) (since w.role w.dlci (a ∷ past))
 own_last say was w past a h is =
-    let z : w.zero ≡ (standings w.role w.dlci past).zero = h.zero_is ∙ zero_same w.role w.dlci past in
-    ap (λ s. said_last (opens w.role s.is_open w.own.is_asked w.dlci a) (w.own.is_open && not (ends s.is_open w.dlci a)) (got_says say a) was) z
-    ∙ (ap (λ s. said_last (opens w.role (standings w.role w.dlci past).zero.is_open s.is_asked w.dlci a) (s.is_open && not (ends (standings w.role w.dlci past).zero.is_open w.dlci a)) (got_says say a) was) h.own_is
+    ap (λ s. said_last (opens w.role s.is_open w.own.is_asked w.dlci a) (w.own.is_open && not (ends s.is_open w.dlci a)) (got_says say a) was) h.zero_is
+    ∙ (ap (λ s. said_last (opens w.role (is_open w.role 0 past) s.is_asked w.dlci a) (s.is_open && not (ends (is_open w.role 0 past) w.dlci a)) (got_says say a) was) h.own_is
     ∙ (ap (λ b. said_last (opens_now w.role w.dlci past a) (belongs w.role w.dlci past a) (got_says say a) b) is
     ∙ sym (said_after (got_says say) (opens_now w.role w.dlci past a) (belongs w.role w.dlci past a) a (since w.role w.dlci past))))
 
 all_stopped : (w : Watch) (past : List Act) (a : Act) → HasWatched w past → (watched w a).all_stop ≡ last_said (got_says flow_says) (since w.role 0 (a ∷ past))
 all_stopped w past a h =
-    let z : w.zero ≡ (standings w.role 0 past).zero = h.zero_is ∙ zero_same w.role 0 past in
-    ap (λ s. said_last (opens w.role s.is_open w.zero.is_asked 0 a) (w.zero.is_open && not (ends s.is_open 0 a)) (got_says flow_says a) w.all_stop) z
-    ∙ (ap (λ s. said_last (opens w.role (standings w.role 0 past).zero.is_open s.is_asked 0 a) (s.is_open && not (ends (standings w.role 0 past).zero.is_open 0 a)) (got_says flow_says a) w.all_stop) h.zero_is
+    ap (λ s. said_last (opens w.role s.is_open w.zero.is_asked 0 a) (w.zero.is_open && not (ends s.is_open 0 a)) (got_says flow_says a) w.all_stop) h.zero_is
+    ∙ (ap (λ s. said_last (opens w.role (is_open w.role 0 past) s.is_asked 0 a) (s.is_open && not (ends (is_open w.role 0 past) 0 a)) (got_says flow_says a) w.all_stop) h.zero_is
     ∙ (ap (λ b. said_last (opens_now w.role 0 past a) (belongs w.role 0 past a) (got_says flow_says a) b) h.all_stop_is
     ∙ sym (said_after (got_says flow_says) (opens_now w.role 0 past a) (belongs w.role 0 past a) a (since w.role 0 past))))
 
 -- what a watch keeps behind an act is what the past with the act says
 pub goes : (w : Watch) (past : List Act) (a : Act) → HasWatched w past → HasWatched (watched w a) (a ∷ past)
 goes w past a h = record {
-  zero_is = ap (λ s. standing_after w.role s.is_open 0 s a) h.zero_is ∙ ap (λ s. standing_after w.role s.is_open 0 (standings w.role 0 past).own a) (zero_same w.role 0 past);
-  own_is = ap (λ s. standing_after w.role s.is_open w.dlci w.own a) (h.zero_is ∙ zero_same w.role w.dlci past) ∙ ap (λ s. standing_after w.role (standings w.role w.dlci past).zero.is_open w.dlci s a) h.own_is;
+  zero_is = ap (λ s. standing_after w.role s.is_open 0 s a) h.zero_is ∙ sym (stands_after w.role 0 past a);
+  own_is =
+      ap (λ s. standing_after w.role s.is_open w.dlci w.own a) h.zero_is
+      ∙ (ap (λ s. standing_after w.role (is_open w.role 0 past) w.dlci s a) h.own_is ∙ sym (stands_after w.role w.dlci past a));
   own_stop_is = own_last (msc_says w.dlci) w.own_stop w past a h h.own_stop_is;
   all_stop_is = all_stopped w past a h;
   carrier_is = own_last (dv_says w.dlci) w.carrier w past a h h.carrier_is;
@@ -90,15 +80,15 @@ open_said w past h = ap (λ (s : Standing). s.is_open) h.own_is
 -- whether an act opens it
 pub opens_said : (w : Watch) (past : List Act) (a : Act) → HasWatched w past → watch_opens w a ≡ opens_now w.role w.dlci past a
 opens_said w past a h =
-    ap (λ s. opens w.role s.is_open w.own.is_asked w.dlci a) (h.zero_is ∙ zero_same w.role w.dlci past)
-    ∙ ap (λ s. opens w.role (standings w.role w.dlci past).zero.is_open s.is_asked w.dlci a) h.own_is
+    ap (λ s. opens w.role s.is_open w.own.is_asked w.dlci a) h.zero_is
+    ∙ ap (λ s. opens w.role (is_open w.role 0 past) s.is_asked w.dlci a) h.own_is
 
 -- whether an act ends its opening
 pub ends_said : (w : Watch) (past : List Act) (a : Act) → HasWatched w past → watch_ends w a ≡ ends_now w.role w.dlci past a
 ends_said w past a h =
     ap (λ o. w.own.is_open && (o || not (w.own.is_open && not (ends w.zero.is_open w.dlci a)))) (opens_said w past a h)
-    ∙ (ap (λ (s : Standing). w.own.is_open && (opens_now w.role w.dlci past a || not (w.own.is_open && not (ends s.is_open w.dlci a)))) (h.zero_is ∙ zero_same w.role w.dlci past)
-    ∙ ap (λ (s : Standing). s.is_open && (opens_now w.role w.dlci past a || not (s.is_open && not (ends (standings w.role w.dlci past).zero.is_open w.dlci a)))) h.own_is)
+    ∙ (ap (λ (s : Standing). w.own.is_open && (opens_now w.role w.dlci past a || not (w.own.is_open && not (ends s.is_open w.dlci a)))) h.zero_is
+    ∙ ap (λ (s : Standing). s.is_open && (opens_now w.role w.dlci past a || not (s.is_open && not (ends (is_open w.role 0 past) w.dlci a)))) h.own_is)
 
 -- and whether an act takes its carrier
 pub loses_said : (w : Watch) (past : List Act) (a : Act) → HasWatched w past → watch_loses w a ≡ loses_carrier w.role w.dlci past a
@@ -208,7 +198,7 @@ watched_sent_info w past f k n h = subst (λ (v : Watch). HasWatched v (Sent f �
 
 -- information on a connection other than 0 opens and ends no connection
 pub info_opens_none : (role : Role) (d : ℕ) (past : List Act) (f : Frame) → f.kind ≡ Uih → opens_now role d past (Got f) ≡ false
-info_opens_none role d past f k = opens_of_kind role (standings role d past).zero.is_open (standings role d past).own.is_asked d f k
+info_opens_none role d past f k = opens_of_kind role (is_open role 0 past) (is_asked role d past) d f k
 
 none_end : (o : Bool) → o && (false || not (o && not false)) ≡ false
 none_end true = refl
@@ -220,8 +210,8 @@ ends_of_kind z d f k n = subst (λ (k : Kind). ends z d (Got (record f { kind = 
 -- on a connection other than 0 it ends no opening
 pub info_ends_none : (role : Role) (d : ℕ) (past : List Act) (f : Frame) → f.kind ≡ Uih → (f.dlci == 0) ≡ false → ends_now role d past (Got f) ≡ false
 info_ends_none role d past f k n =
-    ap (λ b. is_open role d past && (b || not (is_open role d past && not (ends (standings role d past).zero.is_open d (Got f))))) (info_opens_none role d past f k)
-    ∙ (ap (λ b. is_open role d past && (false || not (is_open role d past && not b))) (ends_of_kind (standings role d past).zero.is_open d f k n)
+    ap (λ b. is_open role d past && (b || not (is_open role d past && not (ends (is_open role 0 past) d (Got f))))) (info_opens_none role d past f k)
+    ∙ (ap (λ b. is_open role d past && (false || not (is_open role d past && not b))) (ends_of_kind (is_open role 0 past) d f k n)
     ∙ none_end (is_open role d past))
 
 -- and takes no carrier

@@ -3,7 +3,8 @@ use Rattle.std.specs.Prelude.{◌≡◌, ℕ, ◌/◌, ◌%◌, ◌==◌, ◌&&�
 use Rattle.mux_station.specs.declared.role.Role.{Role}
 use Rattle.mux_station.specs.Acts.{Act}
 use Rattle.mux_station.specs.Messages.{Message, msc, msc_dlci}
-use Rattle.mux_station.specs.Opening.{Standing, standing_after, opens, ends, standings, since, is_open, not_open, opens_now, belongs}
+use Rattle.mux_station.specs.Opening.{opens, ends, since, is_open, opens_now, belongs}
+use Rattle.mux_station.specs.OpeningRule.{Standing, standing, standing_after, not_open}
 use Rattle.mux_station.specs.Stopping.{last_said, got_says, msc_says, flow_says, is_stopped}
 
 -- ## The carrier, as the modem says it (27.010, 5.4.6.3.7)
@@ -65,8 +66,8 @@ watched w a = record {
 
 -- the watch has seen this past
 pub record HasWatched (w : Watch) (past : List Act) : Type 0 where
-  pub zero_is : w.zero ≡ (standings w.role 0 past).own
-  pub own_is : w.own ≡ (standings w.role w.dlci past).own
+  pub zero_is : w.zero ≡ standing w.role 0 past
+  pub own_is : w.own ≡ standing w.role w.dlci past
   pub own_stop_is : w.own_stop ≡ last_said (got_says (msc_says w.dlci)) (since w.role w.dlci past)
   pub all_stop_is : w.all_stop ≡ last_said (got_says flow_says) (since w.role 0 past)
   pub carrier_is : w.carrier ≡ last_said (got_says (dv_says w.dlci)) (since w.role w.dlci past)

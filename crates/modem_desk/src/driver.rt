@@ -1,5 +1,5 @@
 //! The driver's end of the desk.
-ghost use Rattle.std.specs.Prelude.{◌≡◌, ◌↔◌, ℕ, ◌∷◌, [], ◌++◌, ◌<◌, ◌≤◌, map, IsOk, IfOk, IfErr, IsTrue, Contains, length, min, ◌+◌, ◌-◌, ◌^◌, MatchOption, MatchResult, slice_set, slice_index_or};
+ghost use Rattle.std.specs.Prelude.{◌≡◌, ◌↔◌, ℕ, ◌∷◌, [], ◌++◌, ◌<◌, ◌≤◌, map, IsOk, IfOk, IfErr, IfSome, IsTrue, Contains, length, min, ◌+◌, ◌-◌, ◌^◌, MatchOption, MatchResult, true, false, slice_set, slice_index_or};
 ghost use mathlib.Core.Option.{some};
 ghost use lib.ListN.{get_elem?};
 ghost use Rattle.modem_desk.specs.Ends.{Changes, RisesByOne};
@@ -283,6 +283,19 @@ impl DriverEnd {
         self.queue.pop_as::<Takes, R>(rt, &mut self.pass)
     }
 
+    /// Whether `next` would find nothing just now. Then that is counted, as `next` counts it.
+    pub fn finds_none(&mut self) -> bool
+        ensures same { self.new ≡ record self.old { found_none = self.new.found_none } }
+        ensures counted { result ≡ true → RisesByOne self.old.found_none self.new.found_none }
+        ensures not_counted { result ≡ false → self.new ≡ self.old }
+    {
+        if !self.queue.is_empty_as::<Takes>(&mut self.pass) {
+            return false;
+        }
+        self.found_none = self.found_none.saturating_add(1);
+        true
+    }
+
     /// Gives an outcome to its caller. Requires a caller of this desk. Hands it back if 8 wait for that caller. It never does
     /// while it knows of a free place.
     pub fn tell(&mut self, outcome: Outcome) -> Result<(), Outcome>
@@ -310,6 +323,31 @@ impl DriverEnd {
         let PushError::Full(back) = refused;
         count_one(&mut self.told_back, place);
         Err(back)
+    }
+
+    /// Whether `announce` would hand a line of this kind back, since 256 wait for its listener. Then that is counted, as `announce`
+    /// counts it. No line is handed back where the desk has no listener for the kind.
+    pub fn hands_back(&mut self, kind: UrcKind) -> bool
+        ensures desk { (self.new.desk ≡ self.old.desk) × (self.new.taken ≡ self.old.taken)
+            × (self.new.told ≡ self.old.told) × (self.new.free ≡ self.old.free) }
+        ensures counts { (self.new.found_none ≡ self.old.found_none)
+            × (self.new.told_back ≡ self.old.told_back) }
+        ensures announced { self.new.announced ≡ self.old.announced }
+        ensures listened { result ≡ true → Contains self.old.desk.kinds kind }
+        ensures full { result ≡ true
+            → Changes (Hears self.old.desk.kinds kind) RunsOut self.old.free_lines self.new.free_lines }
+        ensures back_counted { result ≡ true → Changes (Hears self.old.desk.kinds kind) RisesByOne
+            self.old.announced_back self.new.announced_back }
+        ensures not_counted { result ≡ false → self.new.announced_back ≡ self.old.announced_back }
+    {
+        let Some(place) = find_place(&self.kinds, kind) else {
+            return false;
+        };
+        if !self.lines[place].is_full() {
+            return false;
+        }
+        count_one(&mut self.lines_back, place);
+        true
     }
 
     /// Gives a line to the listener of its kind. Requires that there is one (`listens`). Hands it back if 256 wait for that
@@ -342,6 +380,18 @@ impl DriverEnd {
         count_one(&mut self.lines_back, place);
         Err(back)
     }
+}
+
+// Where the kind stands in the list, if it does.
+fn find_place(kinds: &[UrcKind], kind: UrcKind) -> Option<usize>
+    ensures { IfSome result (λ place. get_elem? kinds.now place ≡ some kind) }
+{
+    for (place, known) in kinds.iter().enumerate() {
+        if *known == kind {
+            return Some(place);
+        }
+    }
+    None
 }
 
 // One more is counted at this place.

@@ -85,11 +85,11 @@ wrote_more first old new text written n was is =
     ∙ ap (λ (x : List ℕ). first ++ x) (sym (take-add written n text))
 
 -- a write takes some of the text, or none, and the entry is still under way
-pub wrote : (old new : LineView) (was now : Entry) (n : ℕ) → was.written < 10 → n ≤ length (take (10 - was.written) (drop was.written entry_text))
+pub wrote_entry : (old new : LineView) (was now : Entry) (n : ℕ) → was.written < 10 → n ≤ length (take (10 - was.written) (drop was.written entry_text))
     → new ≡ after_write n (take (10 - was.written) (drop was.written entry_text)) old
     → now ≡ record { written = was.written + n; kept = was.kept } → EntryGoesOn old new was now None
 unfolding EntryGoesOn
-wrote old new was now n few short went is made first h =
+wrote_entry old new was now n few short went is made first h =
     let rest = length (take (10 - was.written) (drop was.written entry_text)) in
     let stalled : new.stalled_writes ≡ counted_if_none rest n old.stalled_writes = ap (λ (l : LineView). l.stalled_writes) went in
     let empty : new.empty_reads ≡ old.empty_reads = ap (λ (l : LineView). l.empty_reads) went in
@@ -123,7 +123,7 @@ pub wrote_as : (old new : LineView) (seen was now : Entry) (n : ℕ) → seen �
     → now ≡ record { written = seen.written + n; kept = seen.kept } → EntryGoesOn old new was now None
 wrote_as old new seen was now n same few short went is =
     subst (λ (e : Entry). EntryGoesOn old new e now None) same
-    (wrote old new seen now n (subst (λ (e : Entry). e.written < 10) (sym same) few) short went is)
+    (wrote_entry old new seen now n (subst (λ (e : Entry). e.written < 10) (sym same) few) short went is)
 
 -- ## The line fails
 
@@ -180,8 +180,8 @@ gave_none old new was came made first h = record {
 }
 
 -- the same of a read's octet as the code sees it, where there is none
-pub none_came : (old new : LineView) (was : Entry) (o : Option ℕ) → o ≡ None → new ≡ after_read 1 (length (octet_in o)) (octet_in o) old → EntryGoesOn old new was was None
-none_came old new was o is came = gave_none old new was (came ∙ ap (λ (x : Option ℕ). after_read 1 (length (octet_in x)) (octet_in x) old) is)
+pub none_came_in : (old new : LineView) (was : Entry) (o : Option ℕ) → o ≡ None → new ≡ after_read 1 (length (octet_in o)) (octet_in o) old → EntryGoesOn old new was was None
+none_came_in old new was o is came = gave_none old new was (came ∙ ap (λ (x : Option ℕ). after_read 1 (length (octet_in x)) (octet_in x) old) is)
 
 -- an octet came on a line that took the whole text
 pub record OneCame (old new : LineView) (was now : Entry) (octet : ℕ) (given : List (List ℕ)) : Type 0 where
@@ -362,10 +362,10 @@ unfolding EntryGoesOn
 goes_on made first old new was now code h goes is = subst (Comes made first new now) is (goes made first h)
 
 -- a call in which a final code came ends it in what the code says
-pub ends_by : (made turns : ℕ) (first old new : LineView) (was now : Entry) (o : Option Final) (code : Final) → IsUnderWay made first old was
+pub ends_by_code : (made turns : ℕ) (first old new : LineView) (was now : Entry) (o : Option Final) (code : Final) → IsUnderWay made first old was
     → EntryGoesOn old new was now o → o ≡ Some code → made < turns → IsEntry turns first new (answer_by code)
 unfolding EntryGoesOn
-ends_by made turns first old new was now o code h goes is few = subst (Comes made first new now) is (goes made first h) turns (omega (arith, few))
+ends_by_code made turns first old new was now o code h goes is few = subst (Comes made first new now) is (goes made first h) turns (omega (arith, few))
 
 -- and a call that failed in LineFailed
 pub ends_failed : (made turns : ℕ) (first old new : LineView) (was : Entry) → IsUnderWay made first old was
@@ -380,7 +380,7 @@ says_entered turns first now said (Ok x) h is = subst (IsEntry turns first now) 
 says_entered turns first now said (Err why) h is = tt
 
 -- where it is refused the refusal names its answer
-pub says_why : {T : Type 0} (turns : ℕ) (first now : LineView) (said : EntryAnswer) (r : Result T EntryError) → IsEntry turns first now said
+pub says_answer : {T : Type 0} (turns : ℕ) (first now : LineView) (said : EntryAnswer) (r : Result T EntryError) → IsEntry turns first now said
     → IfErr r (λ why. said ≡ entry_answer why) → IfErr r (λ why. IsEntry turns first now (entry_answer why))
-says_why turns first now said (Ok x) h is = tt
-says_why turns first now said (Err why) h is = subst (IsEntry turns first now) is h
+says_answer turns first now said (Ok x) h is = tt
+says_answer turns first now said (Err why) h is = subst (IsEntry turns first now) is h

@@ -11,7 +11,7 @@ use Rattle.modem_history.specs.Sessions.{SessionView}
 use Rattle.modem_history.specs.Rows.{zero, takes, tells, sends, comes, cld_command, cld_response}
 use Rattle.modem_history.specs.SessionRows.{beginning, sabm_zero}
 use Rattle.modem_driver.specs.Endings.{HasCome, HasEnded}
-use Rattle.modem_core.specs.Stops.{has_stopped}
+use Rattle.modem_queues.specs.Stops.{has_stopped}
 use Rattle.modem_driver.specs.declared.machine.course.Course.TheVariants.{GoesOn}
 
 -- ## Whether a Stop has ended

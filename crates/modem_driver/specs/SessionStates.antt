@@ -18,7 +18,7 @@ use Rattle.modem_history.specs.Turns.{GoesTick, IsTick, LosesLine, may_fail, out
 use Rattle.modem_core.specs.Cores.{Core, Fits, IsSettingOf, core_by}
 use Rattle.modem_core.specs.Holding.{HoldsFit}
 use Rattle.modem_driver.specs.Endings.{HasCome, KeepsEnd}
-use Rattle.modem_core.specs.Stops.{is_stop}
+use Rattle.modem_queues.specs.Stops.{is_stop}
 use Rattle.modem_driver.specs.declared.machine.course.Course.{Course}
 use Rattle.modem_driver.specs.declared.machine.delays.Delay.{Delay}
 use Rattle.modem_driver.specs.WaitingTicks.{AreDelays}

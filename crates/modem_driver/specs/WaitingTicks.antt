@@ -3,8 +3,8 @@ use Rattle.std.specs.Prelude.{◌≡◌, ℕ, ◌+◌, ◌-◌, ◌^◌, ◌<◌
 use Rattle.modem_desk.specs.declared.request.Request.{Request}
 use Rattle.modem_history.specs.Acts.{Act, Tick, in_hand}
 use Rattle.modem_history.specs.Calls.{first_on}
-use Rattle.modem_core.specs.Stops.{asker_of}
-use Rattle.modem_core.specs.declared.asker.Asker.{Asker}
+use Rattle.modem_queues.specs.Stops.{asker_of}
+use Rattle.modem_queues.specs.declared.asker.Asker.{Asker}
 use Rattle.modem_driver.specs.declared.machine.delays.Delay.{Delay}
 
 -- ## What a history says

@@ -29,18 +29,18 @@ use crate::machine::delays::Delays;
 use crate::session::{SessionError, SessionFault};
 use at_text::{Dialect, UrcKind};
 use line_end::LineEnd;
-use modem_core::{Core, Draft, Waiting};
+use modem_core::{Core, Said, Waiting};
 use modem_desk::{Outcome, Request, Urc};
 use mux_frame::{Dlci, FrameError};
 use std::alloc::Global;
 use std::marker::Model;
 
 /// The core, the end of the line, what waits for a place at the desk, how far it has come on the way to its end, and how
-/// long commands have waited. Beside them what data is read with: contracts don't see it, since what is left there is of no use.
+/// long commands have waited. Beside them what is said of a frame while it is read: contracts don't see it, since it is of no use later.
 #[derive(Drop)]
 pub(crate) struct Machine {
     pub(crate) core: Core,
-    pub(crate) draft: Draft,
+    pub(crate) said: Said,
     pub(crate) line_end: LineEnd,
     pub(crate) waiting: Waiting,
     pub(crate) course: Course,
@@ -113,7 +113,7 @@ impl Machine {
         };
         Ok(Machine {
             core,
-            draft: Draft::new(alloc),
+            said: Said::new(alloc),
             line_end,
             waiting,
             course: Course::GoesOn,

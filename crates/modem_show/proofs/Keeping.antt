@@ -6,19 +6,12 @@ use Rattle.std.proofs.lemmas.Grind.{get_or-set_at}
 use Rattle.std.proofs.Math.ListN.{length-set}
 use Rattle.mux_station.specs.declared.role.Role.{Role}
 use Rattle.mux_station.specs.Acts.{Act}
-use Rattle.mux_station.specs.Opening.{Standing, standings, standing_after, since, since_after, is_open, opens, ends}
+use Rattle.mux_station.specs.Opening.{since, since_after, is_open, opens_now, belongs}
+use Rattle.mux_station.specs.OpeningRule.{Standing, standing, standing_after}
+use Rattle.mux_station.proofs.states.OpeningSteps.{stands_after}
 use Rattle.mux_station.specs.Stopping.{last_said, got_says, is_stopped}
 use Rattle.modem_show.specs.declared.place.Place.{Place}
 use Rattle.modem_show.specs.Ends.{End, EndFits, PlacesAfter, place, place_at, place_of, place_after, says_at, shut_place, stop_after, is_open_at, is_stopped_at}
-
--- 0 stands alike, whichever connection is looked at
-pub zero_alike : (r : Role) (d : ℕ) (past : List Act) → (standings r d past).zero ≡ (standings r 0 past).own
-zero_alike r d [] = refl
-zero_alike r d (a ∷ past) =
-    let e : (standings r d past).zero ≡ (standings r 0 past).own = zero_alike r d past in
-    let z : (standings r 0 past).zero ≡ (standings r 0 past).own = zero_alike r 0 past in
-    ap (λ (s : Standing). standing_after r s.is_open 0 s a) e
-    ∙ sym (ap (λ (s : Standing). standing_after r s.is_open 0 (standings r 0 past).own a) z)
 
 -- the stop after one more act
 said_after : (o b : Bool) (say : Act → Option Bool) (a : Act) (rest : List Act)
@@ -27,21 +20,13 @@ said_after true b say a rest = refl
 said_after false true say a rest = refl
 said_after false false say a rest = refl
 
--- one step of a place, with 0 as it stands there
-steps_there : (r : Role) (d : ℕ) (past : List Act) (a : Act)
-    → place_of r d (a ∷ past) ≡ place_after r (standings r d past).zero.is_open d (place_of r d past) a
-steps_there r d past a =
-    let z = (standings r d past).zero.is_open in
-    let s = (standings r d past).own in
-    ap (λ (b : Bool). place (standing_after r z d s a) b)
-    (said_after (opens r z s.is_asked d a) (s.is_open && not (ends z d a)) (got_says (says_at d)) a (since r d past))
-
 -- what is kept of a connection is kept on by each act, with 0 as it stands before it
 pub place_steps : (r : Role) (d : ℕ) (past : List Act) (a : Act)
     → place_of r d (a ∷ past) ≡ place_after r (place_of r 0 past).is_open d (place_of r d past) a
 place_steps r d past a =
-    steps_there r d past a
-    ∙ ap (λ (s : Standing). place_after r s.is_open d (place_of r d past) a) (zero_alike r d past)
+    ap (λ (s : Standing). place s (last_said (got_says (says_at d)) (since r d (a ∷ past)))) (stands_after r d past a)
+    ∙ ap (λ (b : Bool). place (standing_after r (is_open r 0 past) d (standing r d past) a) b)
+    (said_after (opens_now r d past a) (belongs r d past a) (got_says (says_at d)) a (since r d past))
 
 -- an end goes on
 pub end_goes_on : (e : End) (places : List Place) (past : List Act) (a : Act) → EndFits e past

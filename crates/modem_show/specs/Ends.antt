@@ -8,7 +8,8 @@ use Rattle.mux_station.specs.Written.{is_kind}
 use Rattle.mux_station.specs.Messages.{Message}
 use Rattle.mux_station.specs.Acts as act
 use Rattle.mux_station.specs.Acts.{Act}
-use Rattle.mux_station.specs.Opening.{Standing, standing_after, standings, opens, ends, since, not_open}
+use Rattle.mux_station.specs.Opening.{opens, ends, since}
+use Rattle.mux_station.specs.OpeningRule.{Standing, standing, standing_after, not_open}
 use Rattle.mux_station.specs.Stopping.{last_said, got_says, msc_says, flow_says}
 use Rattle.modem_show.specs.declared.place.Place.{Place}
 use Rattle.modem_show.specs.Ways.{other, is_from}
@@ -52,7 +53,7 @@ abbrev pub says_at : ℕ → Message → Option Bool
 says_at d = if d == 0 then flow_says else msc_says d
 
 abbrev pub place_of : Role → ℕ → List Act → Place
-place_of r d past = place (standings r d past).own (last_said (got_says (says_at d)) (since r d past))
+place_of r d past = place (standing r d past) (last_said (got_says (says_at d)) (since r d past))
 
 -- the stop that is kept, where the act opens the connection, or belongs to its time of being open
 abbrev pub stop_after : Bool → Bool → Option Bool → Bool → Bool

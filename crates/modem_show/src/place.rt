@@ -1,7 +1,9 @@
 //! What is kept of a connection at one end.
 ghost use Rattle.std.specs.Prelude.{◌≡◌, ◌==◌, ◌&&◌, ◌||◌, not, Bool};
 ghost use Rattle.mux_frame.specs.Frames.{frame_of};
-ghost use Rattle.mux_station.specs.Opening.{is_mode_frame, asks, ends_itself, ends, opens, standing_after};
+ghost use Rattle.mux_station.specs.Opening.{is_mode_frame, asks, ends, opens};
+ghost use Rattle.mux_station.specs.OpeningRule.{standing_after};
+ghost use Rattle.mux_station.specs.States.{ends_itself};
 ghost use Rattle.mux_station.specs.Stopping.{got_says};
 ghost use Rattle.modem_show.specs.Ways.{act_of};
 ghost use Rattle.modem_show.specs.Ends.{says_at, stop_after, place_after, stop_in};

@@ -11,8 +11,9 @@ use Rattle.serial_line.specs.LineViews.{LineView}
 use Rattle.modem_sim.specs.Acts.{Act, Wire, End, is_handing}
 use Rattle.modem_sim.specs.Cores.{Core, Fits, GoesFrom, HasNoneToDo, HasReleased, IsGivenOn, IsHandedOn, IsLater, SaysNext, Wired, after_wire_act, box_at, holds_over}
 use Rattle.modem_sim.specs.Sims.{SimMachine, SimMachineFits, SimState, FitsSim}
-use Rattle.modem_sim.specs.Turns.{DoesEach, Exchanges, Exchange, HandsOn, Leaves, NoneIsThere, ReadHasRoom, Offers, count_after, empty_after, has_moved, left_of, stalled_after}
-use Rattle.modem_history.specs.Turns.{Read, Write, calls_made, octets_read, octets_written}
+use Rattle.modem_sim.specs.Turns.{DoesEach, Exchanges, Exchange, HandsOn, Leaves, NoneIsThere, has_moved, left_of}
+use Rattle.modem_history.specs.EveryTurn.{empty_after, stalled_after}
+use Rattle.modem_history.specs.Turns.{Offers, Read, ReadHasRoom, Write, calls_made, counted, octets_read, octets_written}
 
 -- a machine still fits whatever past it fitted
 abbrev pub SimMachineStays : SimMachine → SimMachine → Type 0
@@ -165,10 +166,10 @@ pub record FeedsNone (old new : SimMachine) : Type 0 where
 -- octets were offered to the line where some waited, and it took so many
 pub record Writes (before later : LineView) (old new : SimMachine) (count : ℕ) : Type 0 where
   pub write : Option Write
-  pub offers : Offers write old.out
+  pub offers : Offers write (left_of write old.out)
   pub went : later.sent ≡ before.sent ++ octets_written write
   pub none_came : later.received ≡ before.received
-  pub calls_are : later.calls ≡ count_after (calls_made write) before.calls
+  pub calls_are : later.calls ≡ counted before.calls (calls_made write)
   pub stalled_are : later.stalled_writes ≡ stalled_after write before.stalled_writes
   pub empty_stay : later.empty_reads ≡ before.empty_reads
   pub parts : octets_written write ++ left_of write old.out ≡ old.out
@@ -180,11 +181,12 @@ pub record Writes (before later : LineView) (old new : SimMachine) (count : ℕ)
 pub record ReadsOnce (before later : LineView) (old new : SimMachine) (came : Bool) : Type 0 where
   pub read : Option Read
   pub room : ReadHasRoom read
+  pub some_room : (r : Read) → read ≡ Some r → 1 ≤ r.room
   pub reads : old.unfed ≡ [] → read ≢ None
   pub reads_fed : read ≢ None → old.unfed ≡ []
   pub came_are : later.received ≡ before.received ++ octets_read read
   pub none_went : later.sent ≡ before.sent
-  pub calls_are : later.calls ≡ count_after (calls_made read) before.calls
+  pub calls_are : later.calls ≡ counted before.calls (calls_made read)
   pub empty_are : later.empty_reads ≡ empty_after read before.empty_reads
   pub stalled_stay : later.stalled_writes ≡ before.stalled_writes
   pub says : came ≡ nat_lt 0 (length (octets_read read))

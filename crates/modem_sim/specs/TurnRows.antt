@@ -6,6 +6,7 @@ use Rattle.mux_station.specs.declared.role.Role.TheVariants.{Initiator}
 use Rattle.mux_station.specs.Acts as station
 use Rattle.mux_station.specs.Written.{written}
 use Rattle.serial_line.specs.LineViews.{LineView}
+use Rattle.modem_history.specs.Turns.{Offers}
 use Rattle.modem_sim.specs.declared.error.SimError.{SimError}
 use Rattle.modem_sim.specs.declared.error.SimError.TheVariants as why
 use Rattle.modem_sim.specs.declared.sim.SimTurn.{SimTurn}
@@ -15,7 +16,7 @@ use Rattle.modem_sim.specs.Polls.{Says, Turned, kept_end}
 use Rattle.modem_sim.specs.Boxes.{is_released}
 use Rattle.modem_sim.specs.Cores.{box_at}
 use Rattle.modem_sim.specs.Sims.{SimMachine, SimState, has_failed, is_ended}
-use Rattle.modem_sim.specs.Turns.{DoesSteps, Exchange, GoesTurn, HandsOn, IsAtRest, IsHeldUp, IsIdle, IsIdleAtLine, IsLeft, Means, NoneIsThere, Offers, ReadHasRoom, TakesAtHand, has_moved}
+use Rattle.modem_sim.specs.Turns.{DoesSteps, Exchange, Exchanges, GoesTurn, HandsOn, IsAtRest, IsHeldUp, IsIdle, IsIdleAtLine, IsLeft, Means, NoneIsThere, TakesAtHand, has_moved}
 use Rattle.modem_sim.specs.HistoryRows.{announcing, comes, gives, offers, one, plain, ready_one, sends, silent}
 
 -- the line was read and gave nothing; it was offered an octet, of which it took none, or one
@@ -130,11 +131,14 @@ WrongCounts =
     ((old new : SimState ℕ) → new.machine.unfed ≡ [] → ¬ IsIdleAtLine unseen old new)
     × ((old new : SimState ℕ) → new.machine.out ≢ [] → ¬ IsIdleAtLine unseen old new)
 
+abbrev pub reads_in_vain : Exchange
+reads_in_vain = record { write = None; read = Some (record { room = 0; octets = [] }) }
+
 -- an offer has octets, and a read has room
 abbrev pub WrongCalls : Type 0
 WrongCalls =
-    ((out : List ℕ) → ¬ Offers (Some (record { offered = []; count = 0 })) out)
-    × (¬ ReadHasRoom (Some (record { room = 0; octets = [] })))
+    ((left : List ℕ) → ¬ Offers (Some (record { offered = []; count = 0 })) left)
+    × ((old new : SimState ℕ) → ¬ Exchanges unseen old new reads_in_vain)
 
 -- A turn doesn't answer Moved where nothing changed; it doesn't leave a step that is due, a frame at hand for
 -- which there is room, nor an answer that it could hand to the station; and it doesn't say that all is there

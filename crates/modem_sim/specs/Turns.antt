@@ -1,17 +1,17 @@
 -- What a turn of a simulated modem asks of its line, what it does, and what its answers mean: Moved, Idle and
 -- Ended.
-use Rattle.std.specs.Prelude.{◌≡◌, ◌≢◌, ℕ, zero, suc, ◌+◌, ◌<◌, ◌≤◌, ◌==◌, ◌||◌, nat_lt, Bool, true, false, List, [], ◌++◌, length, drop, Option, Some, None, is_none}
+use Rattle.std.specs.Prelude.{◌≡◌, ◌≢◌, ℕ, ◌+◌, ◌<◌, ◌≤◌, ◌==◌, ◌||◌, nat_lt, Bool, true, false, List, [], ◌++◌, length, drop, Option, Some, None, is_none}
 use Rattle.std.specs.List.{list_all, list_any}
 use Rattle.mux_frame.specs.Frames.{Frame}
 use Rattle.mux_frame.specs.Spelling as spelling
-use Rattle.serial_line.specs.Counts.{one_more, counted_if_none}
+use Rattle.serial_line.specs.Counts.{one_more}
 use Rattle.mux_station.specs.declared.role.Role.TheVariants.{Responder}
 use Rattle.mux_station.specs.Stopping.{is_stopped}
 use Rattle.mux_station.specs.Offering.{offered, data_out}
 use Rattle.mux_station.specs.Acts as station
 use Rattle.mux_station.specs.Sending as sending
-use Rattle.modem_history.specs.Wholes.{IsPrefixOf}
-use Rattle.modem_history.specs.Turns.{Read, Write, calls_made, octets_read, octets_written}
+use Rattle.modem_history.specs.EveryTurn.{count_taken, empty_after, stalled_after}
+use Rattle.modem_history.specs.Turns.{Offers, Read, ReadHasRoom, Write, calls_made, counted, octets_read, octets_written}
 use Rattle.serial_line.specs.LineViews.{LineView}
 use Rattle.modem_sim.specs.declared.script.StepAct.{StepAct}
 use Rattle.modem_sim.specs.declared.sim.SimTurn.{SimTurn}
@@ -32,55 +32,23 @@ pub record Exchange : Type 0 where
   pub write : Option Write
   pub read : Option Read
 
--- a write offers the first of the octets that wait, at least one; the line takes some or none of them
-pub record IsOffer (w : Write) (unwritten : List ℕ) : Type 0 where
-  pub some : w.offered ≢ []
-  pub bound : w.count ≤ length w.offered
-  pub first : IsPrefixOf w.offered unwritten
+-- of octets that wait, those that the line didn't take
+abbrev pub left_of : Option Write → List ℕ → List ℕ
+left_of write out = drop (count_taken write) out
 
--- without a write no octets wait
-abbrev pub Offers : Option Write → List ℕ → Type 0
-Offers None unwritten = unwritten ≡ []
-Offers (Some w) unwritten = IsOffer w unwritten
-
--- a read has room for an octet at least, and no more comes than there is room for
-pub record IsRoom (r : Read) : Type 0 where
-  pub some : 1 ≤ r.room
-  pub bound : length r.octets ≤ r.room
-
-abbrev pub ReadHasRoom : Option Read → Type 0
-ReadHasRoom None = Unit {0}
-ReadHasRoom (Some r) = IsRoom r
-
--- a line's count after so many calls
-abbrev pub count_after : ℕ → ℕ → ℕ
-count_after zero count = count
-count_after (suc calls) count = one_more (count_after calls count)
-
--- a line's count of writes that took none and could take some, and of reads that gave none and could give some
-abbrev pub stalled_after : Option Write → ℕ → ℕ
-stalled_after None count = count
-stalled_after (Some w) count = counted_if_none (length w.offered) w.count count
-
-abbrev pub empty_after : Option Read → ℕ → ℕ
-empty_after None count = count
-empty_after (Some r) count = counted_if_none r.room (length r.octets) count
-
--- what a turn exchanged with its line
+-- what a turn exchanged with its line: it took the first of the octets that waited, and a read had room for one at
+-- least
 pub record Exchanges {X : Type 0} (see : X → LineView) (old new : SimState X) (t : Exchange) : Type 0 where
   pub came : (see new.line).received ≡ (see old.line).received ++ octets_read t.read
   pub room : ReadHasRoom t.read
+  pub some_room : (r : Read) → t.read ≡ Some r → 1 ≤ r.room
   pub went : (see new.line).sent ≡ (see old.line).sent ++ octets_written t.write
-  pub offers : Offers t.write old.machine.out
+  pub offers : Offers t.write (left_of t.write old.machine.out)
+  pub parts : octets_written t.write ++ left_of t.write old.machine.out ≡ old.machine.out
   pub calls_are :
-      (see new.line).calls ≡ count_after (calls_made t.write + calls_made t.read) (see old.line).calls
+      (see new.line).calls ≡ counted (see old.line).calls (calls_made t.write + calls_made t.read)
   pub stalled_are : (see new.line).stalled_writes ≡ stalled_after t.write (see old.line).stalled_writes
   pub empty_are : (see new.line).empty_reads ≡ empty_after t.read (see old.line).empty_reads
-
--- the octets that the line didn't take
-abbrev pub left_of : Option Write → List ℕ → List ℕ
-left_of None out = out
-left_of (Some w) out = drop w.count out
 
 -- Steps were done or passed over in their order. The line was read just where all octets that had come were fed.
 -- Octets that it didn't take wait for the next turn. The first of the octets that have come were fed, at least one

@@ -4,7 +4,7 @@ use Rattle.std.specs.List.{list_any}
 use Rattle.mux_frame.specs.Frames.{Frame}
 use Rattle.mux_station.specs.declared.role.Role.{Role}
 use Rattle.mux_station.specs.Acts.{Call, Open, Close, Flow, Offer, Act}
-use Rattle.mux_station.specs.Opening.{since, standings}
+use Rattle.mux_station.specs.Opening.{is_asked, since}
 use Rattle.mux_station.specs.States.{IsShut, is_opened, state_of}
 use Rattle.mux_station.specs.Stopping.{last_said, got_says, msc_says, flow_says}
 use Rattle.mux_station.specs.Sending.{is_loss, queue, station_view, refused, got_refused, probe_of, after_act}
@@ -15,7 +15,7 @@ use Rattle.mux_station.specs.Stations.{Channel, Station, channel_at, setting_of,
 -- is what the last MSC for it said, and what was offered on it is what was given on and then what its ring holds.
 pub record ChannelFits (r : Role) (d : ℕ) (past : List Act) (c : Channel) : Type 0 where
   pub state_is : state_of r d past ≡ c.state
-  pub unasked : is_opened c.state ≡ true → (standings r d past).own.is_asked ≡ false
+  pub unasked : is_opened c.state ≡ true → is_asked r d past ≡ false
   pub stop_is : is_opened c.state ≡ true → last_said (got_says (msc_says d)) (since r d past) ≡ c.is_stopped
   pub ring_is : is_opened c.state ≡ true → offered r d past ≡ data_out r d past ++ c.waiting
 

@@ -2,6 +2,7 @@ pub mod Written
 pub mod Messages
 pub mod Acts
 pub mod Opening
+pub mod OpeningRule
 pub mod States
 pub mod Stopping
 pub mod Tables

@@ -1,12 +1,20 @@
 -- The initiator's and the responder's table, read over the past.
-use Rattle.std.specs.Prelude.{◌≡◌, ℕ, ◌==◌, ◌+◌, ◌&&◌, ◌||◌, Bool, true, false, List, [], ◌∷◌, if◌then◌else◌}
+use Rattle.std.specs.Prelude.{ℕ, ◌==◌, ◌+◌, ◌&&◌, ◌||◌, Bool, true, false, List, [], ◌∷◌, if◌then◌else◌}
 use Rattle.mux_frame.specs.declared.frame.Kind.{Kind}
 use Rattle.mux_frame.specs.declared.frame.Kind.TheVariants.{Sabm, Ua, Dm, Disc}
 use Rattle.mux_station.specs.declared.role.Role.{Role}
 use Rattle.mux_station.specs.declared.role.Role.TheVariants.{Initiator, Responder}
+use Rattle.mux_station.specs.Written.{is_on}
 use Rattle.mux_station.specs.Messages.{cld, brings_command, brings_response}
 use Rattle.mux_station.specs.Acts.{Act, Got, Sent, Tick, Lost}
-use Rattle.mux_station.specs.Opening.{is_open, ends_itself}
+
+-- the act ends d by itself, where zero says whether 0 is open before it
+abbrev pub ends_itself : Bool → ℕ → Act → Bool
+ends_itself zero d Lost = true
+ends_itself zero d (Sent f) = is_on Disc d f || brings_command cld f
+ends_itself zero d (Got f) =
+    is_on Disc d f || (is_on Dm d f || (is_on Sabm d f || (zero && brings_command cld f)))
+ends_itself zero d _ = false
 
 -- the state of a connection: the counts are of the SABM or DISC sent again, and in Stopping of the ticks
 pub data State : Type 0 where
@@ -126,7 +134,3 @@ state_of r d past = (states r d past).own
 abbrev pub states_then : Role → ℕ → States → List Act → States
 states_then r d s [] = s
 states_then r d s (a ∷ acts) = states_then r d (states_after r d s a) acts
-
--- the law: a connection is Opened in the table exactly where it is open
-abbrev pub OpenedIsOpen : Role → List Act → Type 0
-OpenedIsOpen r past = (d : ℕ) → is_opened (state_of r d past) ≡ is_open r d past

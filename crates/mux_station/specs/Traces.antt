@@ -2,7 +2,7 @@
 use Rattle.std.specs.Prelude.{◌≡◌, ℕ, List, [], ◌∷◌}
 use Rattle.mux_station.specs.declared.role.Role.{Role}
 use Rattle.mux_station.specs.Acts.{Act, Called}
-use Rattle.mux_station.specs.Opening.{standings, since}
+use Rattle.mux_station.specs.Opening.{is_asked, since}
 use Rattle.mux_station.specs.States.{states}
 use Rattle.mux_station.specs.Stopping.{is_stopped}
 use Rattle.mux_station.specs.Sending.{queue}
@@ -18,7 +18,7 @@ without_calls (a ∷ past) = a ∷ without_calls past
 -- was given on
 pub record LeavesNoTrace (r : Role) (d : ℕ) (past : List Act) : Type 0 where
   pub states_same : states r d (without_calls past) ≡ states r d past
-  pub standings_same : standings r d (without_calls past) ≡ standings r d past
+  pub asked_same : is_asked r d (without_calls past) ≡ is_asked r d past
   pub since_same : since r d (without_calls past) ≡ without_calls (since r d past)
   pub stopped_same : is_stopped r d (without_calls past) ≡ is_stopped r d past
   pub queue_same : queue (without_calls past) ≡ queue past

@@ -11,11 +11,10 @@ ghost use Rattle.mux_station.specs.GivenUp.{SeesTheTick};
 ghost use Rattle.mux_station.specs.Senders.{SeesTheTurn};
 ghost use Rattle.mux_station.specs.Giving.{GivesOn};
 ghost use Rattle.mux_station.specs.Noting.{NotedTruly};
-ghost use Rattle.mux_station.specs.Opening.{IsOpenByPlaces};
-ghost use Rattle.mux_station.specs.States.{OpenedIsOpen};
+ghost use Rattle.mux_station.specs.OpeningRule.{IsOpenByPlaces, OpenedIsOpen};
 ghost use Rattle.mux_station.specs.Sending.{StationSetting, StationLawful, AnswersKeep, NoFrameAfterLoss, GivesBeginning};
 
-/// A connection is Opened in the table exactly where it is open; and it is open exactly where some act
+/// A connection is open exactly where the rule of openings has it open; and it is open exactly where some act
 /// opened it and no later act ended it.
 #[tactic(auto, using(crate::proofs::states::OpenedStates::opened_is_open, crate::proofs::states::OpenByPlaces::is_open_by_places))]
 pub fn openings()

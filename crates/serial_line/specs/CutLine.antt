@@ -1,5 +1,5 @@
 -- A line in memory.
-use Rattle.std.specs.Prelude.{ℕ, ◌+◌, ◌-◌, List, [], ◌++◌, length, take, drop, min, Result, Ok, Err}
+use Rattle.std.specs.Prelude.{ℕ, ◌+◌, ◌-◌, List, [], ◌++◌, length, take, drop, min, None, Result, Ok, Err}
 use Rattle.serial_line.specs.declared.cuts.Cut.{Cut}
 use Rattle.serial_line.specs.declared.line.LineFault.{LineFault}
 use Rattle.serial_line.specs.Counts.{one_more, counted_if_none}
@@ -61,7 +61,7 @@ cut_view s = record {
 
 -- what was put in and carried to it, and what was taken and carried from it
 abbrev pub other_side_of : CutState → OtherSide
-other_side_of s = record { given = s.received ++ s.waiting; passed_on = take s.moved s.sent }
+other_side_of s = record { given = s.received ++ s.waiting; passed_on = take s.moved s.sent; rings = None }
 
 -- after a read with this room: it counts as a call, and its entry is used up
 abbrev pub after_cut_read : CutState → (room : ℕ) → Result ℕ LineFault → CutState

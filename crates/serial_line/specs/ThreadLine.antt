@@ -1,7 +1,8 @@
 -- A line between threads.
-use Rattle.std.specs.Prelude.{◌≡◌, ℕ, List, []}
+use Rattle.std.specs.Prelude.{◌≡◌, ℕ, List, [], Some}
 use Rattle.ring_id.specs.Rings.{RingId}
 use Rattle.serial_line.specs.LineViews.{LineView}
+use Rattle.serial_line.specs.OtherSide.{OtherSide}
 
 -- one end of a line
 pub record EndState : Type 0 where
@@ -25,6 +26,10 @@ thread_view e = record {
   empty_reads = e.empty_reads;
   stalled_writes = e.stalled_writes;
 }
+
+-- what an end knows of its other side: the rings that lead there
+abbrev pub thread_side : EndState → OtherSide
+thread_side e = record { given = []; passed_on = []; rings = Some (record { incoming = e.incoming; outgoing = e.outgoing }) }
 
 -- these are the two ends of one line
 pub record AreEnds (a b : EndState) : Type 0 where

@@ -20,8 +20,8 @@ pub trait SerialLine {
     ghost seen: { Self → LineView };
 
     /// What happened on the line's other side, as two lists: all octets that were put in there to be read here, read or not;
-    /// and the octets taken here that were given on there. No call of the line's user changes them. A line that doesn't know
-    /// its other side shows two empty lists.
+    /// and the octets taken here that were given on there. A line that doesn't know this shows two empty lists. A line between
+    /// threads shows the rings that lead there. No call of the line's user changes any of these.
     ghost other_side: { Self → OtherSide };
 
     /// Reads: puts the next octets at the front of the buffer, and says how many. Nothing is said of the buffer behind them.

@@ -27,9 +27,9 @@ pub enum ZeroRead {
     Ended,
 }
 
-/// A line over a reader and a writer. Each call makes one call of the reader or of the writer. Where that answers `Interrupted`,
-/// `WouldBlock` or `TimedOut`, the call moves 0 octets; any other error is a fault. The writer is never flushed: one that keeps octets
-/// back isn't for a line.
+/// A line over a reader and a writer. Where one of these answers `Interrupted`, `WouldBlock` or `TimedOut`, the call moves 0 octets; any
+/// other error is a fault. How often a call asks them no clause says. The writer is never flushed: one that keeps octets back isn't for a
+/// line.
 ///
 /// Contracts see the octets and counts of a line; what the reader is still to give and what the writer holds, where those are
 /// known; what an empty read means; and how many calls the reader or the writer refused for now. That count stops at
@@ -152,7 +152,7 @@ fn empty(zero: ZeroRead, failures: &mut u64) -> Result<usize, LineFault>
     }
 }
 
-// One read. A read of nothing, where there was room, fails if it says that the line has ended.
+// Reads. A read of nothing, where there was room, fails if it says that the line has ended.
 fn read_once<R: Read>(
     reader: &mut R,
     zero: ZeroRead,
@@ -185,7 +185,7 @@ impl<R: Read, W: Write> SerialLine for StreamLine<R, W> {
 
     ghost other_side = { λ _. unknown_side };
 
-    /// Reads once.
+    /// Reads from the reader.
     fn try_read(&mut self, buffer: &mut [u8]) -> Result<usize, LineFault>
         ensures bound { IfOk result (λ n. n ≤ length buffer.old) }
         ensures line { MatchResult result
@@ -223,7 +223,7 @@ impl<R: Read, W: Write> SerialLine for StreamLine<R, W> {
         Ok(count)
     }
 
-    /// Writes once.
+    /// Writes to the writer.
     fn try_write(&mut self, octets: &[u8]) -> Result<usize, LineFault>
         ensures bound { IfOk result (λ n. n ≤ length octets.now) }
         ensures line { MatchResult result

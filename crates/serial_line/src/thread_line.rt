@@ -2,8 +2,7 @@
 ghost use Rattle.std.specs.Prelude.{◌≡◌, ◌+◌, ◌<◌, ◌≤◌, ◌++◌, ◌↔◌, ◌⊎◌, [], take, drop, length, IsOk, IfOk, IsErrOf};
 ghost use mathlib.Core.List.{IsPrefix};
 ghost use Rattle.serial_line.specs.Counts.{one_more, counted_if_none};
-ghost use Rattle.serial_line.specs.OtherSide.{unknown_side};
-ghost use Rattle.serial_line.specs.ThreadLine.{AreEnds, IsNew, thread_view};
+ghost use Rattle.serial_line.specs.ThreadLine.{AreEnds, IsNew, thread_side, thread_view};
 
 use crate::counting::count_if_none;
 use crate::errors::LineError;
@@ -92,7 +91,7 @@ impl ThreadLine {
 impl SerialLine for ThreadLine {
     ghost seen = { thread_view };
 
-    ghost other_side = { λ _. unknown_side };
+    ghost other_side = { thread_side };
 
     /// Gives the octets that are there, as many as the buffer holds. Behind them it leaves the buffer as it was.
     fn try_read(&mut self, buffer: &mut [u8]) -> Result<usize, LineFault>

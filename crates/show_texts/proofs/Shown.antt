@@ -119,8 +119,8 @@ octets_told old new k p octets rest e n t = record {
 }
 
 -- no packet is told yet
-pub none_so_far : (t : Teller) (a x : Option (List ℕ)) → ToldSoFar t t a a x x
-none_so_far t a x = record {
+pub no_packet_so_far : (t : Teller) (a x : Option (List ℕ)) → ToldSoFar t t a a x x
+no_packet_so_far t a x = record {
   packets = [];
   items = [];
   written = [];
@@ -132,9 +132,9 @@ none_so_far t a x = record {
 }
 
 -- and then one more
-pub more_so_far : (old now new : Teller) (a b c x y z : Option (List ℕ)) (octets : List ℕ) → ToldSoFar old now a b x y
+pub packet_so_far : (old now new : Teller) (a b c x y z : Option (List ℕ)) (octets : List ℕ) → ToldSoFar old now a b x y
     → Consumes b c octets → ShowsOctets now new octets y z → ToldSoFar old new a c x z
-more_so_far old now new a b c x y z octets h r s =
+packet_so_far old now new a b c x y z octets h r s =
     let t = s.tells.tells in
     record {
       packets = record { kind = s.tells.k; passed = s.tells.p } ∷ h.packets;

@@ -61,7 +61,7 @@ fn show_octets<W: Write>(
     teller.write_much(output)
 }
 
-#[tactic(auto, using(crate::proofs::Shown::none_so_far, crate::proofs::Shown::more_so_far, crate::proofs::Shown::whole_told, crate::proofs::Progressing::part_read, crate::proofs::Progressing::all_read, crate::proofs::Progressing::read_none_counted))]
+#[tactic(auto, using(crate::proofs::Shown::no_packet_so_far, crate::proofs::Shown::packet_so_far, crate::proofs::Shown::whole_told, crate::proofs::Progressing::part_read, crate::proofs::Progressing::all_read, crate::proofs::Progressing::read_none_counted))]
 /// Tells all packets of the input, writes the text as it grows, and tells how much was read.
 fn show_packets<I: Read, W: Write, P: Write>(
     alloc: Global,

@@ -4,11 +4,12 @@ use Rattle.std.proofs.Common.{arith, sym, ap, ◌∙◌}
 use Rattle.std.specs.List.{prefix_len}
 use Rattle.std.proofs.lemmas.Grind.{common_steps}
 use Rattle.std.proofs.Math.Seq.{take-append-add, take-add}
-use Rattle.std.proofs.lemmas.List.{append-nil, take_min, length-take, take_all, take-append-le, length-append, length-drop}
+use Rattle.std.proofs.lemmas.List.{append-nil, append_assoc, take_min, length-take, take_all, take-append-le, length-append, length-drop}
 use Rattle.std.proofs.lemmas.List.Folds.{list_any-append}
 use Rattle.memchr.specs.Find.{IsFirstByte, Passes, is_byte2}
 use Rattle.at_text.specs.Lines.{is_line_end, cut, lines, kept_run}
 use Rattle.at_text.specs.Reading.{line_in, HasRead}
+use Rattle.at_text.specs.Runs.{LineRun, LeadsBack}
 use Rattle.at_text.proofs.lines.UnfinishedLines.{has_end, has_end-take, ended_runs-behind, no_run, unfinished_all, unfinished-behind, reads_on}
 
 -- a run that isn't full takes one more octet
@@ -158,3 +159,40 @@ keeps_none kept (c ∷ octets) e some k = end_kept kept c octets e k
 -- what keeps nothing has read nothing
 pub none_read : (kept : List ℕ) → kept ≡ [] → HasRead kept kept
 none_read kept e = rw e refl
+
+-- ## A line that ends
+
+-- octets behind a run that has some make a line
+pub filled_in : (run more : List ℕ) → 0 < length run → cut (run ++ more) ∷ [] ≡ line_in (run ++ more) true
+filled_in [] more some = absurd (omega (arith, some))
+filled_in (c ∷ run) more some = refl
+
+-- and so do octets of their own
+pub line_whole : (octets : List ℕ) (n : ℕ) → n ≡ min 512 (length octets) → 0 < length octets → take n octets ∷ [] ≡ line_in octets true
+line_whole [] n e some = absurd (omega (arith, some))
+line_whole (c ∷ octets) n e some = rw e (ap (λ (xs : List ℕ). xs ∷ []) (take_min 512 (c ∷ octets)))
+
+-- a line end behind a run and more octets gives the line that they are
+pub line_joined : (run more : List ℕ) (c : ℕ) → has_end run ≡ false → has_end more ≡ false → is_line_end c ≡ true → line_in (run ++ more) true ≡ lines (run ++ (more ++ c ∷ []))
+line_joined run more c none free e =
+    line_by_end true (run ++ more) c (none_kept run more none free) e ∙ ap lines (append_assoc run more (c ∷ []))
+
+-- and nothing is kept behind it
+pub none_joined_kept : (run more : List ℕ) (c : ℕ) → has_end run ≡ false → has_end more ≡ false → is_line_end c ≡ true → [] ≡ kept_run (run ++ (more ++ c ∷ []))
+none_joined_kept run more c none free e =
+    run_by_end true (run ++ more) c (none_kept run more none free) e ∙ ap kept_run (append_assoc run more (c ∷ []))
+
+-- what stood at a mark stands at the front of a run that has grown
+pub front_stays : (n : ℕ) (run more : List ℕ) → n ≤ length run → length run ≤ 512 → take n (cut (run ++ more)) ≡ take n run
+front_stays n run more few fits =
+    let room : length run + (512 - length run) ≡ 512 = omega (arith, fits) in
+    let grown : cut (run ++ more) ≡ run ++ take (512 - length run) more = ap (λ (k : ℕ). take k (run ++ more)) (sym room) ∙ take-append-add run more (512 - length run) in
+    ap (take n) grown ∙ take-append-le n run (take (512 - length run) more) few
+
+-- so the way back from it is the same
+pub back_grown : (was : LineRun) (run more : List ℕ) → length run ≤ 512 → LeadsBack was (record { octets = run; has_ended = false }) → LeadsBack was (record { octets = cut (run ++ more); has_ended = true })
+back_grown was run more fits back =
+    let n = length was.octets in
+    let front : take n run ≡ was.octets = ap (λ (r : LineRun). r.octets) back in
+    let few : n ≤ length run = (let l : length (take n run) ≡ n = ap length front in let m = length-take n run in omega (arith, l, m)) in
+    ap (λ (xs : List ℕ). let r : LineRun = record { octets = xs; has_ended = was.has_ended } in r) (front_stays n run more few fits) ∙ back

@@ -56,8 +56,8 @@ no_count text word rest lacks cut none l is =
     none l.after is.few (subst (λ (w : List ℕ). SaysCount w l.after) (sym same.0) is.count)
 
 -- nor one behind whose first blank no line stands, of 1 to 512 octets
-pub no_text : (text word rest : List ℕ) → LacksByte 32 word → text ≡ word ++ 32 ∷ rest → is_line rest ≡ false → IsNoLast text
-no_text text word rest lacks cut none l is =
+pub no_answer_text : (text word rest : List ℕ) → LacksByte 32 word → text ≡ word ++ 32 ∷ rest → is_line rest ≡ false → IsNoLast text
+no_answer_text text word rest lacks cut none l is =
     let same = same_parts text word is.word rest l.line.text lacks (count_lacks is.word l.after is.few is.count) cut is.text_is in
     false≢true (sym none ∙ ap is_line same.1 ∙ is.small)
 

@@ -39,8 +39,8 @@ bad_here IsBad Has line lines why h f = record {
 }
 
 -- no line is read yet
-pub read_none : (IsBad : List ℕ → Type 0) (Has : List ℕ → LineFault → Type 0) (text : List ℕ) → IsRead IsBad Has text text 0
-read_none IsBad Has text = record { bad = λ k why h. let e : 0 + k ≡ k = omega arith in rw e h; counted = omega arith }
+pub no_line_read : (IsBad : List ℕ → Type 0) (Has : List ℕ → LineFault → Type 0) (text : List ℕ) → IsRead IsBad Has text text 0
+no_line_read IsBad Has text = record { bad = λ k why h. let e : 0 + k ≡ k = omega arith in rw e h; counted = omega arith }
 
 -- one more line is read
 pub read_more : (IsBad : List ℕ → Type 0) (Has : List ℕ → LineFault → Type 0) (text left line rest : List ℕ) (place : ℕ) → IsRead IsBad Has text left place → input_lines left ≡ line ∷ input_lines rest → length rest < length left → (IsBad line → ⊥) → IsRead IsBad Has text rest (place + 1)

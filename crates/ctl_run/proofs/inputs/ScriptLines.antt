@@ -28,8 +28,8 @@ pub no_connection : (words : List ℕ) → ((n : ℕ) → n < 62 → first_word 
 no_connection words unknown n text s r e = unknown n s (ap first_word e ∙ first_front (number_text n) text (lacks_number (nat_lt n 10) n))
 
 -- what follows it is no command line
-pub no_text : (words : List ℕ) → refusal_of (behind_word words) ≢ None → AreNoCommand words
-no_text words refused n text s r e =
+pub no_command_text : (words : List ℕ) → refusal_of (behind_word words) ≢ None → AreNoCommand words
+no_command_text words refused n text s r e =
     refused (ap (λ (l : List ℕ). refusal_of (behind_word l)) e ∙ ap refusal_of (behind_front (number_text n) text (lacks_number (nat_lt n 10) n)) ∙ r)
 
 -- behind a connection it is the command line that isn't as it must be

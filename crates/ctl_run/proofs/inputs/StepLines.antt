@@ -67,8 +67,8 @@ abbrev AreNoText : List ℕ → Type 0
 AreNoText words = (n : ℕ) (text : List ℕ) → n < 62 → words ≢ number_text n ++ 32 ∷ text
 
 -- it is the text that is missing behind the connection
-pub text_fault : (words : List ℕ) (d : ℕ) → first_word words ≡ number_text d → d < 62 → length (first_word words) ≡ length words → AnnouncementFault words LineFault.Text
-text_fault words d e known l = inr (is_connection words d e known, inl (λ n. n (as_long words (omega (arith, l))), refl))
+pub announcement_fault : (words : List ℕ) (d : ℕ) → first_word words ≡ number_text d → d < 62 → length (first_word words) ≡ length words → AnnouncementFault words LineFault.Text
+announcement_fault words d e known l = inr (is_connection words d e known, inl (λ n. n (as_long words (omega (arith, l))), refl))
 
 -- words after `hold` that aren't two connections
 abbrev AreNotTwo : List ℕ → Type 0
@@ -98,7 +98,7 @@ announces words word text n e b is apart =
 
 -- where nothing stands behind the connection, the text is missing
 pub text_fault_at : (words word : List ℕ) (n : ℕ) → word ≡ first_word words → word ≡ number_text n → n < 62 → length word ≡ length words → AnnouncementFault words LineFault.Text
-text_fault_at words word n e is known l = text_fault words n (sym e ∙ is) known (ap length (sym e) ∙ l)
+text_fault_at words word n e is known l = announcement_fault words n (sym e ∙ is) known (ap length (sym e) ∙ l)
 
 -- Lines that say no step.
 

@@ -13,18 +13,18 @@ use Rattle.ctl_run.specs.LineFaults.{SubmissionFault}
 use Rattle.ctl_run.proofs.inputs.ReadLines.{IsRead, read_more}
 
 -- so many lines are read, and what they submit
-pub record AreRead (callers : ℕ) (input left : List ℕ) (all : List Submission) (place : ℕ) : Type 0 where
+pub record ReadSubmissions (callers : ℕ) (input left : List ℕ) (all : List Submission) (place : ℕ) : Type 0 where
   pub read : IsRead (IsNoSubmission callers) (SubmissionFault callers) input left place
   pub said : (more : List Submission) → AreSubmitted callers (input_lines left) more → AreSubmitted callers (input_lines input) (all ++ more)
 
 -- nothing is left: these are what the whole input submits
-pub all_read : (callers : ℕ) (input left : List ℕ) (all : List Submission) (place : ℕ) → AreRead callers input left all place → left ≡ [] → AreSubmitted callers (input_lines input) all
-all_read callers input left all place h e =
+pub all_submitted : (callers : ℕ) (input left : List ℕ) (all : List Submission) (place : ℕ) → ReadSubmissions callers input left all place → left ≡ [] → AreSubmitted callers (input_lines input) all
+all_submitted callers input left all place h e =
     let whole : AreSubmitted callers (input_lines input) (all ++ []) = h.said [] (rw e tt) in
     rw (sym (append-nil all)) whole
 
 -- an empty line
-pub passed_over : (callers : ℕ) (input left line rest : List ℕ) (all : List Submission) (place : ℕ) → AreRead callers input left all place → input_lines left ≡ line ∷ input_lines rest → length rest < length left → line ≡ [] → AreRead callers input rest all (place + 1)
+pub passed_over : (callers : ℕ) (input left line rest : List ℕ) (all : List Submission) (place : ℕ) → ReadSubmissions callers input left all place → input_lines left ≡ line ∷ input_lines rest → length rest < length left → line ≡ [] → ReadSubmissions callers input rest all (place + 1)
 passed_over callers input left line rest all place h e l n = record {
   read = read_more (IsNoSubmission callers) (SubmissionFault callers) input left line rest place h.read e l (λ b. b.0 n);
   said = λ more i. h.said more (rw (e, n) i);
@@ -35,7 +35,7 @@ submits callers [] lines s all f h rest = absurd (f refl)
 submits callers (c ∷ line) lines s all f h rest = (h, rest)
 
 -- a line that submits something
-pub submitted_next : (callers : ℕ) (input left line rest : List ℕ) (all later : List Submission) (place : ℕ) (s : Submission) → AreRead callers input left all place → input_lines left ≡ line ∷ input_lines rest → length rest < length left → line ≢ [] → Submits callers line s → later ≡ all ++ s ∷ [] → AreRead callers input rest later (place + 1)
+pub submitted_next : (callers : ℕ) (input left line rest : List ℕ) (all later : List Submission) (place : ℕ) (s : Submission) → ReadSubmissions callers input left all place → input_lines left ≡ line ∷ input_lines rest → length rest < length left → line ≢ [] → Submits callers line s → later ≡ all ++ s ∷ [] → ReadSubmissions callers input rest later (place + 1)
 submitted_next callers input left line rest all later place s h e l f says n = record {
   read = read_more (IsNoSubmission callers) (SubmissionFault callers) input left line rest place h.read e l (λ b. b.1 s says);
   said = λ more i.

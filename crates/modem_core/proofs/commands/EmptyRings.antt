@@ -14,7 +14,6 @@ use Rattle.mux_station.specs.States.{is_opened}
 use Rattle.mux_station.specs.Offering.{octets_sent, joined_octets, offered, data_out}
 use Rattle.mux_station.specs.Stations.{channel_at}
 use Rattle.mux_station.specs.Traces.{without_calls}
-use Rattle.mux_station.proofs.states.OpenedStates.{opened_is_open}
 use Rattle.mux_station.proofs.law_proofs.PastsWithoutCalls.{same_given}
 use Rattle.at_text.specs.Dialects.{Dialect}
 use Rattle.at_text.specs.Windows.{Mark, answers, answer_of, answered, has_final, windows}
@@ -123,7 +122,7 @@ ring_empty s v past d l r b z o none =
     let ms = marks s.role d past in
     let out = information_out s.role d past in
     let fits = l.runs.fits.channels_are d b in
-    let opened : is_opened (channel_at v.station d).state ≡ true = ap is_opened (sym (l.states_are d b)) ∙ (opened_is_open s.role (wire past) d ∙ o) in
+    let opened : is_opened (channel_at v.station d).state ≡ true = ap is_opened (sym (l.states_are d b)) ∙ o in
     let all_before : acc ≡ i.before = i.accepted_are ∙ (ap (λ (qs : List Request). i.before ++ qs) none ∙ append-nil i.before) in
     let count : answered (dialect_in v) ms ≡ length acc = ap (λ (c : Dialect). answered c ms) (sym l.dialect_is) ∙ (i.answered_are ∙ ap length (sym all_before)) in
     let sent : length (concat (texts acc)) ≤ length out = all_out (dialect_in v) (length out) acc ms (begins_in_turn s past r.lawful d).first (omega (arith, count)) in

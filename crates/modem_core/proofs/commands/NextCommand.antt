@@ -17,7 +17,7 @@ use Rattle.modem_core.proofs.commands.SentTexts.{begun_in as begun_between}
 use Rattle.modem_history.proofs.commands.TextCounts.{begins_with}
 use Rattle.modem_history.proofs.commands.WholeTexts.{whole_few}
 use Rattle.modem_history.proofs.commands.CommandOrder.{counts}
-use Rattle.modem_history.proofs.commands.BegunCommands.{Kept, begun_counted, none_open}
+use Rattle.modem_history.proofs.commands.BegunCommands.{KeptCommands, begun_counted, no_open_window}
 use Rattle.modem_core.proofs.commands.SentTexts.{texts_both, length_texts, out_of, whole_part, reached_part, begun_none, begun_one}
 
 -- ## Counts
@@ -65,7 +65,7 @@ pub record NextIs (dialect : Dialect) (before cmds : List Request) (ms : List Ma
   pub joins : out ++ w ≡ concat (texts before) ++ text_of first
 
 -- the commands that began are those wholly sent
-pub began : (dialect : Dialect) (ms : List Mark) (out : List ℕ) (qs : List Request) → Kept dialect ms out qs → begun_count ms ≡ whole_in (length out) (texts qs)
+pub began : (dialect : Dialect) (ms : List Mark) (out : List ℕ) (qs : List Request) → KeptCommands dialect ms out qs → begun_count ms ≡ whole_in (length out) (texts qs)
 began dialect ms out qs k =
     let few : whole_in (length out) (texts qs) ≤ length qs = let f = whole_few (length out) (texts qs) in let l = length_texts qs in omega (arith, f, l) in
     sym (begun_counted ms) ∙ (ap length k.first ∙ (length-map (whole_after (length out) qs) line_of ∙ length-take-le (whole_in (length out) (texts qs)) qs few))
@@ -79,7 +79,7 @@ pub take_all : (before : List Request) → take (length before + 1) (before ++ [
 take_all before = take-append-add before [] 1 ∙ append-nil before
 
 -- octets that wait are the rest of the first command whose answer isn't whole, and no window is open
-pub next_is : (dialect : Dialect) (before cmds : List Request) (ms : List Mark) (out w : List ℕ) → Kept dialect ms out (before ++ cmds) → answered dialect ms ≡ length before
+pub next_is : (dialect : Dialect) (before cmds : List Request) (ms : List Mark) (out w : List ℕ) → KeptCommands dialect ms out (before ++ cmds) → answered dialect ms ≡ length before
     → out ++ w ≡ concat (texts (take (answered dialect ms + 1) (before ++ cmds))) → 0 < length w → NextIs dialect before cmds ms out w
 next_is dialect before [] ms out w k a e l =
     absurd (
@@ -110,7 +110,7 @@ next_is dialect before (c ∷ rest) ms out w k a e l =
       first = c;
       rest = rest;
       split = refl;
-      idle = none_open (open_window dialect ms) (omega (arith, all, some, here, a));
+      idle = no_open_window (open_window dialect ms) (omega (arith, all, some, here, a));
       front = front;
       out_is = out_is;
       all_is = all_is;

@@ -8,7 +8,7 @@ use Rattle.mux_station.specs.declared.role.Role.{Role}
 use Rattle.mux_station.specs.declared.role.Role.TheVariants.{Initiator}
 use Rattle.mux_station.specs.declared.error.StationError.TheVariants.{NotOpen, ControlChannel, NoRoom}
 use Rattle.mux_station.specs.Acts.{Offer, Act, Called}
-use Rattle.mux_station.specs.Opening.{standings, since, since_after, belongs, is_open, ends}
+use Rattle.mux_station.specs.Opening.{since, since_after, belongs, is_open, ends}
 use Rattle.mux_station.specs.States.{is_opened}
 use Rattle.mux_station.specs.Offering.{octets_offered, joined_octets, offered}
 use Rattle.mux_station.specs.Sending.{StationSetting, is_loss, station_view, refused, called_frames, sent_after, probe_of, or_else}
@@ -76,8 +76,7 @@ offer_on old new d octets past r keeps f h k z o l =
     let handles = f.taken (taken old d octets z opened l) in
     let s = setting_of old in
     let there : StationFits new (Called (Offer d octets) ∷ past) = subst (λ (fs : List Frame). StationFits new (sent_after fs (Called (Offer d octets) ∷ past))) (none_called s past d octets) (handles.fits past h) in
-    let t = standings Initiator d past in
-    let here : belongs Initiator d past (Called (Offer d octets)) ≡ true = belongs_here t.own.is_open (ends t.zero.is_open d (Called (Offer d octets))) o (or_off (not (d == 0))) in
+    let here : belongs Initiator d past (Called (Offer d octets)) ≡ true = belongs_here (is_open Initiator d past) (ends (is_open Initiator 0 past) d (Called (Offer d octets))) o (or_off (not (d == 0))) in
     record {
       seen = Called (Offer d octets) ∷ past;
       fits = there;

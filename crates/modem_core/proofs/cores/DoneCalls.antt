@@ -13,14 +13,14 @@ use Rattle.modem_history.specs.Sessions.{heard_as}
 use Rattle.modem_history.specs.Turns.{outcomes_told, lines_heard}
 use Rattle.modem_desk.specs.declared.request.Urc.{Urc}
 use Rattle.modem_core.specs.WaitingLists.{Keeps}
-use Rattle.modem_core.specs.declared.asker.Asker.{Asker}
+use Rattle.modem_queues.specs.declared.asker.Asker.{Asker}
 use Rattle.modem_core.specs.declared.telling.Happened.TheVariants as happened
 use Rattle.modem_core.specs.Cores.{Core, GoesOn, Handles, MayCome, state_shown}
 use Rattle.modem_history.specs.Calls.{Setting}
 use Rattle.modem_core.specs.Receiving.{cut_to}
 use Rattle.modem_core.specs.Ticked.{bared}
 use Rattle.modem_core.specs.Doing.{Adds, Does, QueuesAtMost, acts_since, first_frames, new_frames, outcomes_to, stop_in}
-use Rattle.modem_core.specs.Stops.{is_answered, is_end_of}
+use Rattle.modem_queues.specs.Stops.{is_answered, is_end_of}
 use Rattle.modem_core.specs.Holding.{HoldsFit, KeepsHeld}
 use Rattle.modem_core.specs.Telling.{told_by, told_to, left_by}
 use Rattle.modem_core.proofs.cores.FramesAfterLoss.{lost_got}

@@ -5,8 +5,7 @@ use Rattle.mux_frame.specs.Frames.{Frame}
 use Rattle.mux_station.specs.declared.role.Role.TheVariants.{Initiator}
 use Rattle.mux_station.specs.declared.role.Role.{Role}
 use Rattle.mux_station.specs.Acts as station
-use Rattle.mux_station.specs.Opening.{ends_itself}
-use Rattle.mux_station.specs.States.{State, States, IsShut, is_opened, states, states_after, state_of, own_after}
+use Rattle.mux_station.specs.States.{ends_itself, State, States, IsShut, is_opened, states, states_after, state_of, own_after}
 use Rattle.mux_station.specs.Tables.{have_room, octets_of}
 use Rattle.mux_station.specs.Written.{is_data_frame}
 use Rattle.mux_station.specs.Sending.{queue}

@@ -6,13 +6,13 @@ use Rattle.mux_frame.specs.declared.frame.Kind.TheVariants.{Uih}
 use Rattle.mux_station.specs.declared.role.Role.{Role}
 use Rattle.mux_station.specs.Acts as station
 use Rattle.mux_station.specs.Written.{is_on}
-use Rattle.mux_station.specs.Opening.{Standings, is_open}
+use Rattle.mux_station.specs.Opening.{is_open}
 use Rattle.mux_station.specs.States.{State, States, state_of}
 use Rattle.mux_station.specs.Stopping.{is_stopped}
 use Rattle.mux_station.specs.Tables.{by_table, by_message, by_frame}
 use Rattle.mux_station.specs.Sending.{queue, sent_after}
 use Rattle.mux_station.specs.Traces.{without_calls}
-use Rattle.mux_station.proofs.law_proofs.PastsWithoutCalls.{same_states, same_standings, same_stopped, same_queue}
+use Rattle.mux_station.proofs.law_proofs.PastsWithoutCalls.{same_states, same_open, same_stopped, same_queue}
 use Rattle.modem_history.specs.Acts.{Act, Sent, wire, after}
 
 -- the station has seen the past, and calls besides
@@ -25,7 +25,7 @@ state_seen r d seen past h = sym (ap (λ (s : States). s.own) (same_states r d s
 
 -- each is open by both or by neither
 pub open_seen : (r : Role) (d : ℕ) (seen : List station.Act) (past : List Act) → IsSeen seen past → is_open r d seen ≡ is_open r d (wire past)
-open_seen r d seen past h = sym (ap (λ (s : Standings). s.own.is_open) (same_standings r d seen)) ∙ ap (is_open r d) h
+open_seen r d seen past h = sym (same_open r d seen) ∙ ap (is_open r d) h
 
 -- each is stopped by both or by neither
 pub stopped_seen : (r : Role) (d : ℕ) (seen : List station.Act) (past : List Act) → IsSeen seen past → is_stopped r d seen ≡ is_stopped r d (wire past)

@@ -7,13 +7,14 @@ use Rattle.mux_frame.specs.Frames.{Frame}
 use Rattle.mux_station.specs.declared.role.Role.{Role}
 use Rattle.mux_station.specs.declared.role.Role.TheVariants.{Initiator, Responder}
 use Rattle.mux_station.specs.Acts as station
-use Rattle.mux_station.specs.Opening.{Standings, standings, since, opens_now, is_open, ends}
+use Rattle.mux_station.specs.Opening.{since, opens_now, is_open, ends}
+use Rattle.mux_station.proofs.states.OpeningSteps.{is_open_after}
 use Rattle.mux_station.specs.Offering.{octets_offered, joined_octets, offered}
 use Rattle.mux_station.specs.Sending.{Waiting, sent_after}
 use Rattle.mux_station.specs.Traces.{without_calls}
 use Rattle.mux_station.proofs.states.StatesAfterActs.{since_goes_on}
 use Rattle.mux_station.proofs.user_calls.CallFrames.{opens_sent, opens_called}
-use Rattle.mux_station.proofs.law_proofs.PastsWithoutCalls.{same_standings}
+use Rattle.mux_station.proofs.law_proofs.PastsWithoutCalls.{same_open}
 use Rattle.modem_desk.specs.declared.request.Ask.{Ask}
 use Rattle.modem_desk.specs.declared.request.Ask.TheVariants.{OpenChannel, CloseChannel, Command, Probe, Stop}
 use Rattle.modem_desk.specs.declared.request.Request.{Request}
@@ -27,7 +28,7 @@ use Rattle.modem_core.specs.Cores.{probe_or, probe_in}
 
 -- a connection is open by a past as it is without the calls
 pub open_plain : (r : Role) (d : ℕ) (x : List station.Act) → is_open r d x ≡ is_open r d (without_calls x)
-open_plain r d x = sym (ap (λ (s : Standings). s.own.is_open) (same_standings r d x))
+open_plain r d x = sym (same_open r d x)
 
 was_open : (o b e : Bool) → (o || (b && e)) ≡ true → o ≡ false → b ≡ true
 was_open false true e h k = refl
@@ -36,7 +37,7 @@ was_open true b e h k = cc
 
 -- a connection that is open once a frame is sent was open before
 pub sent_was : (r : Role) (d : ℕ) (f : Frame) (x : List station.Act) → is_open r d (station.Sent f ∷ x) ≡ true → is_open r d x ≡ true
-sent_was r d f x h = was_open _ (is_open r d x) (not (ends (standings r d x).zero.is_open d (station.Sent f))) h (opens_sent r d x f)
+sent_was r d f x h = was_open _ (is_open r d x) (not (ends (is_open r 0 x) d (station.Sent f))) (sym (is_open_after r d x (station.Sent f)) ∙ h) (opens_sent r d x f)
 
 -- so was one that is open once some frames are sent
 pub all_was : (r : Role) (d : ℕ) (fs : List Frame) (x : List station.Act) → is_open r d (sent_after fs x) ≡ true → is_open r d x ≡ true
@@ -50,7 +51,7 @@ opens_tick Responder d x = refl
 
 -- one that is open after a tick was open before
 pub tick_was : (r : Role) (d : ℕ) (x : List station.Act) → is_open r d (station.Tick ∷ x) ≡ true → is_open r d x ≡ true
-tick_was r d x h = was_open _ (is_open r d x) (not (ends (standings r d x).zero.is_open d station.Tick)) h (opens_tick r d x)
+tick_was r d x h = was_open _ (is_open r d x) (not (ends (is_open r 0 x) d station.Tick)) (sym (is_open_after r d x station.Tick) ∙ h) (opens_tick r d x)
 
 -- a tick brings no information
 pub info_tick : (r : Role) (d : ℕ) (x : List station.Act) → is_open r d (station.Tick ∷ x) ≡ true → info_got d (since r d (station.Tick ∷ x)) ≡ info_got d (since r d x)

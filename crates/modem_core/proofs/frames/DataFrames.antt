@@ -10,7 +10,7 @@ use Rattle.mux_station.specs.declared.role.ChannelState.{ChannelState}
 use Rattle.mux_station.specs.declared.noted.Noted.{Noted}
 use Rattle.mux_station.specs.Acts as station
 use Rattle.mux_station.specs.Written.{is_data_frame}
-use Rattle.mux_station.specs.Opening.{standings, opens_now, is_open}
+use Rattle.mux_station.specs.Opening.{opens_now, is_open, is_asked}
 use Rattle.mux_station.specs.States.{is_opened, state_of}
 use Rattle.mux_station.specs.Stages.{as_shown}
 use Rattle.mux_station.specs.Offering.{offered}
@@ -18,14 +18,14 @@ use Rattle.mux_station.specs.Sending.{Waiting, station_view as station_seen, sen
 use Rattle.mux_station.specs.Noting.{noted_of}
 use Rattle.mux_station.specs.Stations.{Station, channel_at, setting_of}
 use Rattle.mux_station.specs.Tables.{by_frame}
-use Rattle.mux_station.proofs.states.OpenedStates.{opened_is_open}
 use Rattle.mux_station.specs.Fitting as station_fits
 use Rattle.mux_station.specs.Traces.{without_calls}
 use Rattle.at_text.specs.Dialects.{Dialect}
 use Rattle.at_text.specs.Lines.{lines, kept_run}
 use Rattle.at_text.proofs.lines.UnfinishedLines.{reads_on}
-use Rattle.at_text.specs.Windows.{Line, answered, open_window}
-use Rattle.at_text.specs.OpenWindow.{OpenWindow, FitsMarks, shown}
+use Rattle.at_text.specs.Windows.{Line, Mark, answered, open_window}
+use Rattle.at_text.specs.OpenWindow.{shown}
+use Rattle.at_text.proofs.windows.AnswersUnderWay.{answer_fits}
 use Rattle.modem_desk.specs.declared.request.Answer.{Answer}
 use Rattle.at_text.specs.declared.unsolicited.UrcKind.{UrcKind}
 use Rattle.modem_desk.specs.declared.request.Ask.{Ask}
@@ -43,14 +43,14 @@ use Rattle.modem_core.specs.Telling.{told_by, probe_noted}
 use Rattle.modem_core.specs.Cores as cores
 use Rattle.modem_core.specs.Cores.{dialect_in, Core, LaneFits, Runs, RunsUnless, Fits, IsRun, IsSettingOf, MayCome, GoesOn, Handles, state_shown, may_wait, probe_or, probe_in, lane_at}
 use Rattle.modem_core.specs.Receiving.{reads_data}
-use Rattle.modem_core.specs.Stops.{asker_of}
+use Rattle.modem_queues.specs.Stops.{asker_of}
 use Rattle.modem_core.specs.Reports.{read_each, Listens, Read, after_all}
-use Rattle.modem_core.specs.Handing.{HandsOn, EndedBy, ReadsFrame}
+use Rattle.modem_core.specs.Handing.{HandsOn, EndedBy, ReadsFrame, text_on, window_by}
 use Rattle.modem_history.proofs.calls.CalledActs.{calls_said}
 use Rattle.modem_history.proofs.requests.RequestsAfterCalls.{stays}
 use Rattle.modem_history.proofs.calls.CallEnds.{frames_in, now_in, ended}
 use Rattle.modem_history.proofs.requests.StepOfFrame as owning
-use Rattle.modem_history.proofs.requests.StepOfFrame.{is_read, data_hand, closes, opens_none, got_was, carries_apart}
+use Rattle.modem_history.proofs.requests.StepOfFrame.{is_read, data_hand, closes, data_opens_none, got_was, carries_apart}
 use Rattle.modem_core.proofs.requests.LaterOutcomes.{AllSay, has_ended, tolds_are}
 use Rattle.modem_core.proofs.cores.WholeCalls as runs
 use Rattle.modem_core.proofs.cores.WholeCalls.{lost_on, hand_distinct}
@@ -67,8 +67,9 @@ use Rattle.modem_core.proofs.frames.LanesAfterFrame.{plain_lane}
 use Rattle.modem_core.proofs.frames.OtherFrames.{ticks_said, probe_along, noted_says, all_told, same_read, shown_opened}
 use Rattle.modem_core.proofs.lines.ReportedLines.{each_is}
 use Rattle.modem_core.proofs.frames.DataLines.{said_is, shows_after, closes_shown, data_state, data_frames, data_noted, Quiet, all_quiet, minus_first, probe_waits}
-use Rattle.modem_core.proofs.frames.DataLanes.{DataKept, data_kept, ring_empty, text_next, offered_then}
+use Rattle.modem_core.proofs.frames.DataLanes.{DataKept, data_kept, ring_answered, text_next, offered_then}
 use Rattle.modem_core.proofs.commands.OfferedOctets.{Handed, line_on, nothing_on}
+use Rattle.modem_core.proofs.frames.OpenCommands.{ends_same, window_shows}
 
 -- ## What the call knows
 
@@ -79,7 +80,7 @@ pub record DataCame (old new : Core) (f : Frame) (n : Noted) (lane : Lane) (st :
   pub reads : ReadsFrame old f lane acts
   pub handles : station_fits.StationHandles old.station st (station.Got f)
   pub noted_is : (past : List station.Act) → station_fits.StationFits old.station past → n ≡ noted_of old.station.role (station_seen (setting_of old.station) past) f
-  pub ends : EndedBy (is_some (lane_at old f.dlci).window && is_none lane.window) (record old { station = st; lanes = slice_set old.lanes f.dlci lane }) new f.dlci
+  pub ends : EndedBy (is_some (lane_at old f.dlci).under_way && is_none lane.under_way) (record old { station = st; lanes = slice_set old.lanes f.dlci lane }) new f.dlci
 
 abbrev hand_then : Bool → ℕ → List Request → List Request
 hand_then done d hand = if done then without_first (commands_on d) hand else hand
@@ -96,25 +97,25 @@ finished kept new d false e = record { station = kept.station; new_is = e; next 
 
 -- ## What is read
 
-record LaneRead (s : Setting) (past : List Act) (f : Frame) (old : Lane) (owner : Option Request) (lane : Lane) (acts : List Act) : Type 0 where
+record LaneRead (s : Setting) (past : List Act) (f : Frame) (old : Lane) (hand : List Request) (lane : Lane) (acts : List Act) : Type 0 where
   kept_is : lane.kept ≡ kept_run (old.kept ++ f.info)
-  window_is : lane.window ≡ after_all s.dialect old.window (lines (old.kept ++ f.info))
-  acts_are : acts ≡ Got f ∷ by_lines s f.dlci owner (marks s.role f.dlci past) (lines (old.kept ++ f.info))
+  window_is : window_by hand f.dlci lane ≡ after_all s.dialect (window_by hand f.dlci old) (lines (old.kept ++ f.info))
+  acts_are : acts ≡ Got f ∷ by_lines s f.dlci (first_on f.dlci hand) (marks s.role f.dlci past) (lines (old.kept ++ f.info))
 
-lane_read : (v : Core) (s : Setting) (past : List Act) (seen : List station.Act) (f : Frame) (lane : Lane) (acts : List Act) → s.role ≡ Initiator → IsSettingOf s v → ReadsFrame v f lane acts → LaneFits s.dialect f.dlci seen past (lane_at v f.dlci)
-    → LaneRead s past f (lane_at v f.dlci) (first_on f.dlci v.hand) lane acts
+lane_read : (v : Core) (s : Setting) (past : List Act) (seen : List station.Act) (f : Frame) (lane : Lane) (acts : List Act) → IsSettingOf s v → ReadsFrame v f lane acts → LaneFits s.dialect f.dlci seen past (lane_at v f.dlci)
+    → window_by v.hand f.dlci (lane_at v f.dlci) ≡ option_map (shown s.dialect) (open_window s.dialect (marks s.role f.dlci past)) → LaneRead s past f (lane_at v f.dlci) v.hand lane acts
 unfolding ReadsFrame Listens
-lane_read v s past seen f lane acts role h reads k =
+lane_read v s past seen f lane acts h reads k shows =
     let old = lane_at v f.dlci in
     let owner = first_on f.dlci v.hand in
-    let first : Read = record { kept = old.kept; window = old.window; acts = Got f ∷ [] } in
+    let window = window_by v.hand f.dlci old in
+    let first : Read = record { kept = old.kept; window = window; acts = Got f ∷ [] } in
     let each = reads s.listens h.listens_are ∙ ap (λ (c : Dialect). read_each c s.listens f.dlci (option_map asker_of owner) first f.info) (sym h.dialect_is) in
     let all = each ∙ each_is s.dialect s.listens f.dlci (option_map asker_of owner) first (information_in Initiator f.dlci past) f.info reads_on (sym k.kept_is) in
-    let shows = subst (λ (x : Role). old.window ≡ option_map (shown s.dialect) (open_window s.dialect (marks x f.dlci past))) (sym role) k.window_fits.shows in
     record {
       kept_is = ap (λ (x : Read). x.kept) all;
       window_is = ap (λ (x : Read). x.window) all;
-      acts_are = ap (λ (x : Read). x.acts) all ∙ ap (λ (x : List Act). Got f ∷ x) (said_is s f.dlci owner (lines (old.kept ++ f.info)) old.window (marks s.role f.dlci past) shows);
+      acts_are = ap (λ (x : Read). x.acts) all ∙ ap (λ (x : List Act). Got f ∷ x) (said_is s f.dlci owner (lines (old.kept ++ f.info)) window (marks s.role f.dlci past) shows);
     }
 
 -- ## Those in hand
@@ -202,9 +203,8 @@ open_on v l past r f i live k h =
     let was : is_open Initiator f.dlci (wire past) ≡ true = open_here v.station f.dlci r.seen past i.role_is r.fits r.same k ∙ parts.0 in
     let before : is_open Initiator f.dlci r.seen ≡ true = open_seen Initiator f.dlci r.seen past r.same ∙ was in
     let now : is_open Initiator f.dlci (seen_then v r.seen f) ≡ true
-    = sym (opened_is_open Initiator (seen_then v r.seen f) f.dlci)
-    ∙ (ap (λ (w : List station.Act). is_opened (state_of Initiator f.dlci w)) (seen_data v l past r f i live parts.1)
-    ∙ (ap is_opened (data_state f r.seen f.dlci parts.1) ∙ (opened_is_open Initiator r.seen f.dlci ∙ before))) in
+    = (ap (λ (w : List station.Act). is_opened (state_of Initiator f.dlci w)) (seen_data v l past r f i live parts.1)
+    ∙ (ap is_opened (data_state f r.seen f.dlci parts.1) ∙ before)) in
     record {
       data_is = parts.1;
       no_zero = not_on_zero f parts.1;
@@ -215,7 +215,7 @@ open_on v l past r f i live k h =
 
 -- what is kept of each connection
 data_lanes : (old : Core) (l : UrcKind → Bool) (past : List Act) (r : Runs old past) (f : Frame) (lane : Lane) (seen : List station.Act) (own_text : List ℕ) → IsSound old → f.dlci < 62 → is_lost past ≡ false → OpenOn old l past r f
-    → DataKept old l past r f (lane_at old f.dlci) → lane.kept ≡ kept_run ((lane_at old f.dlci).kept ++ f.info) → lane.window ≡ after_all (dialect_in old) (lane_at old f.dlci).window (lines ((lane_at old f.dlci).kept ++ f.info))
+    → DataKept old l past r f (lane_at old f.dlci) → lane.kept ≡ kept_run ((lane_at old f.dlci).kept ++ f.info) → window_by old.hand f.dlci lane ≡ option_map (shown (dialect_in old)) (open_window (dialect_in old) (marks Initiator f.dlci (ended (own old l) past (Got f))))
     → offered Initiator f.dlci seen ≡ concat (texts (take (answered (dialect_in old) (marks Initiator f.dlci (ended (own old l) past (Got f))) + 1) (accepted Initiator f.dlci (ended (own old l) past (Got f)))))
     → ((e : ℕ) → (f.dlci == e) ≡ false → offered Initiator e seen ≡ offered Initiator e (seen_then old r.seen f))
     → (e : ℕ) → e < 62 → (e == 0) ≡ false → is_open Initiator e (wire (ended (own old l) past (Got f))) ≡ true
@@ -227,20 +227,19 @@ data_lanes old l past r f lane seen own_text i k live o c kept window own_is oth
         let here : slice_index_or (slice_set old.lanes f.dlci lane) f.dlci new_lane ≡ lane = get_or-set_same old.lanes f.dlci lane new_lane (subst (λ (x : ℕ). f.dlci < x) (sym i.all) k) in
         let fits : LaneFits (dialect_in old) f.dlci seen (ended (own old l) past (Got f)) lane = record {
           kept_is = c.run_is ∙ sym kept;
-          window_fits = subst (λ (w : Option OpenWindow). FitsMarks (dialect_in old) w (marks Initiator f.dlci (ended (own old l) past (Got f)))) (sym window) c.window_fits;
+          under_way_fits = answer_fits (dialect_in old) (text_on f.dlci old.hand) lane.under_way (marks Initiator f.dlci (ended (own old l) past (Got f))) (record { in_turn = c.in_turn; shows = window });
           offered_is = own_is;
         } in
         subst (λ (x : ℕ). LaneFits (dialect_in old) x seen (ended (own old l) past (Got f)) (slice_index_or (slice_set old.lanes f.dlci lane) x new_lane)) (eqb-true f.dlci e g)
         (subst (λ (x : Lane). LaneFits (dialect_in old) f.dlci seen (ended (own old l) past (Got f)) x) (sym here) fits)
     by_same false g =
         let there : slice_index_or (slice_set old.lanes f.dlci lane) e new_lane ≡ lane_at old e = get_or-set_other old.lanes f.dlci e lane new_lane (λ (x : e ≡ f.dlci). eqb-false f.dlci e g (sym x)) in
-        let t = standings Initiator e (wire past) in
-        let never : opens_now Initiator e (wire past) (station.Got f) ≡ false = opens_none Initiator refl t.zero.is_open t.own.is_asked e f o.data_is in
+        let never : opens_now Initiator e (wire past) (station.Got f) ≡ false = data_opens_none Initiator refl (is_open Initiator 0 (wire past)) (is_asked Initiator e (wire past)) e f o.data_is in
         let was = got_was (own old l) e past f never on in
         let apart : (e == f.dlci) ≡ false = ne_eqb e f.dlci (λ (x : e ≡ f.dlci). eqb-false f.dlci e g (sym x)) in
         let plain = plain_lane old l past r f e (lane_at old e) (carries_apart e f (is_open Initiator e (wire past)) apart) never was (r.lanes_fit e m z was) in
         subst (λ (x : Lane). LaneFits (dialect_in old) e seen (ended (own old l) past (Got f)) x) (sym there)
-        (record { kept_is = plain.kept_is; window_fits = plain.window_fits; offered_is = others e g ∙ plain.offered_is })
+        (record { kept_is = plain.kept_is; under_way_fits = plain.under_way_fits; offered_is = others e g ∙ plain.offered_is })
 
 data_own : (old new : Core) (l : UrcKind → Bool) (past : List Act) (f : Frame) (n : Noted) (lane : Lane) (st : Station) (acts : List Act) → IsSound old → DataCame old new f n lane st acts
     → MayCome (own old l) old past (Got f) → GoesOn (own old l) new past (Got f) acts
@@ -260,12 +259,16 @@ data_own old new l past f n lane st acts i w m =
     let run = runs.run_on s past (Got f) refl tt m.run m.numbers in
     let lost_then : is_lost (ended s past (Got f)) ≡ false = lost_on s past (Got f) ∙ live in
     let c = data_kept old l past r f before o.data_is o.no_zero m.run o.was o.ended_now fits_lane in
-    let lr = lane_read old s past r.seen f lane acts refl m.setting w.reads fits_lane in
+    let shows = window_shows old l past r.seen d before live m.fits.hand_is m.run o.no_zero o.was fits_lane in
+    let lr = lane_read old s past r.seen f lane acts m.setting w.reads fits_lane shows in
     let ls = lines (before.kept ++ f.info) in
     let ms = marks Initiator d past in
-    let done = is_some before.window && is_none lane.window in
+    let window = window_by old.hand d before in
+    let shows_then = lr.window_is ∙ shows_after (dialect_in old) ls window ms shows in
+    let shows_ended = shows_then ∙ ap (λ (x : List Mark). option_map (shown (dialect_in old)) (open_window (dialect_in old) x)) (sym c.marks_are) in
+    let done = is_some before.under_way && is_none lane.under_way in
     let closed : done ≡ closes (dialect_in old) ms ls
-    = closes_shown (dialect_in old) before.window lane.window ms (ms ++ map Line ls) fits_lane.window_fits.shows (lr.window_is ∙ shows_after (dialect_in old) ls before.window ms fits_lane.window_fits.shows) in
+    = ends_same (text_on d old.hand) before.under_way lane.under_way ∙ closes_shown (dialect_in old) window (window_by old.hand d lane) ms (ms ++ map Line ls) shows shows_then in
     let quiet_noted : probe_noted n ≡ None
     = ap probe_noted (w.noted_is r.seen r.fits ∙ ap (λ (x : Role). noted_of x (station_seen (setting_of old.station) r.seen) f) i.role_is) ∙ data_noted (station_seen (setting_of old.station) r.seen) f o.data_is in
     let shown : ℕ → ChannelState = λ e. state_shown st false e in
@@ -300,14 +303,14 @@ data_own old new l past f n lane st acts i w m =
     ∙ (ap (λ (q : List Request). owning.left_by done (first_on d q) (filter (stays v now (Got f)) (in_hand past))) m.fits.hand_is
     ∙ hand_is done d old.hand (filter (stays v now (Got f)) (in_hand past)) left distinct))) in
     let empty : done ≡ true → (channel_at st d).waiting ≡ []
-    = λ e. ring_empty old l past r f before st i live o.no_zero w.in_range run o.ended_now o.now fits_lane c (sym closed ∙ e) role there in
+    = λ e. ring_answered old l past r f before st i live o.no_zero w.in_range run o.ended_now o.now fits_lane c (sym closed ∙ e) role there in
     let given = handed_by st fin.station d done (first_on d (hand_then done d old.hand)) (seen_then old r.seen f) role there w.in_range o.no_zero o.now empty fin.next in
     let final : fin.station.role ≡ Initiator = ap (λ x. x.role) given.setting ∙ role in
     let more : offered Initiator d given.seen ≡ concat (texts (take (answered (dialect_in old) (marks Initiator d (ended s past (Got f))) + 1) (accepted Initiator d (ended s past (Got f)))))
     = given.own
     ∙ (ap (λ (q : List Request). offered Initiator d (seen_then old r.seen f) ++ (if done then text_next (first_on d q) else [])) (sym hand)
     ∙ offered_then old l past r f before done lost_then o.no_zero run o.ended_now fits_lane c (sym closed)) in
-    let lanes = data_lanes old l past r f lane given.seen [] i w.in_range live o c lr.kept_is lr.window_is more given.others in
+    let lanes = data_lanes old l past r f lane given.seen [] i w.in_range live o c lr.kept_is shows_ended more given.others in
     let after_it : Core = record old { station = fin.station; lanes = slice_set old.lanes d lane; hand = hand_then done d old.hand } in
     let opened_zero : (q : Waiting) → old.station.probe ≡ Some q → says (Probe q.data_octets) ≡ None
     = λ q p.

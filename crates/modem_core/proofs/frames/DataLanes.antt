@@ -11,7 +11,7 @@ use Rattle.mux_station.specs.declared.role.Role.{Role}
 use Rattle.mux_station.specs.declared.role.Role.TheVariants.{Initiator}
 use Rattle.mux_station.specs.Acts as station
 use Rattle.mux_station.specs.Written.{is_data_frame}
-use Rattle.mux_station.specs.Opening.{standings, since, belongs, opens_now, is_open}
+use Rattle.mux_station.specs.Opening.{since, belongs, opens_now, is_open, is_asked}
 use Rattle.mux_station.specs.States.{is_opened}
 use Rattle.mux_station.specs.Offering.{octets_offered, joined_octets, offered, data_out}
 use Rattle.mux_station.specs.Sending.{called_frames as station_calls}
@@ -22,8 +22,7 @@ use Rattle.mux_station.proofs.states.StationPasts.{open_fits}
 use Rattle.at_text.specs.Dialects.{Dialect}
 use Rattle.at_text.specs.Lines.{lines, kept_run}
 use Rattle.at_text.proofs.lines.UnfinishedLines.{reads_on}
-use Rattle.at_text.specs.Windows.{Mark, Line, Window, answered, open_window}
-use Rattle.at_text.specs.OpenWindow.{FitsMarks}
+use Rattle.at_text.specs.Windows.{Mark, Line, Window, answered, open_window, IsInTurn}
 use Rattle.at_text.specs.declared.unsolicited.UrcKind.{UrcKind}
 use Rattle.modem_desk.specs.declared.request.Request.{Request}
 use Rattle.modem_core.specs.Lanes.{Lane}
@@ -35,7 +34,6 @@ use Rattle.modem_core.specs.SentTexts.{text_of}
 use Rattle.modem_history.specs.Begun.{begun_count}
 use Rattle.modem_history.specs.Wholes.{commands_for, InStep}
 use Rattle.modem_core.specs.Cores.{dialect_in, Core, LaneFits, Runs, IsRun}
-use Rattle.modem_core.specs.Reports.{after_all}
 use Rattle.modem_history.proofs.requests.RequestsAfterCalls.{first_head, head_of}
 use Rattle.modem_history.proofs.requests.ClosedWindows.{closed_stays}
 use Rattle.modem_history.proofs.commands.CommandOrder.{open_count, counts}
@@ -46,14 +44,13 @@ use Rattle.modem_history.specs.Wholes.{StaysInStep}
 use Rattle.modem_core.proofs.commands.SentTexts.{texts_both, length_texts}
 use Rattle.modem_history.proofs.calls.CallEnds.{ended, end_of}
 use Rattle.modem_history.proofs.requests.CommandsInStep.{open_first}
-use Rattle.modem_history.proofs.requests.StepOfFrame.{closes, opens_none, got_accepted, got_marks, data_carries, begun_same}
+use Rattle.modem_history.proofs.requests.StepOfFrame.{closes, data_opens_none, got_accepted, got_marks, data_carries, begun_same}
 use Rattle.modem_core.proofs.commands.NextCommand.{whole_least, began, take_one, take_all}
 use Rattle.modem_core.proofs.outgoing.WaitingData.{given_seen}
 use Rattle.modem_core.proofs.outgoing.CoreAfterFrame.{IsSound, own}
 use Rattle.modem_core.proofs.outgoing.LanesAfterFrame.{offered_after}
 use Rattle.modem_core.proofs.frames.StationAfterFrame.{seen_then, same_then}
 use Rattle.modem_core.proofs.frames.LanesAfterFrame.{opens_seen, offered_sent, since_by, run_end}
-use Rattle.modem_core.proofs.frames.DataLines.{shows_after}
 
 -- ## How many answers there are
 
@@ -67,7 +64,7 @@ counted false None (Some v) k k' n n' e s a b m = absurd (let x : Some v ≡ Non
 counted false (Some w) None k k' n n' e s a b m = cc
 
 -- a window more has its answer where the lines close one
-answered_then : (dialect : Dialect) (ms : List Mark) (ls : List (List ℕ)) (out : List ℕ) (qs : List Request) → begins.Kept dialect ms out qs → answered dialect (ms ++ map Line ls) ≡ answered dialect ms + (if closes dialect ms ls then 1 else 0)
+answered_then : (dialect : Dialect) (ms : List Mark) (ls : List (List ℕ)) (out : List ℕ) (qs : List Request) → begins.KeptCommands dialect ms out qs → answered dialect (ms ++ map Line ls) ≡ answered dialect ms + (if closes dialect ms ls then 1 else 0)
 answered_then dialect ms ls out qs k =
     counted (closes dialect ms ls) (open_window dialect ms) (open_window dialect (ms ++ map Line ls)) (answered dialect ms) (answered dialect (ms ++ map Line ls)) (begun_count ms) (begun_count (ms ++ map Line ls)) refl (closed_stays dialect ms ls)
     (counts dialect ms k.turns.order) (counts dialect (ms ++ map Line ls) (turns_lines dialect ls ms k.turns).order) (begun_same ms ls)
@@ -78,7 +75,7 @@ pub record DataKept (v : Core) (l : UrcKind → Bool) (past : List Act) (r : Run
   pub marks_are : marks Initiator f.dlci (ended (own v l) past (Got f)) ≡ marks Initiator f.dlci past ++ map Line (lines (lane.kept ++ f.info))
   pub accepted_are : accepted Initiator f.dlci (ended (own v l) past (Got f)) ≡ accepted Initiator f.dlci past
   pub run_is : run_on Initiator f.dlci (ended (own v l) past (Got f)) ≡ kept_run (lane.kept ++ f.info)
-  pub window_fits : FitsMarks (dialect_in v) (after_all (dialect_in v) lane.window (lines (lane.kept ++ f.info))) (marks Initiator f.dlci (ended (own v l) past (Got f)))
+  pub in_turn : IsInTurn (dialect_in v) (marks Initiator f.dlci (ended (own v l) past (Got f)))
   pub offered_same : offered Initiator f.dlci (seen_then v r.seen f) ≡ offered Initiator f.dlci r.seen
   pub answered_are : answered (dialect_in v) (marks Initiator f.dlci (ended (own v l) past (Got f))) ≡ answered (dialect_in v) (marks Initiator f.dlci past) + (if closes (dialect_in v) (marks Initiator f.dlci past) (lines (lane.kept ++ f.info)) then 1 else 0)
 
@@ -91,7 +88,7 @@ data_kept v l past r f lane h z run was o k =
     let a = Got f in
     let g = end_of s past a d in
     let ms = marks Initiator d past in
-    let never : opens_now Initiator d (wire past) (station.Got f) ≡ false = opens_none Initiator refl (standings Initiator d (wire past)).zero.is_open (standings Initiator d (wire past)).own.is_asked d f h in
+    let never : opens_now Initiator d (wire past) (station.Got f) ≡ false = data_opens_none Initiator refl (is_open Initiator 0 (wire past)) (is_asked Initiator d (wire past)) d f h in
     let brings : carries d f ≡ true = data_carries d f h z refl in
     let here : (carries d f && is_open Initiator d (wire past)) ≡ true = and_from (carries d f) (is_open Initiator d (wire past)) brings was in
     let same_lines : lines (run_on Initiator d past ++ f.info) ≡ lines (lane.kept ++ f.info) = ap (λ (x : List ℕ). lines (x ++ f.info)) k.kept_is in
@@ -110,8 +107,7 @@ data_kept v l past r f lane h z run was o k =
       marks_are = placed;
       accepted_are = g.accepted_is ∙ got_accepted s d past f never;
       run_is = run_is;
-      window_fits = subst (λ (w : List Mark). FitsMarks (dialect_in v) (after_all (dialect_in v) lane.window ls) w) (sym placed)
-          (record { in_turn = (turns_lines (dialect_in v) ls ms kept.turns).in_turn; shows = shows_after (dialect_in v) ls lane.window ms k.window_fits.shows });
+      in_turn = subst (IsInTurn (dialect_in v)) (sym placed) (turns_lines (dialect_in v) ls ms kept.turns).in_turn;
       offered_same =
           offered_sent d (station_calls (setting_of v.station) r.seen (station.Got f)) (station.Got f ∷ r.seen)
           ∙ (ap (λ (b : Bool). joined_octets (octets_offered d) (since_by b d (station.Got f) r.seen)) (opens_seen d r.seen past (station.Got f) r.same ∙ never)
@@ -139,10 +135,10 @@ closed_now (Some w) (Some v) h = cc
 closed_now None p h = cc
 
 -- where a command has its answer, nothing of it waits
-pub ring_empty : (v : Core) (l : UrcKind → Bool) (past : List Act) (r : Runs v past) (f : Frame) (lane : Lane) (st : Station) → IsSound v → is_lost past ≡ false → (f.dlci == 0) ≡ false → f.dlci < 62
+pub ring_answered : (v : Core) (l : UrcKind → Bool) (past : List Act) (r : Runs v past) (f : Frame) (lane : Lane) (st : Station) → IsSound v → is_lost past ≡ false → (f.dlci == 0) ≡ false → f.dlci < 62
     → IsRun (own v l) (ended (own v l) past (Got f)) → is_open Initiator f.dlci (wire (ended (own v l) past (Got f))) ≡ true → is_open Initiator f.dlci (seen_then v r.seen f) ≡ true → LaneFits (dialect_in v) f.dlci r.seen past lane
     → DataKept v l past r f lane → closes (dialect_in v) (marks Initiator f.dlci past) (lines (lane.kept ++ f.info)) ≡ true → st.role ≡ Initiator → station_fits.StationFits st (seen_then v r.seen f) → (channel_at st f.dlci).waiting ≡ []
-ring_empty v l past r f lane st i live z range run o seen_open k c done role h =
+ring_answered v l past r f lane st i live z range run o seen_open k c done role h =
     let s = own v l in
     let d = f.dlci in
     let w = (channel_at st d).waiting in
@@ -155,7 +151,7 @@ ring_empty v l past r f lane st i live z range run o seen_open k c done role h =
     let gone : data_out Initiator d (seen_then v r.seen f) ≡ out = given_seen Initiator d (seen_then v r.seen f) (ended s past (Got f)) (same_then v l past r f i live) z in
     let all : concat (texts (take (n + 1) qs)) ≡ out ++ w = sym (c.offered_same ∙ k.offered_is) ∙ (ring ∙ ap (λ (x : List ℕ). x ++ w) gone) in
     let sizes = ap length all ∙ length-append out w in
-    let kept = subst (λ (q : List Request). begins.Kept (dialect_in v) (marks Initiator d (ended s past (Got f))) out q) c.accepted_are (begins.kept s (ended s past (Got f)) run.lawful d) in
+    let kept = subst (λ (q : List Request). begins.KeptCommands (dialect_in v) (marks Initiator d (ended s past (Got f))) out q) c.accepted_are (begins.kept s (ended s past (Got f)) run.lawful d) in
     let whole = began (dialect_in v) (marks Initiator d (ended s past (Got f))) out qs kept in
     let all_counted = counts (dialect_in v) (marks Initiator d (ended s past (Got f))) kept.turns.order in
     let none : open_count (open_window (dialect_in v) (marks Initiator d (ended s past (Got f)))) ≡ 0
@@ -181,7 +177,8 @@ next_text before (c ∷ rest) =
     ap (λ (qs : List Request). concat (texts qs)) (take_one before rest c)
     ∙ (ap concat (texts_both before (c ∷ [])) ∙ (concat-append (texts before) (text_of c ∷ []) ∙ ap (λ (v : List ℕ). concat (texts before) ++ v) (append-nil (text_of c)))))
 
-step_of : (s : Setting) (past : List Act) (d : ℕ) → s.role ≡ Initiator → IsRun s past → is_lost past ≡ false → (d == 0) ≡ false → is_open s.role d (wire past) ≡ true → InStep s d past
+-- on an open connection the commands in hand are the last that were accepted
+pub step_of : (s : Setting) (past : List Act) (d : ℕ) → s.role ≡ Initiator → IsRun s past → is_lost past ≡ false → (d == 0) ≡ false → is_open s.role d (wire past) ≡ true → InStep s d past
 unfolding StaysInStep
 step_of s past d r run live z o = (stays_in_step s past run.lawful r run.whole run.numbers live run.complete d z).while_open o
 

@@ -38,7 +38,7 @@ use Rattle.modem_history.specs.Requests.{is_apart, are_distinct, commands_on, wi
 use Rattle.modem_core.specs.Telling.{told_by, told_to, left_by, said_to, probe_noted, open_told, close_told, command_told, probe_told, stop_told}
 use Rattle.modem_core.specs.Cores as cores
 use Rattle.modem_core.specs.Cores.{may_wait}
-use Rattle.modem_core.specs.Stops.{asker_of}
+use Rattle.modem_queues.specs.Stops.{asker_of}
 use Rattle.modem_core.specs.Reports.{done_by, said_as, said_lines, after_all}
 use Rattle.modem_history.proofs.outcomes.OutcomeCounts.{is_data}
 use Rattle.modem_history.proofs.requests.RequestsInHand.{all_swap}

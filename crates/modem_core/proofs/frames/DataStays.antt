@@ -21,7 +21,7 @@ use Rattle.mux_station.specs.Fitting.{StationFits, StationHandles}
 use Rattle.mux_station.proofs.states.StatesAfterActs.{untouched}
 use Rattle.mux_station.proofs.user_calls.CallFrames.{all_untouched, probe_needs}
 use Rattle.mux_station.proofs.user_calls.OpenAndClose.{stop_in_past}
-use Rattle.mux_station.proofs.received.TableFrames.{kept, got_kept, zero_same}
+use Rattle.mux_station.proofs.received.TableFrames.{kept, got_kept, zero_stays_same}
 use Rattle.mux_station.proofs.received.AnsweredFrames.{noted_in_past}
 use Rattle.modem_history.proofs.outcomes.OutcomeCounts.{is_data}
 use Rattle.modem_history.proofs.requests.StepsOfHistory.{not_on_zero}
@@ -58,7 +58,7 @@ probe_left s past f i e =
     let same : state_of s.role 0 (Got f ∷ past) ≡ state_of s.role 0 past
     = ap (λ (r : Role). state_of r 0 (Got f ∷ past)) i ∙ (data_state f past 0 e ∙ ap (λ (r : Role). state_of r 0 past) (sym i)) in
     got_kept s (zero_stays s past (Got f)) (probe_of s past) f
-    ∙ (ap (λ (b : Bool). kept b (message_in f) (probe_of s past)) (zero_same s past f none same)
+    ∙ (ap (λ (b : Bool). kept b (message_in f) (probe_of s past)) (zero_stays_same s past f none same)
     ∙ (ap (λ (m : Option Message). kept z m (probe_of s past)) (no_message f e)
     ∙ kept_none z (probe_of s past) (λ (k : z ≡ false). probe_needs s past k)))
 

@@ -13,7 +13,8 @@ use Rattle.mux_station.specs.declared.noted.Noted.TheVariants as noted
 use Rattle.mux_station.specs.Acts as station
 use Rattle.mux_station.specs.Written.{is_on, is_kind}
 use Rattle.mux_station.specs.Messages.{Message, message_of, cld, command_of}
-use Rattle.mux_station.specs.Opening.{Standings, since, since_after, belongs, opens, opens_now, is_open}
+use Rattle.mux_station.specs.Opening.{since, since_after, belongs, opens, opens_now, is_open, is_asked}
+use Rattle.mux_station.specs.Traces.{without_calls}
 use Rattle.mux_station.specs.States.{State, IsShut, IsOpening, IsOpened, IsClosing, IsStopping}
 use Rattle.mux_station.specs.Tables.{is_opening}
 use Rattle.mux_station.specs.Offering.{octets_offered, joined_octets, offered}
@@ -21,13 +22,13 @@ use Rattle.mux_station.specs.Sending.{StationView, Waiting, brings_probe_back, r
 use Rattle.mux_station.specs.Noting.{closed_on, by_initiator, noted_of_probe, noted_by_message, noted_by_table, noted_of, says_open}
 use Rattle.mux_station.specs.Stations.{Station, channel_at, setting_of}
 use Rattle.mux_station.specs.Fitting as station_fits
-use Rattle.mux_station.proofs.law_proofs.PastsWithoutCalls.{same_standings}
+use Rattle.mux_station.proofs.law_proofs.PastsWithoutCalls.{same_asked, same_open}
 use Rattle.mux_station.proofs.received.MessageFrames.{on_zero, opens_none}
 use Rattle.mux_station.proofs.received.StatesAfterFrames.{opens_own, opens_elsewhere}
 use Rattle.at_text.specs.Lines.{kept_run}
 use Rattle.at_text.specs.Windows.{Mark, answered}
-use Rattle.at_text.specs.OpenWindow.{FitsMarks}
-use Rattle.at_text.proofs.windows.AnswerWindows.{fits_nothing}
+use Rattle.at_text.specs.UnderWay.{FitsUnderWay}
+use Rattle.at_text.proofs.windows.AnswersUnderWay.{none_fits}
 use Rattle.at_text.specs.declared.unsolicited.UrcKind.{UrcKind}
 use Rattle.modem_desk.specs.declared.request.Request.{Request}
 use Rattle.modem_core.specs.Lanes.{Lane, new_lane}
@@ -123,7 +124,9 @@ opens_noted v past f n r h l e =
 -- an act opens a connection by the station's past just where it does by the driver's
 pub opens_seen : (d : ℕ) (seen : List station.Act) (past : List Act) (a : station.Act) → IsSeen seen past → opens_now Initiator d seen a ≡ opens_now Initiator d (wire past) a
 opens_seen d seen past a h =
-    ap (λ (s : Standings). opens Initiator s.zero.is_open s.own.is_asked d a) (sym (same_standings Initiator d seen)) ∙ ap (λ (w : List station.Act). opens_now Initiator d w a) h
+    ap (λ (z : Bool). opens Initiator z (is_asked Initiator d seen) d a) (sym (same_open Initiator 0 seen))
+    ∙ (ap (λ (k : Bool). opens Initiator (is_open Initiator 0 (without_calls seen)) k d a) (sym (same_asked Initiator d seen))
+    ∙ ap (λ (w : List station.Act). opens_now Initiator d w a) h)
 
 -- ## Frames that are sent
 
@@ -170,7 +173,7 @@ opened_lane v l past r f d o =
     let given = answered (dialect_in v) (marks Initiator d (ended s past (Got f))) + 1 in
     record {
       kept_is = run_end v l past f d ∙ ap (λ (b : Bool). kept_run (info_got d (since_by b d (station.Got f) (wire past)))) o;
-      window_fits = subst (λ (ms : List Mark). FitsMarks (dialect_in v) None ms) (sym none) (fits_nothing (dialect_in v) None refl);
+      under_way_fits = subst (λ (ms : List Mark). FitsUnderWay (dialect_in v) None ms) (sym none) (none_fits (dialect_in v) None refl);
       offered_is = fresh ∙ sym (ap (λ (qs : List Request). concat (texts (take given qs))) accepts ∙ ap (λ (qs : List Request). concat (texts qs)) (take_none given));
     }
 
@@ -193,7 +196,7 @@ plain_lane v l past r f d lane unread o was k =
     ∙ offered_after (belongs Initiator d r.seen (station.Got f)) (station.Got f) d (since Initiator d r.seen) refl) in
     record {
       kept_is = run_end v l past f d ∙ (run ∙ k.kept_is);
-      window_fits = subst (λ (ms : List Mark). FitsMarks (dialect_in v) lane.window ms) (sym placed) k.window_fits;
+      under_way_fits = subst (λ (ms : List Mark). FitsUnderWay (dialect_in v) lane.under_way ms) (sym placed) k.under_way_fits;
       offered_is =
           same
           ∙ (k.offered_is ∙ (ap (λ (ms : List Mark). concat (texts (take (answered (dialect_in v) ms + 1) (accepted Initiator d past)))) (sym placed)

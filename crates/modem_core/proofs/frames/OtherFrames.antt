@@ -43,7 +43,7 @@ use Rattle.modem_core.proofs.cores.LineLoss.{stays_left}
 use Rattle.modem_core.proofs.cores.StationPasts.{state_seen, by_frame_seen, queue_seen}
 use Rattle.modem_core.proofs.outgoing.CoreAfterFrame.{IsSound, own, own_is, running, state_in}
 use Rattle.modem_core.proofs.probes.OneProbe.{one_probe, probes}
-use Rattle.modem_core.proofs.probes.ProbeAnswers.{EachProbe, each_probe, probe_says, probe_left, still}
+use Rattle.modem_core.proofs.probes.ProbeAnswers.{EachProbe, each_probe, probe_says, probe_still_left, still}
 use Rattle.modem_core.proofs.probes.ProbeAfterFrame.{needs_open, probe_then}
 use Rattle.modem_core.proofs.frames.StationAfterFrame.{cut_one, seen_then, same_then, now_then, shown_then, sent_there, sent_whole, frames_short, queued_since}
 use Rattle.modem_core.proofs.frames.LanesAfterFrame.{opens_noted, other_lanes}
@@ -179,7 +179,7 @@ other_own old new l past f n st ended_now acts i w m =
       waits = left_waits (happened.Got n) ended_now shown old.hand;
       probe_is =
           probe_along past (ended s past (Got f)) (λ q. ticks_said q (calls s past (Got f)) (Got f ∷ past) (calls_said s v (Got f))) (left_by says old.hand)
-          ∙ (probe_left says past old.hand few
+          ∙ (probe_still_left says past old.hand few
           ∙ (ap (still says) r.probe_is ∙ sym (probe_then old.station st r.seen f (station_calls (setting_of old.station) r.seen (station.Got f)) n ended_now i.role_is w.handles.setting r.fits there (noted_says old past r f n i w.noted_is))));
       lanes_fit = other_lanes old l past r f (says_open n) i w.in_range unread (opens_noted old.station r.seen f n i.role_is r.fits w.in_range (w.noted_is r.seen r.fits));
     } in

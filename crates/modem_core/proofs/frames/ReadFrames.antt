@@ -22,7 +22,7 @@ HasLane old mid d lane = mid ≡ record old { lanes = slice_set old.lanes d lane
 -- what the call knows once the station has taken the frame
 pub data_came : (old mid new : Core) (f : Frame) (lane : Lane) (acts : List Act) (done : Bool) (n : Noted) (st : Station) → old.lost ≡ false → reads_data old f ≡ true → f.dlci < 62
     → ReadsFrame old f lane acts → HasLane old mid f.dlci lane
-    → done ≡ (is_some (lane_at old f.dlci).window && is_none lane.window) → station_fits.StationHandles mid.station st (station.Got f)
+    → done ≡ (is_some (lane_at old f.dlci).under_way && is_none lane.under_way) → station_fits.StationHandles mid.station st (station.Got f)
     → ((past : List station.Act) → station_fits.StationFits mid.station past → n ≡ noted_of mid.station.role (station_seen (setting_of mid.station) past) f)
     → EndedBy done (record mid { station = st }) new f.dlci → DataCame old new f n lane st acts
 data_came old mid new f lane acts done n st live is_data in_range reads m closes handles noted ends =

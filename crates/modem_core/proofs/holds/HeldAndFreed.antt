@@ -6,7 +6,7 @@ use Rattle.std.proofs.lemmas.Bool.{and_parts, eq-eqb, eqb-false}
 use Rattle.mux_frame.specs.Frames.{Frame}
 use Rattle.at_text.specs.Lines.{kept_run}
 use Rattle.at_text.specs.Windows.{answered}
-use Rattle.at_text.specs.OpenWindow.{FitsMarks}
+use Rattle.at_text.specs.UnderWay.{FitsUnderWay}
 use Rattle.mux_station.specs.declared.role.Role.{Role}
 use Rattle.mux_station.specs.declared.role.Role.TheVariants.{Initiator}
 use Rattle.mux_station.specs.declared.role.ChannelState.{ChannelState}
@@ -22,7 +22,6 @@ use Rattle.mux_station.specs.Sending.{refused, sent_after, probe_of}
 use Rattle.mux_station.specs.Stations.{Station, channel_at, setting_of, seen_in}
 use Rattle.mux_station.specs.Fitting as station_fits
 use Rattle.mux_station.specs.Traces.{without_calls}
-use Rattle.mux_station.proofs.states.OpenedStates.{opened_is_open}
 use Rattle.mux_station.proofs.user_calls.ProbeStopFlowOffer.{no_close_down}
 use Rattle.mux_station.proofs.user_calls.CallFrames.{state_called, state_sent_uih, probe_sent, probe_called}
 use Rattle.modem_desk.specs.declared.request.Ask.{Ask}
@@ -223,10 +222,10 @@ probe_as_before past past' (r ∷ rs) h =
     by_ask (Command d line) = refl
     by_ask Stop = refl
 
--- the lane has what it had of its line and its window
+-- the lane has what it had of its line and of the answer under way
 record SameLane (lane was : Lane) : Type 0 where
   kept_same : lane.kept ≡ was.kept
-  window_same : lane.window ≡ was.window
+  under_way_same : lane.under_way ≡ was.under_way
 
 lane_same : (v : Core) (d : ℕ) (go : Bool) → length v.lanes ≡ 62 → d < 62 → (e : ℕ) → SameLane (slice_index_or (turned v.lanes d (not go)) e new_lane) (lane_at v e)
 lane_same v d go size b e = by_place (d == e) refl
@@ -236,10 +235,10 @@ lane_same v d go size b e = by_place (d == e) refl
         let place : d ≡ e = eqb-true d e k in
         let here = lane_here v.lanes d (not go) (subst (λ (n : ℕ). d < n) (sym size) b) in
         subst (λ (n : ℕ). SameLane (slice_index_or (turned v.lanes d (not go)) n new_lane) (lane_at v n)) place
-        (record { kept_same = ap (λ (x : Lane). x.kept) here; window_same = ap (λ (x : Lane). x.window) here })
+        (record { kept_same = ap (λ (x : Lane). x.kept) here; under_way_same = ap (λ (x : Lane). x.under_way) here })
     by_place false k =
         let beside = lane_beside v.lanes d e (not go) k in
-        record { kept_same = ap (λ (x : Lane). x.kept) beside; window_same = ap (λ (x : Lane). x.window) beside }
+        record { kept_same = ap (λ (x : Lane). x.kept) beside; under_way_same = ap (λ (x : Lane). x.under_way) beside }
 
 turn_lane : (s : Setting) (v : Core) (past : List Act) (w : Station) (d : ℕ) (go : Bool) → (l : Live s v past) → (e : ℕ) → e < 62 → (e == 0) ≡ false → (lane : Lane) → SameLane lane (lane_at v e)
     → wire (ended s past (flow_act d go)) ≡ station.Sent (flow_frame d go s.role) ∷ wire past → without_calls (flow_seen s v past l d go) ≡ station.Sent (flow_frame d go s.role) ∷ wire past
@@ -257,7 +256,7 @@ turn_lane s v past w d go l e b z lane ls wires same h =
     let called : is_open Initiator e (station.Called (station.Flow d go) ∷ l.runs.seen) ≡ true = all_was Initiator e (flow_frame d go v.station.role ∷ []) (station.Called (station.Flow d go) ∷ l.runs.seen) there in
     record {
       kept_is = ap (λ (x : List station.Act). kept_run (info_got e (since Initiator e x))) wires ∙ (ap kept_run (info_same Initiator e (f ∷ []) (wire past) here) ∙ (was.kept_is ∙ sym ls.kept_same));
-      window_fits = subst (λ (x : _). FitsMarks (dialect_in v) x (marks Initiator e past')) (sym ls.window_same) (subst (FitsMarks (dialect_in v) (lane_at v e).window) (sym marked) was.window_fits);
+      under_way_fits = subst (λ (x : _). FitsUnderWay (dialect_in v) x (marks Initiator e past')) (sym ls.under_way_same) (subst (FitsUnderWay (dialect_in v) (lane_at v e).under_way) (sym marked) was.under_way_fits);
       offered_is = offered_same Initiator e (flow_frame d go v.station.role ∷ []) (station.Called (station.Flow d go) ∷ l.runs.seen) there
           ∙ (offered_called Initiator e (station.Flow d go) l.runs.seen called
           ∙ (append-nil (offered Initiator e l.runs.seen)
@@ -271,7 +270,7 @@ on_held : (s : Setting) (v : Core) (past : List Act) (d : ℕ) (go : Bool) → v
 on_held s v past d go role l m b z o h = by_go go held
   where
     shown : is_open s.role d (wire past) ≡ true
-    shown = sym (opened_is_open s.role (wire past) d) ∙ (ap is_opened (l.states_are d b) ∙ o)
+    shown = (ap is_opened (l.states_are d b) ∙ o)
 
     held : last_held s.role d past ≡ go
     held = ap (λ (r : Role). last_held r d past) m.setting.role_is ∙ (m.holds.held_are d b z (ap (λ (r : Role). is_open r d (wire past)) (sym m.setting.role_is) ∙ shown) ∙ h)

@@ -1,5 +1,6 @@
 -- A frame that comes, and one that goes out, keep what is held.
-use Rattle.std.specs.Prelude.{zero, suc, ◌≡◌, ℕ, ◌<◌, ◌==◌, nat_le, Bool, true, false, List, [], ◌∷◌, length, slice_set, slice_index_or, refl, Option, None, Some, option_map, is_none, if◌then◌else◌}
+use Rattle.std.specs.Prelude.{zero, suc, ◌≡◌, ℕ, ◌<◌, ◌==◌, nat_le, Bool, true, false, List, [], ◌∷◌, length, slice_set, slice_index_or, refl, Option, None, Some, is_none, if◌then◌else◌}
+use Rattle.std.specs.List.{list_any}
 use Rattle.std.proofs.Common.{ap, sym, ◌∙◌, subst, eqb-true}
 use Rattle.std.proofs.lemmas.Bool.{and_parts}
 use Rattle.mux_frame.specs.Frames.{Frame}
@@ -8,7 +9,8 @@ use Rattle.mux_station.specs.declared.role.Role.TheVariants.{Initiator}
 use Rattle.mux_station.specs.declared.noted.Noted.{Noted}
 use Rattle.mux_station.specs.Acts as station
 use Rattle.mux_station.specs.Written.{is_data_frame}
-use Rattle.mux_station.specs.Opening.{standings, opens_now, is_open}
+use Rattle.mux_station.specs.Opening.{opens_now, is_open, is_asked}
+use Rattle.mux_station.proofs.states.OpeningSteps.{is_open_after}
 use Rattle.mux_station.specs.Sending.{station_view as station_seen}
 use Rattle.mux_station.specs.Noting.{noted_of, says_open}
 use Rattle.mux_station.specs.Stations.{Station, channel_at, setting_of}
@@ -16,13 +18,14 @@ use Rattle.mux_station.specs.Giving.{next_sender, station_after}
 use Rattle.mux_station.specs.GivenFrames.{Outgoing}
 use Rattle.mux_station.specs.Fitting as station_fits
 use Rattle.mux_station.proofs.received.StatesAfterFrames.{opens_elsewhere}
-use Rattle.at_text.specs.OpenWindow.{opened}
+use Rattle.at_text.specs.UnderWay.{unanswered}
 use Rattle.modem_history.specs.Acts.{Act, Got, Sent, Given, after, wire}
-use Rattle.modem_history.specs.Information.{opens_here, line_of}
-use Rattle.modem_history.specs.Calls.{Setting, first_on}
+use Rattle.modem_history.specs.Information.{opens_here}
+use Rattle.modem_history.specs.Requests.{commands_on}
+use Rattle.modem_history.specs.Calls.{Setting}
 use Rattle.modem_history.specs.Holding.{last_held}
 use Rattle.modem_history.proofs.calls.CallEnds.{ended}
-use Rattle.modem_history.proofs.requests.StepOfFrame.{opens_none, got_was}
+use Rattle.modem_history.proofs.requests.StepOfFrame.{data_opens_none, got_was}
 use Rattle.modem_history.proofs.connections.ShutAfterLoss.{none_open}
 use Rattle.modem_core.specs.Lanes.{Lane, new_lane}
 use Rattle.modem_core.specs.Cores.{Core, Handles, lane_at}
@@ -73,7 +76,7 @@ pub data_holds : (old new : Core) (f : Frame) (lane : Lane) (st : Station) (done
 unfolding Handles KeepsHeld
 data_holds old new f lane st done acts quiet held e h s past m g =
     let lanes : new.lanes ≡ slice_set old.lanes f.dlci lane = ended_lanes done _ new f.dlci e in
-    let never : (d : ℕ) → opens_now Initiator d (wire past) (station.Got f) ≡ false = λ d. let t = standings Initiator d (wire past) in opens_none Initiator refl t.zero.is_open t.own.is_asked d f quiet in
+    let never : (d : ℕ) → opens_now Initiator d (wire past) (station.Got f) ≡ false = λ d. data_opens_none Initiator refl (is_open Initiator 0 (wire past)) (is_asked Initiator d (wire past)) d f quiet in
     let there : HoldsFit new (ended s past (Got f)) = record {
       held_are = λ d b z o.
           call_held s past (Got f) Initiator d
@@ -129,19 +132,19 @@ out_was (Some x) d past h = by_fresh x.fresh h
   where
     by_fresh : (b : Bool) → is_open Initiator d (wire ((if b then Sent x.frame else Given) ∷ past)) ≡ true → is_open Initiator d (wire past) ≡ true
     by_fresh true k = all_was Initiator d (x.frame ∷ []) (wire past) k
-    by_fresh false k = (and_parts (is_open Initiator d (wire past)) _ k).0
+    by_fresh false k = (and_parts (is_open Initiator d (wire past)) _ (sym (is_open_after Initiator d (wire past) station.Given) ∙ k)).0
 
 begun_held : (v : Core) (o : Option ℕ) (d : ℕ) → (lane_at (begun_on v o) d).held ≡ (lane_at v d).held
 begun_held v None d = refl
-begun_held v (Some e) d = by_whole (nat_le (length (channel_at v.station e).waiting) v.station.n1) (option_map line_of (first_on e v.hand))
+begun_held v (Some e) d = by_whole (nat_le (length (channel_at v.station e).waiting) v.station.n1) (list_any (commands_on e) v.hand)
   where
-    by_whole : (b : Bool) (line : Option (List ℕ)) → (lane_at (if b then begun_by v e line else v) d).held ≡ (lane_at v d).held
-    by_whole false line = refl
-    by_whole true None = refl
-    by_whole true (Some line) = by_idle (is_none (lane_at v e).window)
+    by_whole : (b has : Bool) → (lane_at (if b then begun_by v e has else v) d).held ≡ (lane_at v d).held
+    by_whole false has = refl
+    by_whole true false = refl
+    by_whole true true = by_idle (is_none (lane_at v e).under_way)
       where
-        by_idle : (b : Bool) → (lane_at (if b then record v { lanes = slice_set v.lanes e (record (lane_at v e) { window = Some (opened line) }) } else v) d).held ≡ (lane_at v d).held
-        by_idle true = set_held v.lanes e d (record (lane_at v e) { window = Some (opened line) }) refl
+        by_idle : (b : Bool) → (lane_at (if b then record v { lanes = slice_set v.lanes e (record (lane_at v e) { under_way = Some unanswered }) } else v) d).held ≡ (lane_at v d).held
+        by_idle true = set_held v.lanes e d (record (lane_at v e) { under_way = Some unanswered }) refl
         by_idle false = refl
 
 gone_held : (v : Core) (d : ℕ) → (lane_at (gone_on v) d).held ≡ (lane_at v d).held

@@ -16,7 +16,6 @@ use Rattle.mux_station.specs.Tables.{has_room, have_room, octets_of}
 use Rattle.mux_station.specs.Sending as sending
 use Rattle.mux_station.specs.Sending.{queue, refused, or_else}
 use Rattle.mux_station.specs.Stations.{Station, channel_at, setting_of, seen_in}
-use Rattle.mux_station.proofs.states.OpenedStates.{opened_is_open}
 use Rattle.modem_history.specs.declared.act.Act as code
 use Rattle.modem_history.specs.Acts.{Act, Sent, act_of, wire}
 use Rattle.modem_history.specs.Calls.{Setting, seen, all_have_room}
@@ -120,7 +119,7 @@ due_same s v past d lines role b m = by_lost v.lost refl (d == 0) refl
         ∙ ap (λ (z : Bool). if z then None else flow_due (is_opened (channel_at v.station d).state) (lane_at v d).held lines) e))
     by_lost false k false e =
         let l = live_of s v past (flow_act d true) role k (may_come s v past d true m) in
-        let shown : is_open s.role d (wire past) ≡ is_opened (channel_at v.station d).state = sym (opened_is_open s.role (wire past) d) ∙ ap is_opened (l.states_are d b) in
+        let shown : is_open s.role d (wire past) ≡ is_opened (channel_at v.station d).state = ap is_opened (l.states_are d b) in
         ap (λ (z : Bool). if z || (d == 0) then None else flow_due (is_open s.role d (wire past)) (is_held s.role d past) lines) (m.fits.lost_is ∙ k)
         ∙ (ap (λ (z : Bool). if z then None else flow_due (is_open s.role d (wire past)) (is_held s.role d past) lines) e
         ∙ (open_by (is_open s.role d (wire past)) k e refl ∙ (ap (λ (z : Bool). flow_due z (lane_at v d).held lines) shown

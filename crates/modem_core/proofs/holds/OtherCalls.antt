@@ -4,7 +4,9 @@ use Rattle.std.proofs.Common.{ap, sym, ◌∙◌, subst}
 use Rattle.mux_station.specs.declared.role.Role.{Role}
 use Rattle.mux_station.specs.declared.role.Role.TheVariants.{Initiator}
 use Rattle.mux_station.specs.Opening.{is_open}
+use Rattle.mux_station.proofs.states.OpeningSteps.{is_open_after}
 use Rattle.modem_desk.specs.declared.request.Request.{Request}
+use Rattle.mux_station.specs.Acts as station
 use Rattle.modem_history.specs.Acts.{Act, Took, Tick, Lost, after, wire}
 use Rattle.modem_history.specs.Information.{opens_here}
 use Rattle.modem_history.specs.Calls.{Setting}
@@ -54,7 +56,7 @@ pub keeps_tick : (old new : Core) (acts : List Act) → new.lanes ≡ old.lanes 
 keeps_tick old new acts n h = keeps_by old new Tick acts tick_keeps n h
 
 lost_shut : (d : ℕ) (past : List Act) → is_open Initiator d (wire (Lost ∷ past)) ≡ false
-lost_shut d past = none (is_open Initiator d (wire past))
+lost_shut d past = is_open_after Initiator d (wire past) station.Lost ∙ none (is_open Initiator d (wire past))
   where
     none : (b : Bool) → (b && false) ≡ false
     none true = refl

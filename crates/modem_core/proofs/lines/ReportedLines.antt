@@ -7,58 +7,54 @@ use Rattle.at_text.specs.declared.unsolicited.UrcKind.{UrcKind}
 use Rattle.at_text.specs.Dialects.{Dialect}
 use Rattle.at_text.specs.Lines.{lines, kept_run, ReadsOn}
 use Rattle.at_text.specs.OpenWindow.{OpenWindow, seen_by, after_line}
-use Rattle.modem_core.specs.declared.asker.Asker.{Asker}
-use Rattle.modem_core.specs.declared.reports.Reading.{Reading}
+use Rattle.at_text.specs.UnderWay.{UnderWay, window_of}
+use Rattle.modem_queues.specs.declared.asker.Asker.{Asker}
 use Rattle.mux_frame.specs.Frames.{Frame}
 use Rattle.modem_history.specs.Acts.{Act, Got, Heard}
 use Rattle.modem_history.specs.Calls.{first_on}
 use Rattle.modem_core.specs.Cores.{dialect_in, Core, lane_at}
-use Rattle.modem_core.specs.Handing.{ReadsFrame}
-use Rattle.modem_core.specs.Stops.{asker_of}
-use Rattle.modem_core.specs.Reports.{Listens, heard_by, said_as, said_lines, Read, after_all, read_on, read_each, ReadsOctet, ReadsAll, ReportSays}
+use Rattle.modem_core.specs.Lanes.{Lane, awaits_echo}
+use Rattle.modem_core.specs.Handing.{ReadsFrame, text_on, window_by}
+use Rattle.modem_queues.specs.Stops.{asker_of}
+use Rattle.modem_core.specs.Reports.{Listens, heard_by, said_as, said_lines, Read, after_all, read_on, read_each, ReadingView, ReadsAll, ReportSays}
+use Rattle.modem_core.proofs.lines.LateLines.{reads_late}
 
 -- where nothing is said the acts stay as they are
-pub nothing_said : (kinds : List UrcKind) (r : Reading) (xs : List Act) → ReportSays kinds r (λ listens. []) xs xs
+pub nothing_said : (r : ReadingView) (xs : List Act) → ReportSays r (λ listens. []) xs xs
 unfolding ReportSays
-nothing_said kinds r xs listens h = sym (append-nil xs)
+nothing_said r xs listens h = sym (append-nil xs)
 
 -- what is said whatever is listened to goes behind the acts
-pub said_so : (kinds : List UrcKind) (r : Reading) (said old new : List Act) → new ≡ old ++ said → ReportSays kinds r (λ listens. said) old new
+pub said_so : (r : ReadingView) (said old new : List Act) → new ≡ old ++ said → ReportSays r (λ listens. said) old new
 unfolding ReportSays
-said_so kinds r said old new e listens h = e
+said_so r said old new e listens h = e
 
 -- a line of a kind that nobody listens to says nothing
-pub unheard : (kinds : List UrcKind) (r : Reading) (kind : UrcKind) (line : List ℕ) (xs : List Act) (b : Bool) → b ≡ false → (b ≡ true) ↔ Contains kinds kind → ReportSays kinds r (λ listens. heard_by listens r.dlci.number kind line) xs xs
+pub unheard : (r : ReadingView) (kind : UrcKind) (line : List ℕ) (xs : List Act) (b : Bool) → b ≡ false → (b ≡ true) ↔ Contains r.kinds kind → ReportSays r (λ listens. heard_by listens r.dlci kind line) xs xs
 unfolding ReportSays Listens
-unheard kinds r kind line xs b n e listens h = by_kind (listens kind) refl
+unheard r kind line xs b n e listens h = by_kind (listens kind) refl
   where
-    by_kind : (l : Bool) → listens kind ≡ l → xs ≡ xs ++ (if l then Heard kind r.dlci.number line ∷ [] else [])
+    by_kind : (l : Bool) → listens kind ≡ l → xs ≡ xs ++ (if l then Heard kind r.dlci line ∷ [] else [])
     by_kind false g = sym (append-nil xs)
     by_kind true g = absurd (let t : b ≡ true = e.1 ((h kind).0 g) in let x : false ≡ true = sym n ∙ t in cc)
 
 -- a line of a kind that is listened to is heard
-pub heard : (kinds : List UrcKind) (r : Reading) (kind : UrcKind) (line : List ℕ) (old new : List Act) (b : Bool) → b ≡ true → (b ≡ true) ↔ Contains kinds kind
-    → new ≡ old ++ Heard kind r.dlci.number line ∷ [] → ReportSays kinds r (λ listens. heard_by listens r.dlci.number kind line) old new
+pub heard : (r : ReadingView) (kind : UrcKind) (line : List ℕ) (old new : List Act) (b : Bool) → b ≡ true → (b ≡ true) ↔ Contains r.kinds kind
+    → new ≡ old ++ Heard kind r.dlci line ∷ [] → ReportSays r (λ listens. heard_by listens r.dlci kind line) old new
 unfolding ReportSays Listens
-heard kinds r kind line old new b t e g listens h =
+heard r kind line old new b t e g listens h =
     let on : listens kind ≡ true = (h kind).1 (e.0 t) in
-    g ∙ ap (λ (l : Bool). old ++ (if l then Heard kind r.dlci.number line ∷ [] else [])) (sym on)
+    g ∙ ap (λ (l : Bool). old ++ (if l then Heard kind r.dlci line ∷ [] else [])) (sym on)
 
 -- ## Octets
 
-one_line : (dialect : Dialect) (listens : UrcKind → Bool) (d : ℕ) (owner : Option Asker) (old : Read) (c : ℕ) (l : List ℕ) (new : Read) → lines (old.kept ++ c ∷ []) ≡ l ∷ [] → new.kept ≡ kept_run (old.kept ++ c ∷ []) → new.window ≡ after_line dialect old.window l
-    → new.acts ≡ old.acts ++ said_as listens d owner l (seen_by dialect old.window l) → new ≡ read_on dialect listens d owner old (c ∷ [])
-one_line dialect listens d owner old c l new e k w a =
+one_line : (dialect : Dialect) (listens : UrcKind → Bool) (d : ℕ) (owner : Option Asker) (old : Read) (octets l : List ℕ) (new : Read) → lines (old.kept ++ octets) ≡ l ∷ [] → new.kept ≡ kept_run (old.kept ++ octets) → new.window ≡ after_line dialect old.window l
+    → new.acts ≡ old.acts ++ said_as listens d owner l (seen_by dialect old.window l) → new ≡ read_on dialect listens d owner old octets
+one_line dialect listens d owner old octets l new e k w a =
     ap (λ (x : List ℕ). let v : Read = record { kept = x; window = new.window; acts = new.acts } in v) k
-    ∙ (ap (λ (x : Option OpenWindow). let v : Read = record { kept = kept_run (old.kept ++ c ∷ []); window = x; acts = new.acts } in v) (w ∙ ap (after_all dialect old.window) (sym e))
-    ∙ ap (λ (x : List Act). let v : Read = record { kept = kept_run (old.kept ++ c ∷ []); window = after_all dialect old.window (lines (old.kept ++ c ∷ [])); acts = x } in v)
+    ∙ (ap (λ (x : Option OpenWindow). let v : Read = record { kept = kept_run (old.kept ++ octets); window = x; acts = new.acts } in v) (w ∙ ap (after_all dialect old.window) (sym e))
+    ∙ ap (λ (x : List Act). let v : Read = record { kept = kept_run (old.kept ++ octets); window = after_all dialect old.window (lines (old.kept ++ octets)); acts = x } in v)
     (a ∙ (ap (λ (x : List Act). old.acts ++ x) (sym (append-nil (said_as listens d owner l (seen_by dialect old.window l)))) ∙ ap (λ (ls : List (List ℕ)). old.acts ++ said_lines dialect listens d owner old.window ls) (sym e))))
-
--- an octet that ends a line: the line is placed, and what it says is said
-pub octet_ends : (dialect : Dialect) (kinds : List UrcKind) (r : Reading) (old new : Read) (c : ℕ) (l : List ℕ) → lines (old.kept ++ c ∷ []) ≡ l ∷ [] → new.kept ≡ kept_run (old.kept ++ c ∷ []) → new.window ≡ after_line dialect old.window l
-    → ReportSays kinds r (λ listens. said_as listens r.dlci.number r.owner l (seen_by dialect old.window l)) old.acts new.acts → ReadsOctet dialect kinds r c old new
-unfolding ReportSays ReadsOctet
-octet_ends dialect kinds r old new c l e k w a listens h = one_line dialect listens r.dlci.number r.owner old c l new e k w (a listens h)
 
 -- octets none of which ends a line are kept
 none_said : (dialect : Dialect) (listens : UrcKind → Bool) (d : ℕ) (owner : Option Asker) (old new : Read) (octets : List ℕ) → [] ≡ lines (old.kept ++ octets) → new.kept ≡ kept_run (old.kept ++ octets) → new.window ≡ old.window → new.acts ≡ old.acts
@@ -69,36 +65,9 @@ none_said dialect listens d owner old new octets e k w a =
     ∙ ap (λ (x : List Act). let v : Read = record { kept = kept_run (old.kept ++ octets); window = after_all dialect old.window (lines (old.kept ++ octets)); acts = x } in v)
     (a ∙ (sym (append-nil old.acts) ∙ ap (λ (ls : List (List ℕ)). old.acts ++ said_lines dialect listens d owner old.window ls) e)))
 
--- an octet that ends no line is kept
-pub octet_none : (dialect : Dialect) (kinds : List UrcKind) (r : Reading) (old new : Read) (c : ℕ) → [] ≡ lines (old.kept ++ c ∷ []) → new.kept ≡ kept_run (old.kept ++ c ∷ []) → new.window ≡ old.window → new.acts ≡ old.acts → ReadsOctet dialect kinds r c old new
-unfolding ReadsOctet
-octet_none dialect kinds r old new c e k w a listens h = none_said dialect listens r.dlci.number r.owner old new (c ∷ []) e k w a
-
--- so many of them are read
-unfoldable pub ReadSoFar : (dialect : Dialect) → List UrcKind → Reading → Read → List ℕ → Read → List ℕ → Type 0
-ReadSoFar dialect kinds r now rest first all = (listens : UrcKind → Bool) → Listens listens kinds → read_each dialect listens r.dlci.number r.owner now rest ≡ read_each dialect listens r.dlci.number r.owner first all
-
--- at first all of them are left
-pub reads_first : (dialect : Dialect) (kinds : List UrcKind) (r : Reading) (v : Read) (all : List ℕ) → ReadSoFar dialect kinds r v all v all
-unfolding ReadSoFar
-reads_first dialect kinds r v all listens h = refl
-
 each_append : (dialect : Dialect) (listens : UrcKind → Bool) (d : ℕ) (owner : Option Asker) (v : Read) (xs ys : List ℕ) → read_each dialect listens d owner v (xs ++ ys) ≡ read_each dialect listens d owner (read_each dialect listens d owner v xs) ys
 each_append dialect listens d owner v [] ys = refl
 each_append dialect listens d owner v (c ∷ xs) ys = each_append dialect listens d owner (read_on dialect listens d owner v (c ∷ [])) xs ys
-
--- a run of them more is read
-pub reads_next : (dialect : Dialect) (kinds : List UrcKind) (r : Reading) (now next first : Read) (run rest left all : List ℕ) → rest ≡ run ++ left → ReadsAll dialect kinds r run now next → ReadSoFar dialect kinds r now rest first all → ReadSoFar dialect kinds r next left first all
-unfolding ReadSoFar ReadsAll
-reads_next dialect kinds r now next first run rest left all e o s listens h =
-    ap (λ (v : Read). read_each dialect listens r.dlci.number r.owner v left) (o listens h)
-    ∙ (sym (each_append dialect listens r.dlci.number r.owner now run left)
-    ∙ (ap (λ (w : List ℕ). read_each dialect listens r.dlci.number r.owner now w) (sym e) ∙ s listens h))
-
--- once none is left all of them are read
-pub reads_last : (dialect : Dialect) (kinds : List UrcKind) (r : Reading) (now first : Read) (rest all : List ℕ) → rest ≡ [] → ReadSoFar dialect kinds r now rest first all → ReadsAll dialect kinds r all first now
-unfolding ReadSoFar ReadsAll
-reads_last dialect kinds r now first rest all e s listens h = ap (λ (w : List ℕ). read_each dialect listens r.dlci.number r.owner now w) (sym e) ∙ s listens h
 
 -- ## All of them at once
 
@@ -146,33 +115,37 @@ each_is dialect listens d owner v x (c ∷ octets) on k =
     ∙ ap (λ (ls : List (List ℕ)). v.acts ++ said_lines dialect listens d owner v.window ls) (sym all_lines)))))
 
 -- octets none of which ends a line
-pub keeps_run : (dialect : Dialect) (kinds : List UrcKind) (r : Reading) (old new : Read) (run : List ℕ) → ((x y : List ℕ) → ReadsOn x y) → old.kept ≡ kept_run old.kept → lines (old.kept ++ run) ≡ [] → new.kept ≡ kept_run (old.kept ++ run) → new.window ≡ old.window → new.acts ≡ old.acts
-    → ReadsAll dialect kinds r run old new
+pub keeps_run : (r : ReadingView) (old new : Read) (run : List ℕ) → ((x y : List ℕ) → ReadsOn x y) → old.kept ≡ kept_run old.kept → lines (old.kept ++ run) ≡ [] → new.kept ≡ kept_run (old.kept ++ run) → new.window ≡ old.window → new.acts ≡ old.acts
+    → ReadsAll r run old new
 unfolding ReadsAll
-keeps_run dialect kinds r old new run on before none k w a listens h =
-    none_said dialect listens r.dlci.number r.owner old new run (sym none) k w a
-    ∙ sym (each_is dialect listens r.dlci.number r.owner old old.kept run on before)
+keeps_run r old new run on before none k w a listens h =
+    none_said r.dialect listens r.dlci r.owner old new run (sym none) k w a
+    ∙ sym (each_is r.dialect listens r.dlci r.owner old old.kept run on before)
 
 -- of no octets nothing is read
-pub keeps_none : (dialect : Dialect) (kinds : List UrcKind) (r : Reading) (v : Read) (run : List ℕ) → run ≡ [] → ReadsAll dialect kinds r run v v
+pub keeps_none : (r : ReadingView) (v : Read) (run : List ℕ) → run ≡ [] → ReadsAll r run v v
 unfolding ReadsAll
-keeps_none dialect kinds r v run e listens h = ap (read_each dialect listens r.dlci.number r.owner v) (sym e)
+keeps_none r v run e listens h = ap (read_each r.dialect listens r.dlci r.owner v) (sym e)
 
--- and one more behind them
-pub ends_run : (dialect : Dialect) (kinds : List UrcKind) (r : Reading) (old between new : Read) (run : List ℕ) (c : ℕ) (all : List ℕ) → all ≡ run ++ c ∷ [] → ReadsAll dialect kinds r run old between → ReadsOctet dialect kinds r c between new → ReadsAll dialect kinds r all old new
-unfolding ReadsAll ReadsOctet
-ends_run dialect kinds r old between new run c all e s o listens h =
-    o listens h
-    ∙ (ap (λ (v : Read). read_each dialect listens r.dlci.number r.owner v (c ∷ [])) (s listens h)
-    ∙ (sym (each_append dialect listens r.dlci.number r.owner old run (c ∷ [])) ∙ ap (λ (w : List ℕ). read_each dialect listens r.dlci.number r.owner old w) (sym e)))
+-- octets that end a line: the line is placed, and what it says is said
+pub line_ends : (r : ReadingView) (old new : Read) (octets l : List ℕ) → ((x y : List ℕ) → ReadsOn x y) → old.kept ≡ kept_run old.kept → lines (old.kept ++ octets) ≡ l ∷ [] → new.kept ≡ kept_run (old.kept ++ octets) → new.window ≡ after_line r.dialect old.window l
+    → ReportSays r (λ listens. said_as listens r.dlci r.owner l (seen_by r.dialect old.window l)) old.acts new.acts → ReadsAll r octets old new
+unfolding ReportSays ReadsAll
+line_ends r old new octets l on before e k w a listens h =
+    one_line r.dialect listens r.dlci r.owner old octets l new e k w (a listens h)
+    ∙ sym (each_is r.dialect listens r.dlci r.owner old old.kept octets on before)
+
+-- the same octets
+pub reads_same : (r : ReadingView) (old new : Read) (octets all : List ℕ) → all ≡ octets → ReadsAll r octets old new → ReadsAll r all old new
+reads_same r old new octets all e h = subst (λ (xs : List ℕ). ReadsAll r xs old new) (sym e) h
 
 -- some octets are read, and then some more
-pub reads_both : (dialect : Dialect) (kinds : List UrcKind) (r : Reading) (old between new : Read) (first more all : List ℕ) → all ≡ first ++ more → ReadsAll dialect kinds r first old between → ReadsAll dialect kinds r more between new → ReadsAll dialect kinds r all old new
+pub reads_both : (r : ReadingView) (old between new : Read) (first more all : List ℕ) → all ≡ first ++ more → ReadsAll r first old between → ReadsAll r more between new → ReadsAll r all old new
 unfolding ReadsAll
-reads_both dialect kinds r old between new first more all e s t listens h =
+reads_both r old between new first more all e s t listens h =
     t listens h
-    ∙ (ap (λ (v : Read). read_each dialect listens r.dlci.number r.owner v more) (s listens h)
-    ∙ (sym (each_append dialect listens r.dlci.number r.owner old first more) ∙ ap (λ (w : List ℕ). read_each dialect listens r.dlci.number r.owner old w) (sym e)))
+    ∙ (ap (λ (v : Read). read_each r.dialect listens r.dlci r.owner v more) (s listens h)
+    ∙ (sym (each_append r.dialect listens r.dlci r.owner old first more) ∙ ap (λ (w : List ℕ). read_each r.dialect listens r.dlci r.owner old w) (sym e)))
 
 -- ## Runs of the octets
 
@@ -187,6 +160,12 @@ left_over n place all inside few =
     let rest : drop n (drop place all) ≡ drop (place + n) all = drop-drop n place all in
     (omega (arith, inside, few, counted), sym (take-append-drop n (drop place all)) ∙ ap (λ (xs : List ℕ). take n (drop place all) ++ xs) rest)
 
+-- so many first of what is left, and what is left behind them
+pub reads_rest : (r : ReadingView) (old between new : Read) (n : ℕ) (all : List ℕ) → ReadsAll r (take n all) old between → ReadsAll r (take (length all - n) (drop n all)) between new → ReadsAll r all old new
+reads_rest r old between new n all s t =
+    reads_both r old between new (take n all) (take (length all - n) (drop n all)) all
+    (sym (take-append-drop n all) ∙ ap (λ (xs : List ℕ). take n all ++ xs) (sym (left_all n all))) s t
+
 -- ## What the calls say
 
 -- where a call succeeds, what follows from its promise is so too
@@ -198,13 +177,6 @@ on_ok P Q (Err e) f p = tt
 pub on_both : {A E : Type 0} (P Q R : Type 0) (r : Result A E) → (P → Q → R) → OnOk r P → OnOk r Q → OnOk r R
 on_both P Q R (Ok a) f p q = f p q
 on_both P Q R (Err e) f p q = tt
-
--- past the end of the octets none is left
-pub all_dropped : (n : ℕ) (xs : List ℕ) → length xs ≤ n → drop n xs ≡ []
-all_dropped zero [] h = refl
-all_dropped (suc n) [] h = refl
-all_dropped zero (x ∷ xs) h = absurd (let e : suc (length xs) ≤ 0 = h in omega (arith, e))
-all_dropped (suc n) (x ∷ xs) h = all_dropped n xs (let e : suc (length xs) ≤ suc n = h in omega (arith, e))
 
 -- ## What was said before
 
@@ -224,18 +196,44 @@ each_led dialect listens d owner before r (c ∷ octets) =
     ap (λ (v : Read). read_each dialect listens d owner v octets) (on_led dialect listens d owner before r (c ∷ []))
     ∙ each_led dialect listens d owner before (read_on dialect listens d owner r (c ∷ [])) octets
 
--- a frame is read from what is kept of its connection
-pub reads_frame : (v : Core) (f : Frame) (kinds : List UrcKind) (r : Reading) (acts before : List Act) (last : Read) (held : Bool) → kinds ≡ v.kinds → r.dlci.number ≡ f.dlci → r.owner ≡ option_map asker_of (first_on f.dlci v.hand)
-    → ReadsAll (dialect_in v) kinds r f.info (record { kept = (lane_at v f.dlci).kept; window = (lane_at v f.dlci).window; acts = acts }) last → before ++ acts ≡ Got f ∷ []
-    → ReadsFrame v f (record { kept = last.kept; window = last.window; held = held }) (before ++ last.acts)
+-- how the lines of d are read by a core
+abbrev pub reading_in : Core → ℕ → ReadingView
+reading_in v d = record { dialect = dialect_in v; kinds = v.kinds; dlci = d; owner = option_map asker_of (first_on d v.hand) }
+
+-- the text that is lent while a frame of d is read: once a line of the answer has come none is needed
+abbrev pub text_lent : Core → ℕ → List ℕ
+text_lent v d = if awaits_echo (lane_at v d).under_way then text_on d v.hand else []
+
+reads_so : (v : Core) (f : Frame) (acts before : List Act) (lane : Lane) (more : List Act)
+    → ReadsAll (reading_in v f.dlci) f.info (record { kept = (lane_at v f.dlci).kept; window = window_by v.hand f.dlci (lane_at v f.dlci); acts = acts })
+    (record { kept = lane.kept; window = window_by v.hand f.dlci lane; acts = more }) → before ++ acts ≡ Got f ∷ []
+    → ReadsFrame v f lane (before ++ more)
 unfolding ReadsAll ReadsFrame led
-reads_frame v f kinds r acts before last held k d o reads came listens h =
-    let start : Read = record { kept = (lane_at v f.dlci).kept; window = (lane_at v f.dlci).window; acts = acts } in
+reads_so v f acts before lane more reads came listens h =
+    let window = window_by v.hand f.dlci (lane_at v f.dlci) in
+    let start : Read = record { kept = (lane_at v f.dlci).kept; window = window; acts = acts } in
     let owner = option_map asker_of (first_on f.dlci v.hand) in
-    let same : last ≡ read_each (dialect_in v) listens f.dlci owner start f.info
-    = reads listens (subst (λ (x : List UrcKind). Listens listens x) (sym k) h)
-    ∙ (ap (λ (n : ℕ). read_each (dialect_in v) listens n r.owner start f.info) d
-    ∙ ap (λ (x : Option Asker). read_each (dialect_in v) listens f.dlci x start f.info) o) in
-    ap (led before) same
+    ap (led before) (reads listens h)
     ∙ (sym (each_led (dialect_in v) listens f.dlci owner before start f.info)
-    ∙ ap (λ (xs : List Act). let w : Read = record { kept = (lane_at v f.dlci).kept; window = (lane_at v f.dlci).window; acts = xs } in read_each (dialect_in v) listens f.dlci owner w f.info) came)
+    ∙ ap (λ (xs : List Act). let w : Read = record { kept = (lane_at v f.dlci).kept; window = window; acts = xs } in read_each (dialect_in v) listens f.dlci owner w f.info) came)
+
+-- with the text that is lent as with the command's own
+own_text : (r : ReadingView) (octets text own : List ℕ) (was now : Option UnderWay) (kept left : List ℕ) (acts more : List Act) (b : Bool) → awaits_echo was ≡ b → text ≡ (if b then own else [])
+    → ReadsAll r octets (record { kept = kept; window = window_of text was; acts = acts }) (record { kept = left; window = window_of text now; acts = more })
+    → ReadsAll r octets (record { kept = kept; window = window_of own was; acts = acts }) (record { kept = left; window = window_of own now; acts = more })
+own_text r octets text own was now kept left acts more true e t reads =
+    subst (λ (x : List ℕ). ReadsAll r octets (record { kept = kept; window = window_of x was; acts = acts }) (record { kept = left; window = window_of x now; acts = more })) t reads
+own_text r octets text own was now kept left acts more false e t reads = reads_late r octets text own was now kept left acts more e reads
+
+-- a frame is read from what is kept of its connection, with the text of the first command in hand there where an echo may come
+pub reads_frame : (v : Core) (f : Frame) (kinds : List UrcKind) (text : List ℕ) (acts before : List Act) (lane : Lane) (more : List Act) → kinds ≡ v.kinds → text ≡ text_lent v f.dlci
+    → ReadsAll (record (reading_in v f.dlci) { kinds = kinds }) f.info (record { kept = (lane_at v f.dlci).kept; window = window_of text (lane_at v f.dlci).under_way; acts = acts })
+    (record { kept = lane.kept; window = window_of text lane.under_way; acts = more }) → before ++ acts ≡ Got f ∷ [] → ReadsFrame v f lane (before ++ more)
+reads_frame v f kinds text acts before lane more same t reads came =
+    let was = (lane_at v f.dlci).under_way in
+    let kept = (lane_at v f.dlci).kept in
+    let start : Read = record { kept = kept; window = window_of text was; acts = acts } in
+    let last : Read = record { kept = lane.kept; window = window_of text lane.under_way; acts = more } in
+    reads_so v f acts before lane more
+    (own_text (reading_in v f.dlci) f.info text (text_on f.dlci v.hand) was lane.under_way kept lane.kept acts more (awaits_echo was) refl t
+    (subst (λ (x : List UrcKind). ReadsAll (record (reading_in v f.dlci) { kinds = x }) f.info start last) same reads)) came

@@ -4,22 +4,24 @@ use Rattle.std.specs.List.{position_from, list_any}
 use Rattle.std.proofs.Common.{ap, sym, ◌∙◌, subst, arith, inl, inr}
 use Rattle.std.proofs.lemmas.Iterator.Adapters.{position_from-zero}
 use Rattle.std.proofs.lemmas.List.{append_assoc, length-map}
+use Rattle.std.proofs.lemmas.List.Folds.{list_any-append}
 use Rattle.at_text.specs.declared.answer.AnswerLine.{AnswerLine}
 use Rattle.at_text.specs.declared.unsolicited.UrcKind.{UrcKind}
 use Rattle.at_text.specs.declared.unsolicited.UrcKind.TheVariants.{Other}
-use Rattle.at_text.specs.declared.window.Placed.{Placed}
-use Rattle.at_text.specs.declared.window.Placed.TheVariants as is
+use Rattle.at_text.specs.declared.under_way.Placed.{Placed}
+use Rattle.at_text.specs.declared.under_way.Placed.TheVariants as is
 use Rattle.at_text.specs.declared.window.Seen as line_is
 use Rattle.at_text.specs.Dialects.{Dialect, is_solicited}
 use Rattle.at_text.specs.Seeing.{by_kind}
 use Rattle.at_text.specs.OpenWindow.{OpenWindow, seen_by, after_line}
+use Rattle.at_text.specs.UnderWay.{UnderWay, window_of}
 use Rattle.at_text.specs.InPlace.{lines_so_far, Grows, GrowsOn}
 use Rattle.modem_history.specs.declared.act.Act as code
 use Rattle.modem_history.specs.Acts.{act_of, Act, Heard}
-use Rattle.modem_core.specs.declared.asker.Asker.{Asker}
-use Rattle.modem_core.specs.declared.reports.Reading.{Reading}
-use Rattle.modem_core.specs.Reports.{done_by, heard_by, said_as, ReportSays}
-use Rattle.modem_core.specs.Settling.{tells_lines, filled, filled_first, settled_window, settled_acts, SaysPlaced}
+use Rattle.modem_queues.specs.declared.asker.Asker.{Asker}
+use Rattle.modem_core.specs.Lanes.{Lane}
+use Rattle.modem_core.specs.Reports.{done_by, heard_by, said_as, Read, ReadingView, ReportSays}
+use Rattle.modem_core.specs.Settling.{tells_lines, filled, filled_first, settled, settled_lane, settled_window, settled_acts, SaysPlaced}
 use Rattle.modem_core.proofs.lines.ReportedLines.{nothing_said, said_so}
 
 -- ## Acts of which the first that tells an answer gets its lines
@@ -61,6 +63,10 @@ heard_quiet : (b : Bool) (kind : UrcKind) (d : ℕ) (line : List ℕ) → list_a
 heard_quiet true kind d line = refl
 heard_quiet false kind d line = refl
 
+-- a line that is heard tells no answer
+pub heard_untold : (kind : UrcKind) (d : ℕ) (line : List ℕ) (old new : List Act) → new ≡ old ++ Heard kind d line ∷ [] → list_any tells_lines old ≡ false → list_any tells_lines new ≡ false
+heard_untold kind d line old new e h = ap (list_any tells_lines) e ∙ (list_any-append tells_lines old (Heard kind d line ∷ []) ∙ ap (λ (b : Bool). b || false) h)
+
 behind_quiet : (listens : UrcKind → Bool) (d : ℕ) (owner : Option Asker) (line : List ℕ) (kind : Option UrcKind) → list_any tells_lines (said_as listens d owner line (by_kind kind line_is.TheVariants.Other)) ≡ false
 behind_quiet listens d owner line None = heard_quiet (listens Other) Other d line
 behind_quiet listens d owner line (Some kind) = heard_quiet (listens kind) kind d line
@@ -89,45 +95,45 @@ settled_room HasRoom whole w read settled e enough =
 -- ## What a placed line says
 
 -- an echo, or a line that an answer keeps, says nothing
-pub quiet_placed : (kinds : List UrcKind) (r : Reading) (line : List ℕ) (placed : Placed) (w : Option OpenWindow) (acts : List Act) (whole : Bool) → whole ≡ false → (placed ≡ is.Echo) ⊎ (placed ≡ is.Kept) → SaysPlaced kinds r line placed w acts whole acts
-quiet_placed kinds r line placed w acts whole n (inl e) =
-    subst (λ (p : Placed). SaysPlaced kinds r line p w acts whole acts) (sym e)
-    (subst (λ (b : Bool). SaysPlaced kinds r line is.Echo w acts b acts) (sym n) (record { window_is = refl; says = λ u. nothing_said kinds r acts; untold = λ u t. u }))
-quiet_placed kinds r line placed w acts whole n (inr e) =
-    subst (λ (p : Placed). SaysPlaced kinds r line p w acts whole acts) (sym e)
-    (subst (λ (b : Bool). SaysPlaced kinds r line is.Kept w acts b acts) (sym n) (record { window_is = refl; says = λ u. nothing_said kinds r acts; untold = λ u t. u }))
+pub quiet_placed : (r : ReadingView) (line : List ℕ) (placed : Placed) (w : Option OpenWindow) (acts : List Act) (whole : Bool) → whole ≡ false → (placed ≡ is.Echo) ⊎ (placed ≡ is.Kept) → SaysPlaced r line placed w acts whole acts
+quiet_placed r line placed w acts whole n (inl e) =
+    subst (λ (p : Placed). SaysPlaced r line p w acts whole acts) (sym e)
+    (subst (λ (b : Bool). SaysPlaced r line is.Echo w acts b acts) (sym n) (record { window_is = refl; says = λ u. nothing_said r acts; untold = λ u t. u }))
+quiet_placed r line placed w acts whole n (inr e) =
+    subst (λ (p : Placed). SaysPlaced r line p w acts whole acts) (sym e)
+    (subst (λ (b : Bool). SaysPlaced r line is.Kept w acts b acts) (sym n) (record { window_is = refl; says = λ u. nothing_said r acts; untold = λ u t. u }))
 
 -- an unsolicited line is heard, where its kind is listened to
-pub unsolicited_placed : (kinds : List UrcKind) (r : Reading) (line : List ℕ) (placed : Placed) (kind : UrcKind) (w : Option OpenWindow) (old new : List Act) (whole : Bool) → whole ≡ false → placed ≡ is.Unsolicited kind
-    → ReportSays kinds r (λ listens. heard_by listens r.dlci.number kind line) old new → (list_any tells_lines old ≡ false → list_any tells_lines new ≡ false) → SaysPlaced kinds r line placed w old whole new
-unsolicited_placed kinds r line placed kind w old new whole n e says untold =
-    subst (λ (p : Placed). SaysPlaced kinds r line p w old whole new) (sym e)
-    (subst (λ (b : Bool). SaysPlaced kinds r line (is.Unsolicited kind) w old b new) (sym n) (record { window_is = refl; says = λ u. says; untold = λ u t. untold u }))
+pub unsolicited_placed : (r : ReadingView) (line : List ℕ) (placed : Placed) (kind : UrcKind) (w : Option OpenWindow) (old new : List Act) (whole : Bool) → whole ≡ false → placed ≡ is.Unsolicited kind
+    → ReportSays r (λ listens. heard_by listens r.dlci kind line) old new → (list_any tells_lines old ≡ false → list_any tells_lines new ≡ false) → SaysPlaced r line placed w old whole new
+unsolicited_placed r line placed kind w old new whole n e says untold =
+    subst (λ (p : Placed). SaysPlaced r line p w old whole new) (sym e)
+    (subst (λ (b : Bool). SaysPlaced r line (is.Unsolicited kind) w old b new) (sym n) (record { window_is = refl; says = λ u. says; untold = λ u t. untold u }))
 
 -- any other line is heard, where Other is listened to
-pub other_placed : (kinds : List UrcKind) (r : Reading) (line : List ℕ) (placed : Placed) (w : Option OpenWindow) (old new : List Act) (whole : Bool) → whole ≡ false → placed ≡ is.Other
-    → ReportSays kinds r (λ listens. heard_by listens r.dlci.number Other line) old new → (list_any tells_lines old ≡ false → list_any tells_lines new ≡ false) → SaysPlaced kinds r line placed w old whole new
-other_placed kinds r line placed w old new whole n e says untold =
-    subst (λ (p : Placed). SaysPlaced kinds r line p w old whole new) (sym e)
-    (subst (λ (b : Bool). SaysPlaced kinds r line is.Other w old b new) (sym n) (record { window_is = refl; says = λ u. says; untold = λ u t. untold u }))
+pub other_placed : (r : ReadingView) (line : List ℕ) (placed : Placed) (w : Option OpenWindow) (old new : List Act) (whole : Bool) → whole ≡ false → placed ≡ is.Other
+    → ReportSays r (λ listens. heard_by listens r.dlci Other line) old new → (list_any tells_lines old ≡ false → list_any tells_lines new ≡ false) → SaysPlaced r line placed w old whole new
+other_placed r line placed w old new whole n e says untold =
+    subst (λ (p : Placed). SaysPlaced r line p w old whole new) (sym e)
+    (subst (λ (b : Bool). SaysPlaced r line is.Other w old b new) (sym n) (record { window_is = refl; says = λ u. says; untold = λ u t. untold u }))
 
 -- the line that makes an answer whole tells it, as yet without lines
-pub whole_placed : (kinds : List UrcKind) (r : Reading) (line : List ℕ) (placed : Placed) (w : Option OpenWindow) (old new : List Act) → placed ≡ is.Whole → new ≡ old ++ done_by r.owner [] → SaysPlaced kinds r line placed w old true new
-whole_placed kinds r line placed w old new e told =
-    subst (λ (p : Placed). SaysPlaced kinds r line p w old true new) (sym e) (record {
+pub whole_placed : (r : ReadingView) (line : List ℕ) (placed : Placed) (w : Option OpenWindow) (old new : List Act) → placed ≡ is.Whole → new ≡ old ++ done_by r.owner [] → SaysPlaced r line placed w old true new
+whole_placed r line placed w old new e told =
+    subst (λ (p : Placed). SaysPlaced r line p w old true new) (sym e) (record {
       window_is = refl;
-      says = λ u. said_so kinds r (done_by r.owner (lines_so_far w)) old (filled_first (lines_so_far w) new)
+      says = λ u. said_so r (done_by r.owner (lines_so_far w)) old (filled_first (lines_so_far w) new)
           (ap (filled_first (lines_so_far w)) told ∙ (filled_behind (lines_so_far w) old (done_by r.owner []) u ∙ ap (λ (xs : List Act). old ++ xs) (done_filled (lines_so_far w) r.owner)));
       untold = λ u t. cc;
     })
 
 -- a line behind an answer that is whole
-pub behind_says : (dialect : Dialect) (kinds : List UrcKind) (r : Reading) (line : List ℕ) (w : Option OpenWindow) (old new : List Act) → ReportSays kinds r (λ listens. said_as listens r.dlci.number r.owner line (seen_by dialect None line)) old new
-    → ReportSays kinds r (λ listens. said_as listens r.dlci.number r.owner line (seen_by dialect None line)) (settled_acts true w old) (settled_acts true w new)
+pub behind_says : (r : ReadingView) (line : List ℕ) (w : Option OpenWindow) (old new : List Act) → ReportSays r (λ listens. said_as listens r.dlci r.owner line (seen_by r.dialect None line)) old new
+    → ReportSays r (λ listens. said_as listens r.dlci r.owner line (seen_by r.dialect None line)) (settled_acts true w old) (settled_acts true w new)
 unfolding ReportSays
-behind_says dialect kinds r line w old new says listens h =
+behind_says r line w old new says listens h =
     ap (filled_first (lines_so_far w)) (says listens h)
-    ∙ filled_more (lines_so_far w) old (said_as listens r.dlci.number r.owner line (seen_by dialect None line)) (behind_quiet listens r.dlci.number r.owner line (dialect.kind_of line))
+    ∙ filled_more (lines_so_far w) old (said_as listens r.dlci r.owner line (seen_by r.dialect None line)) (behind_quiet listens r.dlci r.owner line (r.dialect.kind_of line))
 
 either : (b : Bool) (w : Option OpenWindow) → w ≡ (if b then w else w)
 either true w = refl
@@ -156,18 +162,27 @@ grown_on (Some o) b c g h =
     }
 
 -- a command was under way and is no more where its answer is whole
-pub settled_done : (was now : Option OpenWindow) (whole : Bool) → Grows was now → (whole && is_some now) ≡ (is_some was && is_none (settled_window whole now))
+pub settled_done : (command : List ℕ) (was now : Option UnderWay) (whole : Bool) → Grows (window_of command was) (window_of command now) → (whole && is_some now) ≡ (is_some was && is_none (if whole then None else now))
 unfolding Grows
-settled_done None now whole e = rw e (none_done whole)
-  where
-    none_done : (b : Bool) → (b && false) ≡ false
-    none_done true = refl
-    none_done false = refl
-settled_done (Some o) now whole g = rw g.window_is (some_done whole (record { command = o.command; lines = o.lines ++ g.more; fresh = g.fresh }))
-  where
-    some_done : (b : Bool) (o : OpenWindow) → (b && true) ≡ is_none (settled_window b (Some o))
-    some_done true o = refl
-    some_done false o = refl
+settled_done command None None true e = refl
+settled_done command None None false e = refl
+settled_done command None (Some u) whole e = cc
+settled_done command (Some u) None whole g = let none = g.window_is in cc
+settled_done command (Some u) (Some v) true g = refl
+settled_done command (Some u) (Some v) false g = refl
+
+settled_with : (command : List ℕ) (whole : Bool) (u : Option UnderWay) → settled_window whole (window_of command u) ≡ window_of command (if whole then None else u)
+settled_with command true u = refl
+settled_with command false u = refl
+
+-- a lane that is settled keeps what was read
+pub settled_read : (command : List ℕ) (whole : Bool) (lane new : Lane) (acts more : List Act) → new ≡ settled_lane whole lane → more ≡ settled_acts whole (window_of command lane.under_way) acts
+    → (let v : Read = record { kept = new.kept; window = window_of command new.under_way; acts = more } in settled lane.kept (window_of command lane.under_way) whole acts ≡ v)
+settled_read command whole lane new acts more e a =
+    let told = settled_acts whole (window_of command lane.under_way) acts in
+    ap (λ (w : Option OpenWindow). let v : Read = record { kept = lane.kept; window = w; acts = told } in v) (settled_with command whole lane.under_way)
+    ∙ (ap (λ (l : Lane). let v : Read = record { kept = l.kept; window = window_of command l.under_way; acts = told } in v) (sym e)
+    ∙ ap (λ (xs : List Act). let v : Read = record { kept = new.kept; window = window_of command new.under_way; acts = xs } in v) (sym a))
 
 -- ## The first answer among acts of the program
 

@@ -1,6 +1,6 @@
 -- A frame goes out: the core goes on with every history that it fits.
-use Rattle.std.specs.Prelude.{suc, ◌≡◌, ℕ, ◌+◌, ◌<◌, ◌≤◌, ◌==◌, ◌&&◌, not, nat_le, nat_eq, Bool, true, false, List, [], ◌∷◌, ◌++◌, length, take, drop, min, slice_set, slice_index_or, refl, Option, None, Some, option_map, is_none, IfSome, if◌then◌else◌}
-use Rattle.std.specs.List.{concat, starts_with}
+use Rattle.std.specs.Prelude.{suc, ◌≡◌, ℕ, ◌+◌, ◌<◌, ◌≤◌, ◌==◌, ◌&&◌, ◌||◌, not, nat_le, nat_eq, Bool, true, false, List, [], ◌∷◌, ◌++◌, length, take, drop, min, slice_set, slice_index_or, refl, Option, None, Some, option_map, is_none, IfSome, if◌then◌else◌}
+use Rattle.std.specs.List.{concat, list_any, starts_with}
 use Rattle.std.proofs.Common.{ap, sym, ◌∙◌, subst, arith, get_or-set_same, get_or-set_other, eqb-true, length-append}
 use Rattle.std.proofs.lemmas.Bool.{le-leb, eqb-false, ne_eqb}
 use Rattle.std.proofs.lemmas.List.{length-take}
@@ -28,11 +28,12 @@ use Rattle.mux_station.proofs.states.StationPasts.{open_fits}
 use Rattle.at_text.specs.Dialects.{Dialect}
 use Rattle.at_text.specs.declared.unsolicited.UrcKind.{UrcKind}
 use Rattle.at_text.specs.Windows.{Mark, answered, open_window}
-use Rattle.at_text.specs.OpenWindow.{opened, shown}
+use Rattle.at_text.specs.UnderWay.{unanswered, answer_shown}
 use Rattle.modem_desk.specs.declared.request.Request.{Request}
 use Rattle.modem_core.specs.Lanes.{Lane, new_lane}
 use Rattle.modem_history.specs.Acts.{Act, Sent, Given, wire, in_hand}
-use Rattle.modem_history.specs.Information.{information_out, accepted, texts, line_of}
+use Rattle.modem_history.specs.Information.{command_on, information_out, accepted, texts}
+use Rattle.modem_history.specs.Requests.{commands_on}
 use Rattle.modem_history.specs.Placing.{marks, reached_in}
 use Rattle.modem_history.specs.Calls.{Setting, first_on, is_lost}
 use Rattle.modem_history.specs.Lawful.{Lawful, Complete, Allows, Gated, Once, InTurn, IsNext, When, owed}
@@ -40,14 +41,14 @@ use Rattle.modem_history.specs.Wholes.{InStep, commands_for, StaysInStep}
 use Rattle.modem_core.specs.Cores.{dialect_in, Core, LaneFits, Runs, RunsUnless, Fits, IsRun, IsSettingOf, lane_at, state_shown}
 use Rattle.modem_core.specs.CoreGoing.{StandsIn, begun_by, begun_on, begun_next, gone_on, GoesOut, CoreGoesOn, SendsTruly}
 use Rattle.modem_history.specs.GoingOut.{may_leave, waits_on, data_of, out_by, next_out, with_out, after_out}
-use Rattle.modem_history.proofs.commands.BegunCommands.{Kept, kept}
+use Rattle.modem_history.proofs.commands.BegunCommands.{KeptCommands, kept}
 use Rattle.modem_history.proofs.requests.StepsOfHistory.{stays_in_step, given_open, data_open}
 use Rattle.modem_history.proofs.requests.RequestsAfterCalls.{first_head, head_of}
 use Rattle.modem_core.proofs.cores.StationPasts.{open_seen, stopped_seen, queue_seen}
 use Rattle.modem_core.proofs.commands.SentTexts.{begun_in as begun_between}
 use Rattle.modem_core.proofs.commands.NextCommand.{begins_at, NextIs, next_is, Leaves, leaves}
 use Rattle.modem_core.proofs.outgoing.WaitingData.{Lanes_fit, ring_rest, waits_in, turn_same}
-use Rattle.modem_core.proofs.outgoing.LanesAfterFrame.{probe_same, waits_same, lane_given, lane_other, lane_own, window_then}
+use Rattle.modem_core.proofs.outgoing.LanesAfterFrame.{probe_untimed, waits_same, lane_given, lane_other, lane_own, under_way_then}
 use Rattle.mux_station.specs.Sending.{queue}
 use Rattle.modem_history.specs.Lawful.{some_wait}
 
@@ -93,7 +94,7 @@ given_runs v past f fs r h = record {
   fits = h;
   same = ap (λ (acts : List station.Act). station.Given ∷ acts) r.same;
   waits = r.waits;
-  probe_is = probe_same Given past (λ q. refl) v.hand ∙ r.probe_is;
+  probe_is = probe_untimed Given past (λ q. refl) v.hand ∙ r.probe_is;
   lanes_fit = λ d l z o. lane_given (dialect_in v) d r.seen past (lane_at v d) (r.lanes_fit d l z (sym (given_open Initiator d (wire past)) ∙ o));
 }
 
@@ -147,7 +148,7 @@ under v l past r d i n h run next some =
       accepted_are = step.accepted_are;
       answered_are = step.answered_are;
       next = next_is (dialect_in v) step.before cmds (marks Initiator d past) (information_out Initiator d past) (channel_at v.station d).waiting
-          (subst (λ (qs : List Request). Kept (dialect_in v) (marks Initiator d past) (information_out Initiator d past) qs) step.accepted_are (kept s past run.lawful d)) step.answered_are
+          (subst (λ (qs : List Request). KeptCommands (dialect_in v) (marks Initiator d past) (information_out Initiator d past) qs) step.accepted_are (kept s past run.lawful d)) step.answered_are
           (sym rest ∙ ap (λ (qs : List Request). concat (texts (take (answered (dialect_in v) (marks Initiator d past) + 1) qs))) step.accepted_are) some;
       rest_is = rest;
     }
@@ -229,30 +230,38 @@ sent d info = station.Sent (written Initiator Uih d info)
 abbrev begun_of : List Act → ℕ → ℕ → List Mark
 begun_of past d size = begun_between (accepted Initiator d past) (length (information_out Initiator d past)) (length (information_out Initiator d past) + size)
 
-record BegunAt (v : Core) (d : ℕ) (b : Bool) (c : Request) : Type 0 where
+record BegunAt (v : Core) (d : ℕ) (b : Bool) : Type 0 where
   lanes : List Lane
   is : begun_on v (Some d) ≡ record v { lanes = lanes }
-  here : slice_index_or lanes d new_lane ≡ record (lane_at v d) { window = window_then b c (lane_at v d).window }
+  here : slice_index_or lanes d new_lane ≡ record (lane_at v d) { under_way = under_way_then b (lane_at v d).under_way }
   there : (e : ℕ) → (d == e) ≡ false → slice_index_or lanes e new_lane ≡ lane_at v e
 
-begun_at : (v : Core) (d : ℕ) (c : Request) → first_on d v.hand ≡ Some c → (lane_at v d).window ≡ None → d < length v.lanes → BegunAt v d (nat_le (length (channel_at v.station d).waiting) v.station.n1) c
+some_on : (d : ℕ) (qs : List Request) (c : Request) → first_on d qs ≡ Some c → list_any (commands_on d) qs ≡ true
+some_on d [] c e = cc
+some_on d (q ∷ qs) c e = by_test (command_on d q.ask) e (some_on d qs c)
+  where
+    by_test : (b : Bool) → (if b then Some q else first_on d qs) ≡ Some c → (first_on d qs ≡ Some c → list_any (commands_on d) qs ≡ true) → (b || list_any (commands_on d) qs) ≡ true
+    by_test true e h = refl
+    by_test false e h = h e
+
+begun_at : (v : Core) (d : ℕ) (c : Request) → first_on d v.hand ≡ Some c → (lane_at v d).under_way ≡ None → d < length v.lanes → BegunAt v d (nat_le (length (channel_at v.station d).waiting) v.station.n1)
 begun_at v d c first none l = by_whole (nat_le (length (channel_at v.station d).waiting) v.station.n1) refl
   where
-    by_whole : (b : Bool) → nat_le (length (channel_at v.station d).waiting) v.station.n1 ≡ b → BegunAt v d b c
+    by_whole : (b : Bool) → nat_le (length (channel_at v.station d).waiting) v.station.n1 ≡ b → BegunAt v d b
     by_whole true e =
-        let lane : Lane = record (lane_at v d) { window = Some (opened (line_of c)) } in
+        let lane : Lane = record (lane_at v d) { under_way = Some unanswered } in
         record {
           lanes = slice_set v.lanes d lane;
           is =
-              ap (λ (b : Bool). if b then begun_by v d (option_map line_of (first_on d v.hand)) else v) e
-              ∙ (ap (λ (o : Option Request). begun_by v d (option_map line_of o)) first
+              ap (λ (b : Bool). if b then begun_by v d (list_any (commands_on d) v.hand) else v) e
+              ∙ (ap (begun_by v d) (some_on d v.hand c first)
               ∙ ap (λ (b : Bool). if b then record v { lanes = slice_set v.lanes d lane } else v) (ap is_none none));
           here = get_or-set_same v.lanes d lane new_lane l;
           there = λ e n. get_or-set_other v.lanes d e lane new_lane (λ (g : e ≡ d). eqb-false d e n (sym g));
         }
     by_whole false e = record {
       lanes = v.lanes;
-      is = ap (λ (b : Bool). if b then begun_by v d (option_map line_of (first_on d v.hand)) else v) e;
+      is = ap (λ (b : Bool). if b then begun_by v d (list_any (commands_on d) v.hand) else v) e;
       here = refl;
       there = λ e n. refl;
     }
@@ -265,7 +274,7 @@ data_state d e info past z = state_sent_uih Initiator e past (written Initiator 
 pub state_in : (v : Station) (past : List station.Act) (e : ℕ) → v.role ≡ Initiator → station_fits.StationFits v past → e < 62 → (channel_at v e).state ≡ state_of Initiator e past
 state_in v past e r h l = sym (subst (λ (x : Role). state_of x e past ≡ (channel_at v e).state) r (h.channels_are e l).state_is)
 
-data_runs : (v : Core) (past : List Act) (r : Runs v past) (d : ℕ) (b : Bool) (c : Request) (begun : BegunAt v d b c) (station : Station) → IsSound v → station.role ≡ Initiator → station.probe ≡ v.station.probe
+data_runs : (v : Core) (past : List Act) (r : Runs v past) (d : ℕ) (b : Bool) (c : Request) (begun : BegunAt v d b) (station : Station) → IsSound v → station.role ≡ Initiator → station.probe ≡ v.station.probe
     → SendsNext Initiator d r.seen → open_window (dialect_in v) (marks Initiator d past) ≡ None
     → (info : List ℕ) → begun_of past d (length info) ≡ begins_at b c
     → station_fits.StationFits station (sent d info ∷ r.seen)
@@ -281,7 +290,7 @@ data_runs v past r d b c begun station i role probe next none info marks_are h =
       fits = h;
       same = ap (λ (acts : List wired). sent d info ∷ acts) r.same;
       waits = waits_same (state_shown station false) (state_shown v.station false) shown v.hand ∙ r.waits;
-      probe_is = probe_same (Sent f) past (λ q. refl) v.hand ∙ (r.probe_is ∙ sym probe);
+      probe_is = probe_untimed (Sent f) past (λ q. refl) v.hand ∙ (r.probe_is ∙ sym probe);
       lanes_fit = λ e l z o. by_lane e l z (sym (was e) ∙ o) (d == e) refl;
     }
   where
@@ -315,7 +324,7 @@ data_stands v l past r d i n m next h =
     let info = take n1 w in
     let f = written Initiator Uih d info in
     let first : first_on d v.hand ≡ Some c = first_head d v.hand ∙ ap head_of (sym u.cmds_are ∙ u.next.split) in
-    let none : (lane_at v d).window ≡ None = lane.window_fits.shows ∙ ap (option_map (shown (dialect_in v))) u.next.idle in
+    let none : (lane_at v d).under_way ≡ None = lane.under_way_fits.shows ∙ ap (option_map (answer_shown (dialect_in v))) u.next.idle in
     let begun = begun_at v d c first none (subst (λ (k : ℕ). d < k) (sym i.all) next.in_range) in
     let marks_are : begun_of past d (length info) ≡ begins_at (nat_le (length w) n1) c
     = ap (λ (qs : List Request). begun_between qs (length out) (length out + length info)) (u.accepted_are ∙ ap (λ (qs : List Request). u.before ++ qs) u.next.split) ∙ goes.begun in
@@ -446,14 +455,14 @@ sends_truly v (Some x) e h d seen some f =
 
 begun_station : (v : Core) (o : Option ℕ) → (begun_on v o).station ≡ v.station
 begun_station v None = refl
-begun_station v (Some d) = by_whole (nat_le (length (channel_at v.station d).waiting) v.station.n1) (option_map line_of (first_on d v.hand))
+begun_station v (Some d) = by_whole (nat_le (length (channel_at v.station d).waiting) v.station.n1) (list_any (commands_on d) v.hand)
   where
-    by_whole : (b : Bool) (line : Option (List ℕ)) → (if b then begun_by v d line else v).station ≡ v.station
-    by_whole false line = refl
-    by_whole true None = refl
-    by_whole true (Some line) = by_idle (is_none (lane_at v d).window)
+    by_whole : (b has : Bool) → (if b then begun_by v d has else v).station ≡ v.station
+    by_whole false has = refl
+    by_whole true false = refl
+    by_whole true true = by_idle (is_none (lane_at v d).under_way)
       where
-        by_idle : (b : Bool) → (if b then record v { lanes = slice_set v.lanes d (record (lane_at v d) { window = Some (opened line) }) } else v).station ≡ v.station
+        by_idle : (b : Bool) → (if b then record v { lanes = slice_set v.lanes d (record (lane_at v d) { under_way = Some unanswered }) } else v).station ≡ v.station
         by_idle true = refl
         by_idle false = refl
 

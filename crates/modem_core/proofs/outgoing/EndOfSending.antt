@@ -119,9 +119,9 @@ idle_none v None e = empty_queue v v.station.queue refl (sym e)
 idle_none v (Some x) e = tt
 
 -- what is promised where nothing comes of a value is promised where there is no value
-pub none_of : {X Y : Type 0} (f : X → Y) (P : Type 0) (o : Option X) → IfNone (option_map f o) P → IfNone o P
-none_of f P None h = h
-none_of f P (Some x) h = tt
+pub none_without : {X Y : Type 0} (f : X → Y) (P : Type 0) (o : Option X) → IfNone (option_map f o) P → IfNone o P
+none_without f P None h = h
+none_without f P (Some x) h = tt
 
 -- ## Nothing goes out
 

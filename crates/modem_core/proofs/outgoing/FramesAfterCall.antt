@@ -26,8 +26,8 @@ then_sends s _ _ f _ (marks past last g fs n k) h = marks past (Sent f ∷ last)
 then_sends s _ _ f _ (sends past last g fs n k) h = sends past (Sent f ∷ last) g (fs ++ f ∷ []) n (then_sends s (Sent g ∷ past) last f fs k h)
 
 -- at first nothing has gone out
-pub sends_none : (v : Core) (acts : List Act) → SendsSome v v acts acts
-sends_none v acts = record { frames = []; acts_are = sym (append-nil acts); out = λ s past h. record { now = past; goes = stays past; stands = h } }
+pub nothing_gone_out : (v : Core) (acts : List Act) → SendsSome v v acts acts
+nothing_gone_out v acts = record { frames = []; acts_are = sym (append-nil acts); out = λ s past h. record { now = past; goes = stays past; stands = h } }
 
 -- a control frame is given on
 pub sends_mark : (old mid new : Core) (before acts : List Act) (o : Outgoing) → SendsSome old mid before acts → GoesOut mid (Some o) → CoreGoesOn mid → o.fresh ≡ false → new ≡ gone_on mid → SendsSome old new before acts

@@ -13,8 +13,8 @@ use Rattle.mux_station.specs.Offering.{octets_offered, joined_octets}
 use Rattle.mux_station.specs.Sending.{Waiting}
 use Rattle.at_text.specs.Dialects.{Dialect}
 use Rattle.at_text.specs.Windows.{Mark, answered, open_window}
-use Rattle.at_text.specs.OpenWindow.{OpenWindow, opened, shown, FitsMarks}
-use Rattle.at_text.proofs.windows.AnswerWindows.{begins}
+use Rattle.at_text.specs.UnderWay.{UnderWay, unanswered, answer_shown, FitsUnderWay}
+use Rattle.at_text.proofs.windows.AnswersUnderWay.{answer_begins}
 use Rattle.modem_desk.specs.declared.request.Ask.{Ask}
 use Rattle.modem_desk.specs.declared.request.Ask.TheVariants.{OpenChannel, CloseChannel, Command, Probe, Stop}
 use Rattle.modem_desk.specs.declared.request.Request.{Request}
@@ -32,9 +32,9 @@ use Rattle.modem_core.proofs.commands.NextCommand.{begins_at}
 -- ## Those who wait
 
 -- the probe among them, where no tick came
-pub probe_same : (a : Act) (past : List Act) → ((r : Request) → ticks_since r (a ∷ past) ≡ ticks_since r past) → (rs : List Request) → probe_in (a ∷ past) rs ≡ probe_in past rs
-probe_same a past h [] = refl
-probe_same a past h (r ∷ rs) = by_ask r.ask (probe_same a past h rs)
+pub probe_untimed : (a : Act) (past : List Act) → ((r : Request) → ticks_since r (a ∷ past) ≡ ticks_since r past) → (rs : List Request) → probe_in (a ∷ past) rs ≡ probe_in past rs
+probe_untimed a past h [] = refl
+probe_untimed a past h (r ∷ rs) = by_ask r.ask (probe_untimed a past h rs)
   where
     by_ask : (ask : Ask) → probe_in (a ∷ past) rs ≡ probe_in past rs → probe_or (a ∷ past) r ask (probe_in (a ∷ past) rs) ≡ probe_or past r ask (probe_in past rs)
     by_ask (Probe octets) k = ap (λ (n : ℕ). let w : Waiting = record { data_octets = octets; ticks = n } in Some w) (h r)
@@ -71,7 +71,7 @@ offered_after false a d rest h = refl
 pub lane_given : (dialect : Dialect) (d : ℕ) (seen : List station.Act) (past : List Act) (lane : Lane) → LaneFits dialect d seen past lane → LaneFits dialect d (station.Given ∷ seen) (Given ∷ past) lane
 lane_given dialect d seen past lane f = record {
   kept_is = ap kept_run (got_after (belongs Initiator d (wire past) station.Given) station.Given d (since Initiator d (wire past)) refl) ∙ f.kept_is;
-  window_fits = f.window_fits;
+  under_way_fits = f.under_way_fits;
   offered_is = offered_after (belongs Initiator d seen station.Given) station.Given d (since Initiator d seen) refl ∙ f.offered_is;
 }
 
@@ -99,20 +99,20 @@ lane_other dialect d e info seen past lane n f =
     let same : marks Initiator d (Sent g ∷ past) ≡ marks Initiator d past = if_not (carries d g && is_open Initiator d (wire past)) (marks Initiator d past ++ begun_placed Initiator d past g) (marks Initiator d past) none in
     record {
       kept_is = ap kept_run (got_after (belongs Initiator d (wire past) (station.Sent g)) (station.Sent g) d (since Initiator d (wire past)) refl) ∙ f.kept_is;
-      window_fits = subst (λ (ms : List Mark). FitsMarks dialect lane.window ms) (sym same) f.window_fits;
+      under_way_fits = subst (λ (ms : List Mark). FitsUnderWay dialect lane.under_way ms) (sym same) f.under_way_fits;
       offered_is =
           offered_after (belongs Initiator d seen (station.Sent g)) (station.Sent g) d (since Initiator d seen) refl
           ∙ (f.offered_is ∙ ap (λ (ms : List Mark). concat (texts (take (answered dialect ms + 1) (accepted Initiator d past)))) (sym same));
     }
 
--- a window that begins, or not
-abbrev pub window_then : Bool → Request → Option OpenWindow → Option OpenWindow
-window_then true c w = Some (opened (line_of c))
-window_then false c w = w
+-- a command that begins, or not
+abbrev pub under_way_then : Bool → Option UnderWay → Option UnderWay
+under_way_then true u = Some unanswered
+under_way_then false u = u
 
-window_fits : (dialect : Dialect) (b : Bool) (c : Request) (w : Option OpenWindow) (ms : List Mark) → open_window dialect ms ≡ None → FitsMarks dialect w ms → FitsMarks dialect (window_then b c w) (ms ++ begins_at b c)
-window_fits dialect true c w ms none f = begins dialect w (Some (opened (line_of c))) ms (line_of c) f (ap is_some (f.shows ∙ ap (option_map (shown dialect)) none)) refl
-window_fits dialect false c w ms none f = subst (λ (v : List Mark). FitsMarks dialect w v) (sym (append-nil ms)) f
+begun_fits : (dialect : Dialect) (b : Bool) (c : Request) (u : Option UnderWay) (ms : List Mark) → open_window dialect ms ≡ None → FitsUnderWay dialect u ms → FitsUnderWay dialect (under_way_then b u) (ms ++ begins_at b c)
+begun_fits dialect true c u ms none f = answer_begins dialect u (Some unanswered) ms (line_of c) f (ap is_some (f.shows ∙ ap (option_map (answer_shown dialect)) none)) refl
+begun_fits dialect false c u ms none f = subst (λ (v : List Mark). FitsUnderWay dialect u v) (sym (append-nil ms)) f
 
 answered_same : (dialect : Dialect) (b : Bool) (c : Request) (ms : List Mark) → answered dialect (ms ++ begins_at b c) ≡ answered dialect ms
 answered_same dialect true c ms = answered_begun dialect ms (line_of c)
@@ -122,7 +122,7 @@ answered_same dialect false c ms = ap (answered dialect) (append-nil ms)
 pub lane_own : (dialect : Dialect) (d : ℕ) (info : List ℕ) (b : Bool) (c : Request) (seen : List station.Act) (past : List Act) (lane : Lane) → (d == 0) ≡ false → is_open Initiator d (wire past) ≡ true
     → open_window dialect (marks Initiator d past) ≡ None
     → begun_between (accepted Initiator d past) (length (information_out Initiator d past)) (length (information_out Initiator d past) + length info) ≡ begins_at b c → LaneFits dialect d seen past lane
-    → LaneFits dialect d (station.Sent (written Initiator Uih d info) ∷ seen) (Sent (written Initiator Uih d info) ∷ past) (record lane { window = window_then b c lane.window })
+    → LaneFits dialect d (station.Sent (written Initiator Uih d info) ∷ seen) (Sent (written Initiator Uih d info) ∷ past) (record lane { under_way = under_way_then b lane.under_way })
 lane_own dialect d info b c seen past lane z o none begun f =
     let g = written Initiator Uih d info in
     let ms = marks Initiator d past in
@@ -132,7 +132,7 @@ lane_own dialect d info b c seen past lane z o none begun f =
     = if_so (carries d g && is_open Initiator d (wire past)) (ms ++ begun_placed Initiator d past g) ms here ∙ ap (λ (v : List Mark). ms ++ v) begun in
     record {
       kept_is = ap kept_run (got_after (belongs Initiator d (wire past) (station.Sent g)) (station.Sent g) d (since Initiator d (wire past)) refl) ∙ f.kept_is;
-      window_fits = subst (λ (v : List Mark). FitsMarks dialect (window_then b c lane.window) v) (sym more) (window_fits dialect b c lane.window ms none f.window_fits);
+      under_way_fits = subst (λ (v : List Mark). FitsUnderWay dialect (under_way_then b lane.under_way) v) (sym more) (begun_fits dialect b c lane.under_way ms none f.under_way_fits);
       offered_is =
           offered_after (belongs Initiator d seen (station.Sent g)) (station.Sent g) d (since Initiator d seen) refl
           ∙ (f.offered_is ∙ (ap (λ (n : ℕ). concat (texts (take (n + 1) (accepted Initiator d past)))) (sym (answered_same dialect b c ms))

@@ -12,12 +12,12 @@ use Rattle.mux_station.specs.Written.{is_on}
 use Rattle.mux_station.specs.Messages.{Message, message_in}
 use Rattle.mux_station.specs.States.{State, IsShut, IsOpening, IsOpened, IsClosing, IsStopping, is_opened, state_of}
 use Rattle.mux_station.specs.Stages.{as_shown}
-use Rattle.mux_station.specs.Opening.{standings, is_open, opens, opens_now, ends}
+use Rattle.mux_station.specs.Opening.{is_open, opens, opens_now, ends, is_asked}
+use Rattle.mux_station.proofs.states.OpeningSteps.{is_open_after}
 use Rattle.mux_station.specs.Sending.{StationSetting, Waiting, brings_probe_back, refuses_probe, probe_of, probe_after, zero_stays, sent_after}
 use Rattle.mux_station.specs.Stations.{Station, channel_at, setting_of}
 use Rattle.mux_station.specs.Fitting.{StationFits}
 use Rattle.mux_station.proofs.user_calls.CallFrames.{probe_needs, opens_sent}
-use Rattle.mux_station.proofs.states.OpenedStates.{opened_is_open}
 use Rattle.modem_desk.specs.declared.request.Ask.{Ask}
 use Rattle.modem_desk.specs.declared.request.Ask.TheVariants.{Probe}
 use Rattle.modem_desk.specs.declared.request.Answer.{Answer}
@@ -43,9 +43,8 @@ or_off true b e h = cc
 -- 0 was Opened before a frame that was sent, where it is after it
 sent_was : (r : Role) (f : Frame) (past : List Act) → is_opened (state_of r 0 (Sent f ∷ past)) ≡ true → is_opened (state_of r 0 past) ≡ true
 sent_was r f past h =
-    let t = standings r 0 past in
-    let o : is_open r 0 (Sent f ∷ past) ≡ true = sym (opened_is_open r (Sent f ∷ past) 0) ∙ h in
-    opened_is_open r past 0 ∙ and_left t.own.is_open (not (ends t.zero.is_open 0 (Sent f))) (or_off (opens_now r 0 past (Sent f)) (t.own.is_open && not (ends t.zero.is_open 0 (Sent f))) (opens_sent r 0 past f) o)
+    let o : is_open r 0 (Sent f ∷ past) ≡ true = h in
+    and_left (is_open r 0 past) (not (ends (is_open r 0 past) 0 (Sent f))) (or_off (opens_now r 0 past (Sent f)) (is_open r 0 past && not (ends (is_open r 0 past) 0 (Sent f))) (opens_sent r 0 past f) (sym (is_open_after r 0 past (Sent f)) ∙ o))
 
 stays_by : (s : StationSetting) (b : Bool) (o : Option Waiting) (f : Frame) → b ≡ true → probe_after s b o (Sent f) ≡ o
 stays_by s b None f e = refl
@@ -142,10 +141,9 @@ probe_then v st seen f fs n ended r e h g says = by_zero (is_opened (channel_at 
     one_stays w p z =
         let k = sends_keep (setting_of v) fs (Got f ∷ seen) (opened true z) in
         let was : is_opened (state_of v.role 0 seen) ≡ true = needs_open (setting_of v) seen w (h.probe_is ∙ p) in
-        let unasked : (standings v.role 0 seen).own.is_asked ≡ false = (h.channels_are 0 (omega arith)).unasked (ap is_opened (sym (h.channels_are 0 (omega arith)).state_is) ∙ was) in
-        let t = standings v.role 0 seen in
+        let unasked : (is_asked v.role 0 seen) ≡ false = (h.channels_are 0 (omega arith)).unasked (ap is_opened (sym (h.channels_are 0 (omega arith)).state_is) ∙ was) in
         let never : opens_now v.role 0 seen (Got f) ≡ false
-        = ap (λ (x : Role). opens x t.zero.is_open t.own.is_asked 0 (Got f)) r ∙ and_off (is_on Ua 0 f) t.own.is_asked unasked in
+        = ap (λ (x : Role). opens x (is_open v.role 0 seen) (is_asked v.role 0 seen) 0 (Got f)) r ∙ and_off (is_on Ua 0 f) (is_asked v.role 0 seen) unasked in
         let stays : zero_stays (setting_of v) seen (Got f) ≡ true = and_from (is_opened (state_of v.role 0 (Got f ∷ seen))) (not (opens_now v.role 0 seen (Got f))) k.was (ap not never) in
         let kept : probe_of (setting_of v) (Got f ∷ seen) ≡ (if is_none (probe_answer w.data_octets (message_in f)) then Some w else None)
         = ap (λ (o : Option Waiting). probe_after (setting_of v) (zero_stays (setting_of v) seen (Got f)) o (Got f)) (h.probe_is ∙ p) ∙ kept_by (setting_of v) (zero_stays (setting_of v) seen (Got f)) w f stays in

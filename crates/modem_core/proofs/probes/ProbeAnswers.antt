@@ -153,9 +153,9 @@ left_none says (r ∷ rs) h = by_told (is_none (says r.ask)) (left_none says rs 
     by_told false k = k
 
 -- so the probe among those who are left is that one, where there is one at most
-pub probe_left : (says : Ask → Option Answer) (past : List Act) (rs : List Request) → probes rs ≤ 1 → probe_in past (left_by says rs) ≡ still says (probe_in past rs)
-probe_left says past [] h = refl
-probe_left says past (r ∷ rs) h = by_ask r.ask refl h (probe_left says past rs)
+pub probe_still_left : (says : Ask → Option Answer) (past : List Act) (rs : List Request) → probes rs ≤ 1 → probe_in past (left_by says rs) ≡ still says (probe_in past rs)
+probe_still_left says past [] h = refl
+probe_still_left says past (r ∷ rs) h = by_ask r.ask refl h (probe_still_left says past rs)
   where
     abbrev_left : List Request
     abbrev_left = left_by says rs

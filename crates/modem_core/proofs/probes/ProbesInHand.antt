@@ -23,7 +23,7 @@ use Rattle.modem_history.proofs.requests.StepOfRequest.{if_none, took_hand}
 use Rattle.modem_history.proofs.requests.StepsOfHistory.{Few, few_once, few_hand, few_before, distinct_few}
 
 -- how many there are
-pub probes_in : List Request → ℕ
+unfoldable pub probes_in : List Request → ℕ
 probes_in [] = 0
 probes_in (r ∷ rs) = (if asks_probe r.ask then 1 else 0) + probes_in rs
 
@@ -166,9 +166,9 @@ one_all s (Lost ∷ past) l c u =
     subst (λ (owing : List Act). OneIn (Lost ∷ past) (unsent owing ++ calls_behind s past owing Lost)) (sym none) k
 
 -- after each history of whole calls there is one at most
-pub one_probe : (s : Setting) (past : List Act) → IsRun s past → probes_in (in_hand past) ≤ 1
+pub few_in_hand : (s : Setting) (past : List Act) → IsRun s past → probes_in (in_hand past) ≤ 1
 unfolding Complete
-one_probe s past r = here s past r.complete (one_all s past r.lawful r.whole (few_once (taken_requests past) r.numbers))
+few_in_hand s past r = here s past r.complete (one_all s past r.lawful r.whole (few_once (taken_requests past) r.numbers))
 
 -- behind a probe there is none
 pub first_alone : (octets : List ℕ) (r : Request) (rs : List Request) → r.ask ≡ Probe octets → probes_in (r ∷ rs) ≤ 1 → probes_in rs ≡ 0

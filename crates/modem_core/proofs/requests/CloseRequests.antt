@@ -35,7 +35,7 @@ use Rattle.modem_history.proofs.calls.CallEnds.{ended}
 use Rattle.modem_core.proofs.cores.UnchangedParts.{is_probe, probe_more}
 use Rattle.modem_core.proofs.requests.TakenRequests.{Live, probe_kept}
 use Rattle.modem_core.proofs.requests.AcceptedRequests.{Accepts, refused_handles}
-use Rattle.modem_core.proofs.requests.OneFrameRequests.{Asks, seen_then, asked_fits, kept_states, asked_accepts, probe_left}
+use Rattle.modem_core.proofs.requests.OneFrameRequests.{Asks, past_then, asked_fits, kept_states, asked_accepts, probe_left}
 
 -- ## What it is told at once
 
@@ -137,7 +137,7 @@ close_accepts v w q d few o s past l m =
     let f = disc n in
     let a = close_asks v w q d o in
     let free = free_of st n o.taken_on in
-    let acts = seen_then s v past l c f in
+    let acts = past_then s v past l c f in
     let before = station.Called c ∷ l.runs.seen in
     let state : (e : ℕ) → e < 62 → (channel_at w e).state ≡ (if n == e then at_sent (channel_at st e).state Disc else (channel_at st e).state)
     = λ e b. kept_states v w q c f s past a l e b

@@ -24,7 +24,6 @@ use Rattle.mux_station.specs.Sending.{refused, or_else, sent_after, probe_of}
 use Rattle.mux_station.specs.Stations.{Station, channel_at, setting_of, seen_in, offer_refused}
 use Rattle.mux_station.specs.Fitting as station_fits
 use Rattle.mux_station.specs.Traces.{without_calls}
-use Rattle.mux_station.proofs.states.OpenedStates.{opened_is_open}
 use Rattle.mux_station.proofs.user_calls.CallFrames.{state_called, probe_called}
 use Rattle.at_text.specs.Dialects.{Dialect}
 use Rattle.at_text.specs.Windows.{answered}
@@ -269,7 +268,7 @@ enters_reaches s v past q d w l m few asks z o short any t =
     let st = v.station in
     let n = d.number in
     let line = line_of q ++ 13 ∷ [] in
-    let there : is_open s.role n (wire past) ≡ true = sym (opened_is_open s.role (wire past) n) ∙ (ap is_opened (l.states_are n d.in_range) ∙ o) in
+    let there : is_open s.role n (wire past) ≡ true = (ap is_opened (l.states_are n d.in_range) ∙ o) in
     let none : commands_for n (in_hand past) ≡ [] = ap (commands_for n) l.hand_is ∙ any_none n v.hand any in
     let empty : (channel_at st n).waiting ≡ [] = ring_empty s v past n l m.run d.in_range z there none in
     let size = ap length empty in

@@ -37,22 +37,22 @@ pub record Asks (v : Core) (w : Station) (q : Request) (c : station.Call) (f : R
   pub no_command : (d : ℕ) → command_on d q.ask ≡ false
 
 -- the station's past then
-abbrev pub seen_then : (s : Setting) (v : Core) (past : List Act) → Live s v past → station.Call → (Role → Frame) → List station.Act
-seen_then s v past l c f = station.Sent (f v.station.role) ∷ station.Called c ∷ l.runs.seen
+abbrev pub past_then : (s : Setting) (v : Core) (past : List Act) → Live s v past → station.Call → (Role → Frame) → List station.Act
+past_then s v past l c f = station.Sent (f v.station.role) ∷ station.Called c ∷ l.runs.seen
 
 -- which the station fits once it took the call
-pub asked_fits : (v : Core) (w : Station) (q : Request) (c : station.Call) (f : Role → Frame) (s : Setting) (past : List Act) → Asks v w q c f → (l : Live s v past) → station_fits.StationFits w (seen_then s v past l c f)
+pub asked_fits : (v : Core) (w : Station) (q : Request) (c : station.Call) (f : Role → Frame) (s : Setting) (past : List Act) → Asks v w q c f → (l : Live s v past) → station_fits.StationFits w (past_then s v past l c f)
 asked_fits v w q c f s past a l =
     subst (λ (fs : List Frame). station_fits.StationFits w (sent_after fs (station.Called c ∷ l.runs.seen))) (a.call_asks v.station.role) (called_fits v.station w l.runs.seen c l.runs.fits a.in_range a.taken_on a.goes_on)
 
 -- the states that it keeps then
 pub kept_states : (v : Core) (w : Station) (q : Request) (c : station.Call) (f : Role → Frame) (s : Setting) (past : List Act) → Asks v w q c f → (l : Live s v past)
-    → (e : ℕ) → e < 62 → (channel_at w e).state ≡ state_of v.station.role e (seen_then s v past l c f)
+    → (e : ℕ) → e < 62 → (channel_at w e).state ≡ state_of v.station.role e (past_then s v past l c f)
 kept_states v w q c f s past a l e b =
-    sym ((asked_fits v w q c f s past a l).channels_are e b).state_is ∙ ap (λ (x : sending.StationSetting). state_of x.role e (seen_then s v past l c f)) a.goes_on.setting
+    sym ((asked_fits v w q c f s past a l).channels_are e b).state_is ∙ ap (λ (x : sending.StationSetting). state_of x.role e (past_then s v past l c f)) a.goes_on.setting
 
 asked_same : (v : Core) (w : Station) (q : Request) (c : station.Call) (f : Role → Frame) (s : Setting) (past : List Act) → Asks v w q c f → (l : Live s v past)
-    → without_calls (seen_then s v past l c f) ≡ sent_after (asking s.role q.ask) (wire past)
+    → without_calls (past_then s v past l c f) ≡ sent_after (asking s.role q.ask) (wire past)
 asked_same v w q c f s past a l =
     ap (λ (x : List station.Act). station.Sent (f v.station.role) ∷ x) l.runs.same
     ∙ (ap (λ (r : Role). station.Sent (f r) ∷ wire past) (sym l.same_role) ∙ ap (λ (gs : List Frame). sent_after gs (wire past)) (sym (a.asks s.role)))
@@ -66,7 +66,7 @@ pub now_kept : (v : Core) (w : Station) (q : Request) (c : station.Call) (f : Ro
     → (e : ℕ) → e < 62 → now_in s past (Took q) e ≡ (channel_at w e).state
 now_kept v w q c f s past a l once e b =
     let fs = asking s.role q.ask in
-    let acts = seen_then s v past l c f in
+    let acts = past_then s v past l c f in
     state_then s past q fs e (asked_frames s past q l.lost_is once)
     ∙ (ap (state_of s.role e) (sym (asked_same v w q c f s past a l))
     ∙ (plain_state s.role e acts ∙ (ap (λ (r : Role). state_of r e acts) l.same_role ∙ sym (kept_states v w q c f s past a l e b))))
@@ -81,7 +81,7 @@ asked_accepts v w q c f e few a s past l asked ends waits probe =
     let now0 = now_kept v w q c f s past a l once 0 (omega arith) in
     record {
       once = once;
-      acts_seen = seen_then s v past l c f;
+      acts_seen = past_then s v past l c f;
       fits = asked_fits v w q c f s past a l;
       setting = a.goes_on.setting;
       same = same;

@@ -40,7 +40,7 @@ use Rattle.modem_core.proofs.cores.UnchangedParts.{ticks_behind}
 use Rattle.modem_core.proofs.requests.TakenRequests.{Live, AllWait, all_left, probe_kept}
 use Rattle.modem_core.proofs.requests.AcceptedRequests.{Accepts, refused_handles}
 use Rattle.modem_core.proofs.requests.CloseRequests.{and_not}
-use Rattle.modem_core.proofs.requests.OneFrameRequests.{Asks, seen_then, asked_fits, kept_states, asked_accepts}
+use Rattle.modem_core.proofs.requests.OneFrameRequests.{Asks, past_then, asked_fits, kept_states, asked_accepts}
 
 -- ## What it is told at once
 
@@ -196,7 +196,7 @@ probe_accepts v w q octets few o s past l m =
     let a = probe_asks v w q octets o in
     let free = free_of st octets o.taken_on in
     let before = station.Called c ∷ l.runs.seen in
-    let acts = seen_then s v past l c f in
+    let acts = past_then s v past l c f in
     let zero = probe_states v w q octets s past o l 0 (omega arith) in
     let fits = asked_fits v w q c f s past a l in
     let past' = ended s past (Took q) in

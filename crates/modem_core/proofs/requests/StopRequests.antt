@@ -33,7 +33,7 @@ use Rattle.modem_history.proofs.calls.CallEnds.{ended}
 use Rattle.modem_core.proofs.cores.UnchangedParts.{is_probe, probe_more}
 use Rattle.modem_core.proofs.requests.TakenRequests.{Live}
 use Rattle.modem_core.proofs.requests.AcceptedRequests.{Accepts, refused_handles}
-use Rattle.modem_core.proofs.requests.OneFrameRequests.{Asks, seen_then, asked_fits, kept_states, asked_accepts, probe_gone}
+use Rattle.modem_core.proofs.requests.OneFrameRequests.{Asks, past_then, asked_fits, kept_states, asked_accepts, probe_gone}
 
 -- ## What it is told at once
 
@@ -100,7 +100,7 @@ stop_accepts v w q few o s past l m =
     let c = station.Stop in
     let a = stop_asks v w q o in
     let running = running_of st o.taken_on in
-    let acts = seen_then s v past l c close_down in
+    let acts = past_then s v past l c close_down in
     let stopped : state_of st.role 0 acts ≡ IsStopping 0 = state_next st.role 0 (station.Called c ∷ l.runs.seen) (station.Sent (close_down st.role)) in
     let zero : (channel_at w 0).state ≡ IsStopping 0 = kept_states v w q c close_down s past a l 0 (omega arith) ∙ stopped in
     let says = told_by happened.Took true (state_shown w false) in

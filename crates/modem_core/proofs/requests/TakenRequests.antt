@@ -8,7 +8,7 @@ use Rattle.mux_frame.specs.Frames.{Frame}
 use Rattle.at_text.specs.Dialects.{Dialect}
 use Rattle.at_text.specs.Lines.{kept_run}
 use Rattle.at_text.specs.Windows.{answered}
-use Rattle.at_text.specs.OpenWindow.{FitsMarks}
+use Rattle.at_text.specs.UnderWay.{FitsUnderWay}
 use Rattle.mux_station.specs.declared.role.Role.{Role}
 use Rattle.mux_station.specs.declared.role.Role.TheVariants.{Initiator}
 use Rattle.mux_station.specs.declared.role.ChannelState.{ChannelState}
@@ -271,7 +271,7 @@ lane_on dialect s past q d lane old new fs r f o l h =
     let taken_on : accepted Initiator d (ended s past (Took q)) ≡ accepted Initiator d (Took q ∷ past) = subst (λ (x : Role). accepted x d (ended s past (Took q)) ≡ accepted x d (Took q ∷ past)) r e.accepted_is in
     record {
       kept_is = ap (λ (w : List station.Act). kept_run (info_got d (since Initiator d w))) wires ∙ (ap kept_run (info_same Initiator d fs (wire past) o) ∙ l.kept_is);
-      window_fits = subst (FitsMarks dialect lane.window) (sym marked) l.window_fits;
+      under_way_fits = subst (FitsUnderWay dialect lane.under_way) (sym marked) l.under_way_fits;
       offered_is = h ∙ (ap (λ (n : ℕ). concat (texts (take (n + 1) (accepted Initiator d (Took q ∷ past))))) (ap (answered dialect) (sym marked))
           ∙ ap (λ (qs : List Request). concat (texts (take (answered dialect (marks Initiator d (ended s past (Took q))) + 1) qs))) (sym taken_on));
     }

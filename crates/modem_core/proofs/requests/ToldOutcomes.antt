@@ -10,16 +10,16 @@ use Rattle.modem_history.specs.declared.act.Act as code
 use Rattle.modem_history.specs.declared.act.Act.TheVariants as act
 use Rattle.modem_history.specs.Acts.{Act, Told, act_of}
 use Rattle.modem_history.specs.Turns.{outcomes_told}
-use Rattle.modem_core.specs.declared.asker.Asker.{Asker}
+use Rattle.modem_queues.specs.declared.asker.Asker.{Asker}
 use Rattle.modem_core.specs.ActLists.{ActList}
 use Rattle.modem_core.specs.Doing.{Adds, outcomes_to, TellingOn}
-use Rattle.modem_core.specs.Stops.{is_answered, is_end_of}
+use Rattle.modem_queues.specs.Stops.{is_answered, is_end_of}
 use Rattle.modem_core.specs.Telling.{said_to, told_to, left_by, Telling}
-use Rattle.modem_core.proofs.requests.ToldRequests.{Says, begins, waits_on, told_on}
+use Rattle.modem_core.proofs.requests.ToldRequests.{Words, begins, waits_on, told_on}
 use Rattle.modem_core.proofs.sessions.steps.CollectedActs.{told_both}
 
 -- before the first is looked at
-pub begins_on : (says : Says) (stop : Option Asker) (hand : List Request) (told : List Outcome) → TellingOn says stop 0 hand hand told told false
+pub begins_on : (says : Words) (stop : Option Asker) (hand : List Request) (told : List Outcome) → TellingOn says stop 0 hand hand told told false
 begins_on says stop hand told = record {
   acts = record { acts = []; left = length hand };
   telling = begins says hand (record { acts = []; left = length hand }) (omega arith);
@@ -36,7 +36,7 @@ begins_on says stop hand told = record {
     append-nil (x ∷ xs) = ap (λ (ys : List Outcome). x ∷ ys) (append-nil xs)
 
 -- the next is told nothing, and stays
-pub waits_further : (says : Says) (stop : Option Asker) (place : ℕ) (hand hand0 : List Request) (told told0 : List Outcome) (answered : Bool) → TellingOn says stop place hand hand0 told told0 answered → place < length hand
+pub waits_further : (says : Words) (stop : Option Asker) (place : ℕ) (hand hand0 : List Request) (told told0 : List Outcome) (answered : Bool) → TellingOn says stop place hand hand0 told told0 answered → place < length hand
     → (d : Request) → says (slice_index_or hand place d).ask ≡ None → TellingOn says stop (place + 1) hand hand0 told told0 answered
 waits_further says stop place hand hand0 told told0 answered t l d none = record {
   acts = t.acts;
@@ -62,7 +62,7 @@ outcomes_both : (xs ys : List code.Act) → outcomes_told (map act_of (xs ++ ys)
 outcomes_both xs ys = ap outcomes_told (map-append act_of xs ys) ∙ told_both (map act_of xs) (map act_of ys)
 
 -- the next is told this, and its outcome is put behind the others
-pub told_further : (says : Says) (stop : Option Asker) (place : ℕ) (hand hand0 : List Request) (told told0 : List Outcome) (answered : Bool) → TellingOn says stop place hand hand0 told told0 answered → place < length hand
+pub told_further : (says : Words) (stop : Option Asker) (place : ℕ) (hand hand0 : List Request) (told told0 : List Outcome) (answered : Bool) → TellingOn says stop place hand hand0 told told0 answered → place < length hand
     → (q r : Request) (answer : Answer) (left : List Request) (now : List Outcome) (also : Bool) → q ≡ slice_index_or hand place q → says q.ask ≡ Some answer → r ≡ slice_index_or hand place r → left ≡ remove hand place
     → (o : Outcome) → o ≡ record { caller = r.caller; number = r.number; answer = answer }
     → (length told < 128 → now ≡ told ++ o ∷ []) → also ≡ (answered || is_answered stop (Told o ∷ []))
@@ -92,13 +92,13 @@ told_further says stop place hand hand0 told told0 answered t l q r answer left 
     }
 
 -- all were told
-pub record AllToldOn (says : Says) (stop : Option Asker) (hand hand0 : List Request) (told told0 : List Outcome) (answered : Bool) : Type 0 where
+pub record AllToldOn (says : Words) (stop : Option Asker) (hand hand0 : List Request) (told told0 : List Outcome) (answered : Bool) : Type 0 where
   pub left_is : hand ≡ left_by says hand0
   pub adds : Adds told0 told (outcomes_to says hand0)
   pub answered_is : answered ≡ is_answered stop (map act_of (told_to says hand0))
 
 -- the acts that tell them are their outcomes
-pub told_back : (says : Says) (rs : List Request) → map Told (outcomes_to says rs) ≡ map act_of (told_to says rs)
+pub told_back : (says : Words) (rs : List Request) → map Told (outcomes_to says rs) ≡ map act_of (told_to says rs)
 told_back says [] = refl
 told_back says (r ∷ rs) = by_said (says r.ask) (told_back says rs)
   where
@@ -108,7 +108,7 @@ told_back says (r ∷ rs) = by_said (says r.ask) (told_back says rs)
     by_said (Some answer) h = ap (λ (x : List Act). Told (record { caller = r.caller; number = r.number; answer = answer }) ∷ x) h
 
 -- they are no more than the requests
-pub few_outcomes : (says : Says) (rs : List Request) → length (outcomes_to says rs) ≤ length rs
+pub few_outcomes : (says : Words) (rs : List Request) → length (outcomes_to says rs) ≤ length rs
 few_outcomes says [] = omega arith
 few_outcomes says (r ∷ rs) = by_said (says r.ask) (few_outcomes says rs)
   where

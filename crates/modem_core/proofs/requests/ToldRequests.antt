@@ -10,15 +10,15 @@ use Rattle.modem_core.specs.ActLists.{ActList}
 use Rattle.modem_core.specs.Telling.{said_to, told_to, left_by, Telling}
 
 -- what a request is told, by what it asks, if anything
-abbrev pub Says : Type 0
-Says = Ask → Option Answer
+abbrev pub Words : Type 0
+Words = Ask → Option Answer
 
 -- before the first is looked at, with room for an act for each
-pub begins : (says : Says) (hand : List Request) (acts : ActList) → length hand ≤ acts.left → Telling says 0 hand hand acts acts
+pub begins : (says : Words) (hand : List Request) (acts : ActList) → length hand ≤ acts.left → Telling says 0 hand hand acts acts
 begins says hand acts h = record { front = []; back = hand; split = refl; place_is = refl; left_same = refl; acts_same = refl; room = h }
 
 -- the request at the place
-pub record There (says : Says) (place : ℕ) (hand hand0 : List Request) (acts acts0 : ActList) : Type 0 where
+pub record There (says : Words) (place : ℕ) (hand hand0 : List Request) (acts acts0 : ActList) : Type 0 where
   pub front : List Request
   pub request : Request
   pub back : List Request
@@ -29,7 +29,7 @@ pub record There (says : Says) (place : ℕ) (hand hand0 : List Request) (acts a
   pub room : suc (length back) ≤ acts.left
 
 -- while the place isn't behind the last, a request stands there
-pub there : (says : Says) (place : ℕ) (hand hand0 : List Request) (acts acts0 : ActList) → Telling says place hand hand0 acts acts0 → place < length hand → There says place hand hand0 acts acts0
+pub there : (says : Words) (place : ℕ) (hand hand0 : List Request) (acts acts0 : ActList) → Telling says place hand hand0 acts acts0 → place < length hand → There says place hand hand0 acts acts0
 there says place hand hand0 acts acts0 t l = by_back t.back refl
   where
     by_back : (back : List Request) → t.back ≡ back → There says place hand hand0 acts acts0
@@ -56,12 +56,12 @@ removed [] ys r = refl
 removed (x ∷ xs) ys r = ap (λ (v : List Request). x ∷ v) (removed xs ys r)
 
 -- it is the one that is read at the place
-pub is_there : (says : Says) (place : ℕ) (hand hand0 : List Request) (acts acts0 : ActList) (t : There says place hand hand0 acts acts0) (d : Request) → slice_index_or hand place d ≡ t.request
+pub is_there : (says : Words) (place : ℕ) (hand hand0 : List Request) (acts acts0 : ActList) (t : There says place hand hand0 acts acts0) (d : Request) → slice_index_or hand place d ≡ t.request
 is_there says place hand hand0 acts acts0 t d =
     ap (λ (v : List Request). slice_index_or v place d) t.split ∙ (ap (λ (n : ℕ). slice_index_or (t.front ++ t.request ∷ t.back) n d) t.place_is ∙ at_length t.front t.back t.request d)
 
 -- it is told nothing
-pub waits_on : (says : Says) (place : ℕ) (hand hand0 : List Request) (acts acts0 : ActList) → Telling says place hand hand0 acts acts0 → place < length hand
+pub waits_on : (says : Words) (place : ℕ) (hand hand0 : List Request) (acts acts0 : ActList) → Telling says place hand hand0 acts acts0 → place < length hand
     → (d : Request) → says (slice_index_or hand place d).ask ≡ None → Telling says (place + 1) hand hand0 acts acts0
 waits_on says place hand hand0 acts acts0 h l d none =
     let t = there says place hand hand0 acts acts0 h l in
@@ -79,7 +79,7 @@ waits_on says place hand hand0 acts acts0 h l d none =
     }
 
 -- it is told this: q was looked at, and r taken out
-pub told_on : (says : Says) (place : ℕ) (hand hand0 : List Request) (acts acts0 : ActList) → Telling says place hand hand0 acts acts0 → place < length hand
+pub told_on : (says : Words) (place : ℕ) (hand hand0 : List Request) (acts acts0 : ActList) → Telling says place hand hand0 acts acts0 → place < length hand
     → (q r : Request) (answer : Answer) (left : List Request) (more : ActList) → q ≡ slice_index_or hand place q → says q.ask ≡ Some answer → r ≡ slice_index_or hand place r → left ≡ remove hand place
     → more ≡ record { acts = acts.acts ++ act.Told (record { caller = r.caller; number = r.number; answer = answer }) ∷ []; left = acts.left - 1 }
     → Telling says place left hand0 more acts0
@@ -103,13 +103,13 @@ told_on says place hand hand0 acts acts0 h l q r answer left more looked some ta
     }
 
 -- all were told
-pub record AllTold (says : Says) (hand hand0 : List Request) (acts acts0 : ActList) : Type 0 where
+pub record AllTold (says : Words) (hand hand0 : List Request) (acts acts0 : ActList) : Type 0 where
   pub left_is : hand ≡ left_by says hand0
   pub acts_are : acts.acts ≡ acts0.acts ++ told_to says hand0
 
 -- behind the last all were told
-pub all_told : (says : Says) (place : ℕ) (hand hand0 : List Request) (acts acts0 : ActList) → Telling says place hand hand0 acts acts0 → length hand ≤ place → AllTold says hand hand0 acts acts0
-all_told says place hand hand0 acts acts0 t l = by_back t.back refl
+pub told_to_the_end : (says : Words) (place : ℕ) (hand hand0 : List Request) (acts acts0 : ActList) → Telling says place hand hand0 acts acts0 → length hand ≤ place → AllTold says hand hand0 acts acts0
+told_to_the_end says place hand hand0 acts acts0 t l = by_back t.back refl
   where
     by_back : (back : List Request) → t.back ≡ back → AllTold says hand hand0 acts acts0
     by_back [] e = record {

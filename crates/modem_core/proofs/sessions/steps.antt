@@ -5,9 +5,9 @@ pub mod ListenedLines
 pub mod RemainingItems
 pub mod Kinds
 pub mod CollectedActs
-pub mod LineCounts
 pub mod FirstWaiting
 pub mod Amounts
 pub mod FirstOffers
 pub mod CallerOffers
 pub mod ListenerOffers
+pub mod HeldUp

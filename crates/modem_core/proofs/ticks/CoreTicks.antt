@@ -6,7 +6,7 @@ use Rattle.std.proofs.lemmas.Bool.{and_from}
 use Rattle.mux_frame.specs.Frames.{Frame}
 use Rattle.at_text.specs.Lines.{kept_run}
 use Rattle.at_text.specs.Windows.{answered}
-use Rattle.at_text.specs.OpenWindow.{FitsMarks}
+use Rattle.at_text.specs.UnderWay.{FitsUnderWay}
 use Rattle.mux_station.specs.declared.role.Role.{Role}
 use Rattle.mux_station.specs.declared.role.Role.TheVariants.{Initiator}
 use Rattle.mux_station.specs.declared.role.ChannelState.{ChannelState}
@@ -55,7 +55,7 @@ use Rattle.modem_core.proofs.requests.TakenRequests.{Live, AllWait, live_of}
 use Rattle.modem_core.proofs.requests.AcceptedRequests.{plain_state}
 use Rattle.modem_core.proofs.requests.OneFrameRequests.{probe_left, probe_gone}
 use Rattle.modem_core.proofs.requests.CloseRequests.{opened_is}
-use Rattle.modem_core.proofs.probes.ProbesInHand.{probes_in, one_probe, first_alone, rest_few, no_probe}
+use Rattle.modem_core.proofs.probes.ProbesInHand.{probes_in, few_in_hand, first_alone, rest_few, no_probe}
 use Rattle.modem_core.proofs.ticks.TickFrames.{tick_frames, frames_so, queue_sents, read_back, zero_stays_on, probe_counts, probe_still_none, is_given_up, given_so}
 
 -- ## Those who are told nothing may wait
@@ -317,7 +317,7 @@ tick_lane s v past w d l c wires same b z o =
     record {
       kept_is = ap (λ (x : List station.Act). kept_run (info_got d (since Initiator d x))) wires
           ∙ (ap kept_run (info_same Initiator d fs (station.Tick ∷ wire past) here ∙ info_tick Initiator d (wire past) ticked) ∙ lane.kept_is);
-      window_fits = subst (FitsMarks (dialect_in v) (lane_at v d).window) (sym marked) lane.window_fits;
+      under_way_fits = subst (FitsUnderWay (dialect_in v) (lane_at v d).under_way) (sym marked) lane.under_way_fits;
       offered_is = offered_same Initiator d fs (station.Tick ∷ l.runs.seen) there
           ∙ (offered_tick Initiator d l.runs.seen (all_was Initiator d fs (station.Tick ∷ l.runs.seen) there)
           ∙ (lane.offered_is ∙ (ap (λ (n : ℕ). concat (texts (take (n + 1) (accepted Initiator d past)))) (ap (answered (dialect_in v)) (sym marked))
@@ -348,7 +348,7 @@ tick_on s v past w ups g e l m t lost =
     let ends : has_ended see now ≡ e
     = ap (λ (x : State). is_opened x && not (is_opened (now 0))) (l.states_are 0 (omega arith))
     ∙ (ap (λ (x : State). is_opened (channel_at st 0).state && not (is_opened x)) (states 0 (omega arith)) ∙ sym t.ended_is) in
-    let few : probes_in v.hand ≤ 1 = subst (λ (rs : List Request). probes_in rs ≤ 1) l.hand_is (one_probe s past m.run) in
+    let few : probes_in v.hand ≤ 1 = subst (λ (rs : List Request). probes_in rs ≤ 1) l.hand_is (few_in_hand s past m.run) in
     let given : is_given_up (probe_in past v.hand) ≡ g = ap is_given_up l.runs.probe_is ∙ sym (t.given_is ∙ given_so st ups t.given) in
     let all : AllSay see now Tick says v.hand
     = subst (λ (b : Bool). AllSay see now Tick (told_by (happened.Tick g) b (state_shown w false)) v.hand) ends (tick_all s past now (state_shown w false) g (λ d b. ap as_shown (states d b)) v.hand few given) in

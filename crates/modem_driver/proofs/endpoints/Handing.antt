@@ -15,7 +15,8 @@ use Rattle.modem_desk.specs.Ends.{DriverView, Announces, Appends}
 use Rattle.at_text.specs.Kinds.{kind_place}
 use Rattle.modem_history.specs.Kinds.{is_listened}
 use Rattle.modem_history.specs.Sessions.{LineView, at_place, heard_as}
-use Rattle.modem_core.specs.Placing.{Gave, Stay, goes_first, of_key, caller_of, place_of}
+use Rattle.modem_core.specs.Placing.{Gave, Stay, goes_first, caller_of}
+use Rattle.modem_queues.specs.LineQueues.{of_key, place_of}
 use Rattle.modem_driver.specs.Endpoints.{EndpointState, GivesLine, GivesOutcome, LeadsOver, Leaves}
 use Rattle.modem_driver.specs.SessionStates.{Machine, seen_by, end_of}
 use Rattle.modem_driver.proofs.sessions.steps.DeskOffers.{grows_told, heard_more, none_beyond, told_more}

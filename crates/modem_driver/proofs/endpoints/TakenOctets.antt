@@ -79,9 +79,9 @@ feeds old fed octets none takes bound l b d past f =
     subst (λ (xs : List ℕ). StandingFits b (turn_state m d (record old { unfed = xs; deframer = fed })) past) (drop-length octets) h
 
 -- at first none came
-pub takes_none : (k : Machine) → TakesFrom k k []
+pub no_octets_taken : (k : Machine) → TakesFrom k k []
 unfolding TakesFrom Leads
-takes_none k l d = record {
+no_octets_taken k l d = record {
   acts = [];
   leads = λ b past f. subst (λ (xs : List ℕ). StandingFits b (turn_state (record l { received = xs }) d k) past) (sym (append-nil l.received)) f;
   may = λ waiting b past f. refl;

@@ -34,9 +34,9 @@ unfolding Leads MachineMoves
 fails k l d b past f = fault_goes l (with_failure l) k refl refl refl b d past f
 
 -- frames at hand are handled, a call fails, and the line is lost
-pub loses : (k0 k1 k2 : Machine) (next : ℕ) → HandlesFrames k0 k1 → HandLacksRoom k1 → MachineLoses (record k1 { faulty = true }) k2 → (l : LineView) (d : DriverView) → Loses l d (record { machine = k0; next = next }) (record { machine = k2; next = next })
+pub loses_after_frames : (k0 k1 k2 : Machine) (next : ℕ) → HandlesFrames k0 k1 → HandLacksRoom k1 → MachineLoses (record k1 { faulty = true }) k2 → (l : LineView) (d : DriverView) → Loses l d (record { machine = k0; next = next }) (record { machine = k2; next = next })
 unfolding Leads
-loses k0 k1 k2 next handles lacks loss l d =
+loses_after_frames k0 k1 k2 next handles lacks loss l d =
     let m = with_failure l in
     let faulty : Machine = record k1 { faulty = true } in
     record {

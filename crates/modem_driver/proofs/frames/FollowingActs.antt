@@ -6,8 +6,8 @@ use Rattle.mux_frame.specs.Frames.{Frame}
 use Rattle.modem_history.specs.declared.act.Act as code
 use Rattle.modem_history.specs.Acts.{Act, Took, Got, Sent, Told, Heard, Tick, Lost, Held, Freed, Given, act_of}
 use Rattle.modem_history.specs.Turns.{lines_heard}
-use Rattle.modem_core.specs.declared.asker.Asker.{Asker}
-use Rattle.modem_core.specs.Stops.{is_answered}
+use Rattle.modem_queues.specs.declared.asker.Asker.{Asker}
+use Rattle.modem_queues.specs.Stops.{is_answered}
 use Rattle.modem_core.specs.WaitingLists.{WaitingLists, Keeps}
 
 -- that the frame came answers no Stop

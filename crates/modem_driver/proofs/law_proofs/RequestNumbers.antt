@@ -96,11 +96,11 @@ pub taken_once : (qs : List Request) → AreNumbered qs → are_distinct qs ≡ 
 taken_once qs h = all_once qs (λ c. numbered_once (h c).first (of_caller c qs) (h c).numbered)
 
 -- of a caller that there isn't, there are none
-pub none_beyond : (n c : ℕ) (qs : List Request) → nat_lt c n ≡ false → list_all (λ (q : Request). nat_lt q.caller n) qs ≡ true → of_caller c qs ≡ []
-none_beyond n c [] o h = refl
-none_beyond n c (q ∷ qs) o h =
+pub no_caller_beyond : (n c : ℕ) (qs : List Request) → nat_lt c n ≡ false → list_all (λ (q : Request). nat_lt q.caller n) qs ≡ true → of_caller c qs ≡ []
+no_caller_beyond n c [] o h = refl
+no_caller_beyond n c (q ∷ qs) o h =
     let parts = and_parts (nat_lt q.caller n) (list_all (λ (r : Request). nat_lt r.caller n) qs) h in
-    passed (is_of c) q qs (other (q.caller == c) refl parts.0) ∙ none_beyond n c qs o parts.1
+    passed (is_of c) q qs (other (q.caller == c) refl parts.0) ∙ no_caller_beyond n c qs o parts.1
   where
     other : (b : Bool) → (q.caller == c) ≡ b → nat_lt q.caller n ≡ true → (q.caller == c) ≡ false
     other false e k = e

@@ -6,6 +6,7 @@ use Rattle.std.proofs.lemmas.List.Elements.{filter-append}
 use Rattle.std.specs.Prelude.{◌≡◌, ℕ, ◌&&◌, ◌||◌, nat_lt, Bool, true, false, List, [], ◌∷◌, ◌++◌, length, refl, if◌then◌else◌}
 use Rattle.mux_station.specs.Acts as station
 use Rattle.mux_station.specs.Opening.{is_open, opens_now}
+use Rattle.mux_station.proofs.states.OpeningSteps.{is_open_after}
 use Rattle.mux_station.specs.declared.role.Role.TheVariants.{Initiator}
 use Rattle.modem_desk.specs.declared.request.Request.{Request}
 use Rattle.modem_history.specs.Acts.{Act, Took, Got, Sent, Told, Heard, Tick, Lost, Held, Freed, Given, wire, in_hand}
@@ -44,7 +45,7 @@ on_wire : (d : ℕ) (past newer : List Act) (a : station.Act) → wire newer ≡
     → accepted Initiator d newer ≡ (if opens_now Initiator d (wire past) a then [] else accepted Initiator d past) → Stretch d past → Stretch d newer
 on_wire d past newer a w t e k =
     by_opening d past newer (opens_now Initiator d (wire past) a) t e
-    (λ shut h. still_open (opens_now Initiator d (wire past) a) (is_open Initiator d (wire past)) _ shut (sym (ap (is_open Initiator d) w) ∙ h))
+    (λ shut h. still_open (opens_now Initiator d (wire past) a) (is_open Initiator d (wire past)) _ shut (sym (ap (is_open Initiator d) w ∙ is_open_after Initiator d (wire past) a) ∙ h))
     k
 
 commands_more : (d : ℕ) (xs : List Request) (q : Request) (b : Bool) → command_on d q.ask ≡ b → commands_for d (xs ++ q ∷ []) ≡ (if b then commands_for d xs ++ q ∷ [] else commands_for d xs)

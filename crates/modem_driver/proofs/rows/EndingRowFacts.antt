@@ -13,7 +13,7 @@ use Rattle.modem_history.specs.Sessions.{SessionView, at_place, octets_of_frames
 use Rattle.modem_history.specs.SessionRows.{beginning}
 use Rattle.modem_history.proofs.rows.SessionTests.{nothing_before, told_is}
 use Rattle.modem_driver.specs.Endings.{HasEnded}
-use Rattle.modem_core.specs.Stops.{has_stopped}
+use Rattle.modem_queues.specs.Stops.{has_stopped}
 use Rattle.modem_driver.specs.EndingRows.{AreNoEndings, IsNoGoing, IsRightEnding, StaysEnded, stop_answered, ends_in, going_rows, later, ending_outcome, stopped_rows}
 use Rattle.modem_driver.proofs.sessions.polls.StopProgress.{stopped_after}
 

@@ -20,7 +20,7 @@ use Rattle.modem_history.specs.Information.{command_on}
 use Rattle.modem_history.specs.SessionRows.{IsRight, beginning, csq_one, entry_answer, first_request, last_flag, one_came, one_left, opened_both, second_request, settled, third_request}
 use Rattle.modem_history.specs.Sessions.{SessionFits, SessionView, TakesWithRoom, caller_outcomes, gots}
 use Rattle.modem_history.specs.Wholes.{outcomes, taken_requests}
-use Rattle.modem_history.proofs.rows.SessionTests.{all_small, fed_is, fits_none, frames_in, is_read, read_in}
+use Rattle.modem_history.proofs.rows.SessionTests.{all_small, fed_is, fits_none, frames_read, read_by, read_in}
 use Rattle.modem_driver.specs.Grown.{HasGrown, seen_first, seen_later}
 use Rattle.modem_driver.specs.GrownRows.{CountsBehind, CountsNotBefore, at_first, csq_history, csq_left, ok_came, ok_counted, ok_history, ok_one, opened_and_done}
 use Rattle.modem_driver.proofs.law_proofs.Headlines.{answers_own, room_before, taken_both}
@@ -49,11 +49,11 @@ counts_behind = seen_later ok_counted (csq_left ∷ at_first ∷ []) (after [] c
 -- ## Before it is none
 
 -- all frames that were read were got
-all_got : (came left : List ℕ) (qs : List Request) (os : List Outcome) (past : List Act) → all_small came ≡ true → SessionFits beginning (settled came left qs os [] [] last_flag) past → frames_in came ≡ gots past
+all_got : (came left : List ℕ) (qs : List Request) (os : List Outcome) (past : List Act) → all_small came ≡ true → SessionFits beginning (settled came left qs os [] [] last_flag) past → frames_read came ≡ gots past
 all_got came left qs os past small f =
     let v = settled came left qs os [] [] last_flag in
     let fed : f.received.fed ≡ came = fed_is entry_answer f.received.fed came [] (entry_answer ++ came) f.received.received_are (sym (append-nil (entry_answer ++ came))) in
-    (is_read came (gots past) v.deframer (subst (λ (xs : List ℕ). Deframes xs (gots past) v.deframer) fed f.received.deframes) refl refl small).frames
+    (read_by came (gots past) v.deframer (subst (λ (xs : List ℕ). Deframes xs (gots past) v.deframer) fed f.received.deframes) refl refl small).frames
 
 -- acts, newest first
 abbrev newest : List Act → List Act

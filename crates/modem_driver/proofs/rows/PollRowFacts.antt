@@ -1,6 +1,9 @@
 -- A session whose line is lost is one, and what isn't a poll of it.
-use Rattle.std.proofs.Common.{ap, sym, lit≤, lit<}
+use Rattle.std.proofs.Common.{ap, sym, ◌∙◌, lit≤, lit<}
 use Rattle.std.specs.Prelude.{◌≡◌, true, false, Bool, [], ◌∷◌, refl, Result, Ok, Err}
+use Rattle.mux_station.specs.declared.role.Role.TheVariants.{Initiator}
+use Rattle.mux_station.specs.Acts as station
+use Rattle.mux_station.proofs.states.OpeningSteps.{is_open_after}
 use Rattle.modem_desk.specs.Ends.{DeskId}
 use Rattle.mux_frame.proofs.deframers.DeframerPasts.{past_none}
 use Rattle.modem_history.specs.Acts.{Lost}
@@ -39,7 +42,7 @@ is_lost_session at = record {
   inside = record {
     setting = record { role_is = refl; n1_is = refl; dialect_is = sym no_rules_standard; listens_are = λ kind. (listened_in [] kind, in_listened [] kind) };
     fits = record { hand_is = refl; lost_is = refl; runs = refl };
-    holds = record { held_are = λ d small own asked. never asked };
+    holds = record { held_are = λ d small own asked. never (sym (is_open_after Initiator d [] station.Lost) ∙ asked) };
     kinds_are = refl;
     callers_are = refl;
     sound = λ e. never (sym e);

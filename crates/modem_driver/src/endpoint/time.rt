@@ -45,7 +45,7 @@ impl Endpoint {
     /// The caller's line has failed or ended: every request in hand is told LineLost, and nothing is sent any more. It handles
     /// the frames at hand first. A refusal changes nothing else. Refusals: 3 Failed where the line was lost before; 1 NoMemory,
     /// where memory for data of an open connection is refused; that data stays at hand.
-    #[tactic(auto, using(crate::proofs::endpoints::Time::loses, crate::proofs::endpoints::Time::fed_lost, crate::proofs::endpoints::Requests::refuses))]
+    #[tactic(auto, using(crate::proofs::endpoints::Time::loses_after_frames, crate::proofs::endpoints::Time::fed_lost, crate::proofs::endpoints::Requests::refuses))]
     pub fn line_lost(&mut self) -> Result<(), SessionFault>
         ensures loses { OnOk result ((l : LineView) (d : DriverView) → Loses l d self.old self.new) }
         ensures gone { OnOk result (self.new.machine.core.lost ≡ true) }

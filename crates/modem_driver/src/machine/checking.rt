@@ -38,6 +38,7 @@ impl Machine {
 
     /// Looks at the backlogs of the connections 1 to 61, in rising order, and says whether any was held
     /// or freed. None is where nothing is held and fewer than 256 lines of each wait.
+    #[inline(always)]
     pub(crate) fn check_backlogs(&mut self) -> bool
         ensures checks { (l : LineView) (d : DriverView)
             → Checks (turn_state l d self.old) (turn_state l d self.new) result }
@@ -46,6 +47,16 @@ impl Machine {
         if self.core.holds_none() && self.waiting.is_few() {
             return false;
         }
+        self.check_each_backlog()
+    }
+
+    /// The same, also where none is.
+    #[inline(never)]
+    fn check_each_backlog(&mut self) -> bool
+        ensures checks { (l : LineView) (d : DriverView)
+            → Checks (turn_state l d self.old) (turn_state l d self.new) result }
+        ensures stays { self.new ≡ record self.old { core = self.new.core } }
+    {
         let mut moved = false;
         for number in 1..Dlci::COUNT as u8 {
             moved |= self.check_backlog(Dlci::new(number).unwrap());

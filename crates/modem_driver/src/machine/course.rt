@@ -2,7 +2,7 @@
 ghost use Rattle.std.specs.Prelude.{◌≡◌, map};
 ghost use Rattle.std.specs.List.{list_any};
 ghost use Rattle.modem_history.specs.Acts.{act_of};
-ghost use Rattle.modem_core.specs.Stops.{ends_stop, is_end_of, is_answered};
+ghost use Rattle.modem_queues.specs.Stops.{ends_stop, is_end_of, is_answered};
 ghost use Rattle.modem_driver.specs.Endings.{course_after};
 ghost use Rattle.modem_driver.specs.Polls.{has_ended, is_stopped};
 

@@ -36,16 +36,17 @@ impl Machine {
             return Ok(Some(true));
         }
         let stop = self.core.stop();
-        let Ok(()) = self.core.follow(frame, &mut self.draft, &mut self.waiting) else {
+        let Ok(()) = self.core.follow(frame, &mut self.said, &mut self.waiting) else {
             return Err(SessionFault::NoMemory);
         };
-        self.course.note(stop, self.draft.said.acts.as_slice());
-        self.waiting.keep(&mut self.draft.said.acts);
+        self.course.note(stop, self.said.acts.as_slice());
+        self.waiting.keep(&mut self.said.acts);
         self.line_end.advance();
         Ok(Some(true))
     }
 
     /// Handles the frame at hand, and says whether there was one that could be handled. Otherwise as `get_one`.
+    #[inline(always)]
     pub(crate) fn handle_one(&mut self) -> Result<bool, SessionFault>
         ensures gets { IfOk result (λ moved. MachineGets self.old self.new moved) }
         ensures unfed { self.new.unfed ≡ self.old.unfed }
@@ -55,6 +56,9 @@ impl Machine {
         ensures at_hand { OnErr result (HasData self.old) }
         ensures no_memory { OnErr result (result ≡ Err fault.NoMemory) }
     {
+        if !self.line_end.has_frame() {
+            return Ok(false);
+        }
         let got = self.get_one()?;
         Ok(got.unwrap_or(false))
     }

@@ -79,7 +79,7 @@ impl Machine {
     /// Handles the frames at hand, takes octets in, as many of the first as there is room for, and goes
     /// on so until all are taken and no frame is at hand, or one can't be handled. The condition is
     /// that none that were read before wait.
-    #[tactic(auto, using(crate::proofs::endpoints::TakenOctets::takes_none, crate::proofs::endpoints::TakenOctets::takes_handled))]
+    #[tactic(auto, using(crate::proofs::endpoints::TakenOctets::no_octets_taken, crate::proofs::endpoints::TakenOctets::takes_handled))]
     pub(crate) fn take_in(&mut self, octets: &[u8]) -> Input
         requires { self.old.unfed ≡ [] }
         ensures takes { TakesFrom self.old self.new (take result.taken octets.now) }

@@ -10,7 +10,7 @@ impl Machine {
     pub(crate) fn is_full(&self) -> bool
         ensures { result ≡ nat_le 128 (length self.now.core.hand + length self.now.unplaced) }
     {
-        self.waiting.count() >= self.core.hand_left()
+        self.waiting.count() >= self.core.hand().left()
     }
 
     /// Takes a request.

@@ -7,9 +7,9 @@ use Rattle.std.proofs.lemmas.List.Folds.{list_all-append}
 use Rattle.mux_frame.specs.Frames.{Frame}
 use Rattle.mux_station.specs.declared.role.Role.{Role}
 use Rattle.mux_station.specs.Acts as station
-use Rattle.mux_station.specs.Opening.{standings, opens_now, ends, is_open}
+use Rattle.mux_station.specs.Opening.{opens_now, ends, is_open}
 use Rattle.mux_station.specs.States.{State, States, states, state_of, states_then, is_opened}
-use Rattle.mux_station.proofs.states.OpenedStates.{opened_is_open}
+use Rattle.mux_station.proofs.states.OpeningSteps.{is_open_after}
 use Rattle.mux_station.proofs.states.StatesAfterActs.{state_beside}
 use Rattle.modem_history.specs.Acts.{Act, Took, Got, Sent, Told, Heard, Tick, Lost, Held, Freed, Given, after, wire, in_hand}
 use Rattle.modem_history.specs.Information.{accepted, carries}
@@ -62,8 +62,8 @@ pub sent_open : (r : Role) (d : ℕ) (fs : List Frame) (past : List Act) → is_
 sent_open r d [] past h = h
 sent_open r d (f ∷ fs) past h =
     let here : is_open r d (wire (Sent f ∷ past)) ≡ true = sent_open r d fs (Sent f ∷ past) h in
-    open_both (is_open r d (wire past)) (not (ends (standings r d (wire past)).zero.is_open d (station.Sent f)))
-    (was_open (opens_now r d (wire past) (station.Sent f)) _ here (opens_by_sent r _ _ d f))
+    open_both (is_open r d (wire past)) (not (ends (is_open r 0 (wire past)) d (station.Sent f)))
+    (was_open (opens_now r d (wire past) (station.Sent f)) _ (sym (is_open_after r d (wire past) (station.Sent f)) ∙ here) (opens_by_sent r _ _ d f))
 
 -- ## Outcomes and lines
 
@@ -109,7 +109,7 @@ abbrev pub ended : Setting → List Act → Act → List Act
 ended s past a = after past (a ∷ calls s past a)
 
 -- what the end of a call has, beside the act that it began with
-pub record Ends (s : Setting) (past : List Act) (a : Act) (d : ℕ) : Type 0 where
+pub record CallEnd (s : Setting) (past : List Act) (a : Act) (d : ℕ) : Type 0 where
   pub wire_is : wire (ended s past a) ≡ wire (after (a ∷ past) (map Sent (frames_in s past a)))
   pub open_is : is_open s.role d (wire (ended s past a)) ≡ is_opened (now_in s past a d)
   pub accepted_is : accepted s.role d (ended s past a) ≡ accepted s.role d (a ∷ past)
@@ -120,7 +120,7 @@ deliveries_left : (xs ys : List Act) → Deliveries (xs ++ ys) → (Deliveries x
 deliveries_left xs ys h = and_parts (list_all is_delivery xs) (list_all is_delivery ys) (sym (list_all-append is_delivery xs ys) ∙ h)
 
 -- every call ends so, on each connection
-pub end_of : (s : Setting) (past : List Act) (a : Act) (d : ℕ) → Ends s past a d
+pub end_of : (s : Setting) (past : List Act) (a : Act) (d : ℕ) → CallEnd s past a d
 end_of s past a d =
     let v = seen s past in
     let fs = frames_in s past a in
@@ -139,7 +139,7 @@ end_of s past a d =
     let wires : wire (ended s past a) ≡ wire mid = ap wire split ∙ same.wire_same in
     record {
       wire_is = wires;
-      open_is = ap (is_open s.role d) wires ∙ (sym (opened_is_open s.role (wire mid) d) ∙ ap is_opened (sym (now_is s past (a ∷ map Sent fs) d)));
+      open_is = ap (is_open s.role d) wires ∙ ap is_opened (sym (now_is s past (a ∷ map Sent fs) d));
       accepted_is = ap (accepted s.role d) split ∙ (lane.accepted_same ∙ sent_accepted s.role d fs (a ∷ past));
       marks_are = ap (marks s.role d) split ∙ (lane.marks_same ∙ sent_marks s.role d fs (a ∷ past) (frames_control s v a));
       hand_is =

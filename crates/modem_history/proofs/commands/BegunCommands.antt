@@ -87,9 +87,9 @@ turns_begun dialect ms c none t =
     record { in_turn = (begins dialect w (Some (opened c)) ms c (fits_itself dialect ms t) closed refl).in_turn; order = order_begun dialect ms c none t.order }
 
 -- where no open window is counted, none is open
-pub none_open : (o : Option Window) → open_count o ≡ 0 → o ≡ None
-none_open None e = refl
-none_open (Some w) e = cc
+pub no_open_window : (o : Option Window) → open_count o ≡ 0 → o ≡ None
+no_open_window None e = refl
+no_open_window (Some w) e = cc
 
 -- commands begin, one at most, and only where all before are answered
 turns_few : (dialect : Dialect) (ms : List Mark) (qs : List Request) → Turns dialect ms → begun_count ms + length qs ≤ answered dialect ms + 1 → Turns dialect (ms ++ marks_of qs)
@@ -97,19 +97,19 @@ turns_few dialect ms [] t h = subst (Turns dialect) (sym (append-nil ms)) t
 turns_few dialect ms (q ∷ []) t h =
     let all = counts dialect ms t.order in
     let none : open_count (open_window dialect ms) ≡ 0 = omega (arith, all, h) in
-    turns_begun dialect ms (line_of q) (none_open (open_window dialect ms) none) t
+    turns_begun dialect ms (line_of q) (no_open_window (open_window dialect ms) none) t
 turns_few dialect ms (q ∷ r ∷ qs) t h = absurd (let all = counts dialect ms t.order in omega (arith, all, h))
 
 -- ## What is kept
 
-pub record Kept (dialect : Dialect) (ms : List Mark) (out : List ℕ) (qs : List Request) : Type 0 where
+pub record KeptCommands (dialect : Dialect) (ms : List Mark) (out : List ℕ) (qs : List Request) : Type 0 where
   pub turns : Turns dialect ms
   pub first : begun_in ms ≡ map line_of (whole_after (length out) qs)
 
-kept_none : (dialect : Dialect) → Kept dialect [] [] []
+kept_none : (dialect : Dialect) → KeptCommands dialect [] [] []
 kept_none dialect = record { turns = turns_none dialect; first = refl }
 
-kept_lines : (dialect : Dialect) (ms : List Mark) (out : List ℕ) (qs : List Request) (ls : List (List ℕ)) → Kept dialect ms out qs → Kept dialect (ms ++ map Line ls) out qs
+kept_lines : (dialect : Dialect) (ms : List Mark) (out : List ℕ) (qs : List Request) (ls : List (List ℕ)) → KeptCommands dialect ms out qs → KeptCommands dialect (ms ++ map Line ls) out qs
 kept_lines dialect ms out qs ls k = record {
   turns = turns_lines dialect ls ms k.turns;
   first = begun_append ms (map Line ls) ∙ (ap (λ (v : List (List ℕ)). begun_in ms ++ v) (begun_lines ls) ∙ (append-nil (begun_in ms) ∙ k.first));
@@ -123,7 +123,7 @@ pub texts_counted : (qs : List Request) → length (texts qs) ≡ length qs
 texts_counted [] = refl
 texts_counted (q ∷ qs) = ap suc (texts_counted qs)
 
-kept_accepted : (dialect : Dialect) (ms : List Mark) (out : List ℕ) (qs : List Request) (q : Request) → IsPrefixOf out (concat (texts qs)) → Kept dialect ms out qs → Kept dialect ms out (qs ++ q ∷ [])
+kept_accepted : (dialect : Dialect) (ms : List Mark) (out : List ℕ) (qs : List Request) (q : Request) → IsPrefixOf out (concat (texts qs)) → KeptCommands dialect ms out qs → KeptCommands dialect ms out (qs ++ q ∷ [])
 kept_accepted dialect ms out qs q p k =
     let n = length out in
     let text = line_of q ++ 13 ∷ [] in
@@ -135,8 +135,8 @@ kept_accepted dialect ms out qs q p k =
     let whole : whole_after n (qs ++ q ∷ []) ≡ whole_after n qs = ap (λ (m : ℕ). take m (qs ++ q ∷ [])) same ∙ take-append-le (whole_in n (texts qs)) qs (q ∷ []) few in
     record { turns = k.turns; first = k.first ∙ sym (ap (map line_of) whole) }
 
-kept_sent : (dialect : Dialect) (ms : List Mark) (out chunk : List ℕ) (qs : List Request) → reached_in (length (out ++ chunk)) (texts qs) ≤ answered dialect ms + 1 → Kept dialect ms out qs
-    → Kept dialect (ms ++ marks_of (drop (whole_in (length out) (texts qs)) (whole_after (length out + length chunk) qs))) (out ++ chunk) qs
+kept_sent : (dialect : Dialect) (ms : List Mark) (out chunk : List ℕ) (qs : List Request) → reached_in (length (out ++ chunk)) (texts qs) ≤ answered dialect ms + 1 → KeptCommands dialect ms out qs
+    → KeptCommands dialect (ms ++ marks_of (drop (whole_in (length out) (texts qs)) (whole_after (length out + length chunk) qs))) (out ++ chunk) qs
 kept_sent dialect ms out chunk qs turn k =
     let n = length out in
     let m = length out + length chunk in
@@ -190,14 +190,14 @@ opens_by_mark Responder z k d = refl
 
 -- an act by which nothing opens, and nothing leaves
 kept_idle : (dialect : Dialect) (o b : Bool) (d : ℕ) (a : station.Act) (rest : List station.Act) (ms : List Mark) (qs : List Request) → o ≡ false → info_sent d (a ∷ rest) ≡ info_sent d rest
-    → Kept dialect ms (info_sent d rest) qs → Kept dialect ms (info_sent d (since_after o b a rest)) (if o then [] else qs)
+    → KeptCommands dialect ms (info_sent d rest) qs → KeptCommands dialect ms (info_sent d (since_after o b a rest)) (if o then [] else qs)
 kept_idle dialect true b d a rest ms qs e h k = cc
-kept_idle dialect false true d a rest ms qs e h k = subst (λ (v : List ℕ). Kept dialect ms v qs) (sym h) k
+kept_idle dialect false true d a rest ms qs e h k = subst (λ (v : List ℕ). KeptCommands dialect ms v qs) (sym h) k
 kept_idle dialect false false d a rest ms qs e h k = k
 
 -- a frame that comes
-kept_got : (dialect : Dialect) (o b c : Bool) (d : ℕ) (f : Frame) (rest : List station.Act) (ms : List Mark) (qs : List Request) (ls : List (List ℕ)) → Kept dialect ms (info_sent d rest) qs
-    → Kept dialect (if o then [] else (if c then ms ++ map Line ls else ms)) (info_sent d (since_after o b (station.Got f) rest)) (if o then [] else qs)
+kept_got : (dialect : Dialect) (o b c : Bool) (d : ℕ) (f : Frame) (rest : List station.Act) (ms : List Mark) (qs : List Request) (ls : List (List ℕ)) → KeptCommands dialect ms (info_sent d rest) qs
+    → KeptCommands dialect (if o then [] else (if c then ms ++ map Line ls else ms)) (info_sent d (since_after o b (station.Got f) rest)) (if o then [] else qs)
 kept_got dialect true b c d f rest ms qs ls k = kept_none dialect
 kept_got dialect false true true d f rest ms qs ls k = kept_lines dialect ms (info_sent d rest) qs ls k
 kept_got dialect false false true d f rest ms qs ls k = kept_lines dialect ms (info_sent d rest) qs ls k
@@ -206,14 +206,14 @@ kept_got dialect false false false d f rest ms qs ls k = k
 
 -- a frame that leaves
 kept_leaves : (dialect : Dialect) (o b c i : Bool) (d : ℕ) (f : Frame) (rest : List station.Act) (ms more : List Mark) (qs : List Request) → o ≡ false → carries d f ≡ c → (c ≡ true → (b ≡ true) × (i ≡ true))
-    → Kept dialect ms (info_sent d rest) qs → (c ≡ true → Kept dialect (ms ++ more) (info_sent d rest ++ f.info) qs)
-    → Kept dialect (if c && i then ms ++ more else ms) (info_sent d (since_after o b (station.Sent f) rest)) (if o then [] else qs)
+    → KeptCommands dialect ms (info_sent d rest) qs → (c ≡ true → KeptCommands dialect (ms ++ more) (info_sent d rest ++ f.info) qs)
+    → KeptCommands dialect (if c && i then ms ++ more else ms) (info_sent d (since_after o b (station.Sent f) rest)) (if o then [] else qs)
 kept_leaves dialect true b c i d f rest ms more qs e h w k l = cc
-kept_leaves dialect false true true true d f rest ms more qs e h w k l = subst (λ (x : Bool). Kept dialect (ms ++ more) (info_sent d rest ++ (if x then f.info else [])) qs) (sym h) (l refl)
+kept_leaves dialect false true true true d f rest ms more qs e h w k l = subst (λ (x : Bool). KeptCommands dialect (ms ++ more) (info_sent d rest ++ (if x then f.info else [])) qs) (sym h) (l refl)
 kept_leaves dialect false b true false d f rest ms more qs e h w k l = absurd (let g : false ≡ true = (w refl).1 in cc)
 kept_leaves dialect false false true true d f rest ms more qs e h w k l = absurd (let g : false ≡ true = (w refl).0 in cc)
 kept_leaves dialect false true false i d f rest ms more qs e h w k l =
-    subst (λ (x : Bool). Kept dialect ms (info_sent d rest ++ (if x then f.info else [])) qs) (sym h) (subst (λ (v : List ℕ). Kept dialect ms v qs) (sym (append-nil (info_sent d rest))) k)
+    subst (λ (x : Bool). KeptCommands dialect ms (info_sent d rest ++ (if x then f.info else [])) qs) (sym h) (subst (λ (v : List ℕ). KeptCommands dialect ms v qs) (sym (append-nil (info_sent d rest))) k)
 kept_leaves dialect false false false i d f rest ms more qs e h w k l = k
 
 -- ## Whole histories
@@ -256,7 +256,7 @@ data_belongs s d past f c h =
     let as_data : f ≡ data_on d f = is_data f c.is_data ∙ ap (λ (e : ℕ). data_on e f) c.same in
     belongs_by (is_open s.role d (wire past)) (ends z d (station.Sent f)) h (ap (λ (g : Frame). ends z d (station.Sent g)) as_data ∙ data_ends_none z d d f c.apart)
 
-kept_taken : (dialect : Dialect) (b : Bool) (ms : List Mark) (out : List ℕ) (qs : List Request) (q : Request) → IsPrefixOf out (concat (texts qs)) → Kept dialect ms out qs → Kept dialect ms out (if b then qs ++ q ∷ [] else qs)
+kept_taken : (dialect : Dialect) (b : Bool) (ms : List Mark) (out : List ℕ) (qs : List Request) (q : Request) → IsPrefixOf out (concat (texts qs)) → KeptCommands dialect ms out qs → KeptCommands dialect ms out (if b then qs ++ q ∷ [] else qs)
 kept_taken dialect true ms out qs q p k = kept_accepted dialect ms out qs q p k
 kept_taken dialect false ms out qs q p k = k
 
@@ -271,7 +271,7 @@ turn_on s past d f w c =
     (le_of _ _ (when_true (is_data_frame f) c.is_data w))
 
 -- in a lawful history the marks of each connection are in turn, and the commands begun are the accepted ones wholly sent
-pub kept : (s : Setting) (past : List Act) → Lawful s past → (d : ℕ) → Kept s.dialect (marks s.role d past) (information_out s.role d past) (accepted s.role d past)
+pub kept : (s : Setting) (past : List Act) → Lawful s past → (d : ℕ) → KeptCommands s.dialect (marks s.role d past) (information_out s.role d past) (accepted s.role d past)
 unfolding Lawful
 kept s [] l d = kept_none s.dialect
 kept s (Took q ∷ past) l d =

@@ -10,7 +10,8 @@ use Rattle.mux_frame.specs.declared.frame.Kind.TheVariants.{Sabm, Ua, Dm, Disc, 
 use Rattle.mux_station.specs.declared.role.Role.TheVariants.{Responder}
 use Rattle.mux_station.specs.Written.{is_kind, is_on}
 use Rattle.mux_station.specs.Acts.{Act, Called, Got, Sent, Tick, Lost, Given}
-use Rattle.mux_station.specs.Opening.{ends, is_open, opens_now, standings}
+use Rattle.mux_station.specs.Opening.{ends, is_open, opens_now, is_asked}
+use Rattle.mux_station.proofs.states.OpeningSteps.{is_open_after}
 use Rattle.at_text.specs.Lines.{lines, kept_run}
 use Rattle.modem_history.specs.Connections.{carries, info_of, information_got, lines_ended, lines_got}
 use Rattle.modem_history.specs.TwoEnds.{IsAmong, none, takes, leaves, frames_got}
@@ -156,8 +157,8 @@ never e = cc
 -- an act by which nothing comes
 idle : (d : ℕ) (past : List Act) (a : Act) → is_got a ≡ false → frames_got (a ∷ past) ≡ frames_got past → Hears d past → Hears d (a ∷ past)
 idle d past a n same k = record {
-  shut = λ e. shut_still (opens_now Responder d past a) (is_open Responder d past) (ends (standings Responder d past).zero.is_open d a) (opens_none Responder (standings Responder d past).zero.is_open (standings Responder d past).own.is_asked d a n) (k.shut (ap (filter (is_on Sabm d)) (sym same) ∙ e));
-  all = λ e. got_same Responder d past a n ∙ (k.all (was_open (opens_now Responder d past a) (is_open Responder d past) (ends (standings Responder d past).zero.is_open d a) (opens_none Responder (standings Responder d past).zero.is_open (standings Responder d past).own.is_asked d a n) e) ∙ ap (info_in d) (sym same));
+  shut = λ e. is_open_after Responder d past a ∙ shut_still (opens_now Responder d past a) (is_open Responder d past) (ends (is_open Responder 0 past) d a) (opens_none Responder (is_open Responder 0 past) (is_asked Responder d past) d a n) (k.shut (ap (filter (is_on Sabm d)) (sym same) ∙ e));
+  all = λ e. got_same Responder d past a n ∙ (k.all (was_open (opens_now Responder d past a) (is_open Responder d past) (ends (is_open Responder 0 past) d a) (opens_none Responder (is_open Responder 0 past) (is_asked Responder d past) d a n) (sym (is_open_after Responder d past a) ∙ e)) ∙ ap (info_in d) (sym same));
 }
   where
     shut_still : (o i e : Bool) → o ≡ false → i ≡ false → (o || (i && not e)) ≡ false
@@ -211,7 +212,7 @@ come d past f false zero i e on one behind opens was is k = record {
 pub hears : (d : ℕ) (past : List Act) → AsksOne d (frames_got past) → ComesBehind d (frames_got past) → Hears d past
 hears d [] one behind = record { shut = λ h. refl; all = λ h. never h }
 hears d (Got f ∷ past) one behind =
-    come d past f (is_on Sabm d f) ((d == 0) || (standings Responder d past).zero.is_open) (is_open Responder d past) (ends (standings Responder d past).zero.is_open d (Got f)) refl one behind.1 refl refl refl
+    come d past f (is_on Sabm d f) ((d == 0) || is_open Responder 0 past) (is_open Responder d past) (ends (is_open Responder 0 past) d (Got f)) refl one behind.1 refl refl (is_open_after Responder d past (Got f))
     (hears d past (asks_fewer d f (frames_got past) one) behind.1)
 hears d (Sent f ∷ past) one behind = idle d past (Sent f) refl refl (hears d past one behind)
 hears d (Called c ∷ past) one behind = idle d past (Called c) refl refl (hears d past one behind)

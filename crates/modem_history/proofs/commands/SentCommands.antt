@@ -9,7 +9,9 @@ use Rattle.mux_frame.specs.declared.frame.Kind.TheVariants.{Sabm, Ua, Dm, Disc, 
 use Rattle.mux_station.specs.declared.role.Role.TheVariants.{Initiator, Responder}
 use Rattle.mux_station.specs.Written.{is_data_frame, is_kind, is_on}
 use Rattle.mux_station.specs.Acts as station
-use Rattle.mux_station.specs.Opening.{ends, is_open, is_mode_frame_on, opens_now, standings}
+use Rattle.mux_station.specs.Opening as opening
+use Rattle.mux_station.specs.Opening.{ends, is_open, is_mode_frame_on, opens_now}
+use Rattle.mux_station.proofs.states.OpeningSteps.{is_open_after}
 use Rattle.at_text.specs.Lines.{lines, kept_run}
 use Rattle.at_text.specs.Commands.{refusal_of}
 use Rattle.at_text.proofs.lines.UnfinishedLines.{reads_on}
@@ -44,7 +46,7 @@ on_and false c e = cc
 
 -- the initiator asked for d: of the mode frames on d the last is a SABM that it sent, and nothing ended d since
 abbrev pub is_asked : ℕ → List station.Act → Bool
-is_asked d past = (standings Initiator d past).own.is_asked
+is_asked d past = opening.is_asked Initiator d past
 
 -- Before its one SABM d isn't open, and nothing was sent on it; nor was anything while the SABM waits for its answer. So
 -- what was sent since d opened is all that was.
@@ -168,23 +170,23 @@ no_ua_among d f e h = not_the_second (is_on Sabm d f) (is_on Ua d f) (is_on Dm d
 pub asks_of : (d : ℕ) (past : List station.Act) → AsksOne d (frames_sent past) → DataWhileOpen past → Asks d past
 asks_of d [] one gated = record { unasked = λ x. (refl, refl, refl); asked = λ x. never x; all = refl }
 asks_of d (station.Got f ∷ past) one gated =
-    let e = ends (standings Initiator d past).zero.is_open d (station.Got f) in
-    come d past f (is_on Ua d f) (is_asked d past) (is_open Initiator d past) (not e) (not (is_mode_frame_on d f || e)) refl refl refl (no_ua_among d f e) refl refl refl (asks_of d past one gated)
+    let e = ends (is_open Initiator 0 past) d (station.Got f) in
+    come d past f (is_on Ua d f) (is_asked d past) (is_open Initiator d past) (not e) (not (is_mode_frame_on d f || e)) refl refl refl (no_ua_among d f e) refl (is_open_after Initiator d past (station.Got f)) refl (asks_of d past one gated)
 asks_of d (station.Sent f ∷ past) one gated =
-    let e = ends (standings Initiator d past).zero.is_open d (station.Sent f) in
-    sent d past f (is_on Sabm d f) (carries d f) (not e) (not (is_mode_frame_on d f || e)) refl refl (gated.0 d) one refl refl (asks_of d past (asks_fewer d f (frames_sent past) one) gated.1)
+    let e = ends (is_open Initiator 0 past) d (station.Sent f) in
+    sent d past f (is_on Sabm d f) (carries d f) (not e) (not (is_mode_frame_on d f || e)) refl refl (gated.0 d) one (is_open_after Initiator d past (station.Sent f)) refl (asks_of d past (asks_fewer d f (frames_sent past) one) gated.1)
 asks_of d (station.Called c ∷ past) one gated =
-    let e = ends (standings Initiator d past).zero.is_open d (station.Called c) in
-    idle d past (station.Called c) (not e) (not e) refl refl refl refl refl (asks_of d past one gated)
+    let e = ends (is_open Initiator 0 past) d (station.Called c) in
+    idle d past (station.Called c) (not e) (not e) refl refl refl (is_open_after Initiator d past (station.Called c)) refl (asks_of d past one gated)
 asks_of d (station.Tick ∷ past) one gated =
-    let e = ends (standings Initiator d past).zero.is_open d station.Tick in
-    idle d past station.Tick (not e) (not e) refl refl refl refl refl (asks_of d past one gated)
+    let e = ends (is_open Initiator 0 past) d station.Tick in
+    idle d past station.Tick (not e) (not e) refl refl refl (is_open_after Initiator d past station.Tick) refl (asks_of d past one gated)
 asks_of d (station.Lost ∷ past) one gated =
-    let e = ends (standings Initiator d past).zero.is_open d station.Lost in
-    idle d past station.Lost (not e) (not e) refl refl refl refl refl (asks_of d past one gated)
+    let e = ends (is_open Initiator 0 past) d station.Lost in
+    idle d past station.Lost (not e) (not e) refl refl refl (is_open_after Initiator d past station.Lost) refl (asks_of d past one gated)
 asks_of d (station.Given ∷ past) one gated =
-    let e = ends (standings Initiator d past).zero.is_open d station.Given in
-    idle d past station.Given (not e) (not e) refl refl refl refl refl (asks_of d past one gated)
+    let e = ends (is_open Initiator 0 past) d station.Given in
+    idle d past station.Given (not e) (not e) refl refl refl (is_open_after Initiator d past station.Given) refl (asks_of d past one gated)
 
 -- so on each connection information is sent behind its SABM
 pub sent_behind : (d : ℕ) (past : List station.Act) → AsksOne d (frames_sent past) → DataWhileOpen past → ComesBehind d (frames_sent past)

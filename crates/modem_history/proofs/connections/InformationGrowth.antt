@@ -5,7 +5,7 @@ use Rattle.mux_frame.specs.Frames.{Frame}
 use Rattle.mux_station.specs.declared.role.Role.{Role}
 use Rattle.mux_station.specs.declared.role.Role.TheVariants.{Initiator, Responder}
 use Rattle.mux_station.specs.Acts.{Act, Called, Got, Sent, Tick, Lost, Given}
-use Rattle.mux_station.specs.Opening.{since, since_after, opens, ends, opens_now, belongs, is_open, standings}
+use Rattle.mux_station.specs.Opening.{since, since_after, opens, ends, opens_now, belongs, is_open}
 use Rattle.modem_history.specs.Connections.{carries, info_got, info_sent, information_got, information_sent}
 use Rattle.modem_history.proofs.outcomes.OutcomeCounts.{data_on, is_data}
 use Rattle.modem_history.proofs.commands.BegunCommands.{carried, data_ends_none}
@@ -57,7 +57,7 @@ belongs_open b true e = cc
 pub got_belongs : (r : Role) (d : ℕ) (past : List Act) (f : Frame) → carries d f ≡ true → belongs r d past (Got f) ≡ is_open r d past
 got_belongs r d past f e =
     let c = carried d f e in
-    let z = (standings r d past).zero.is_open in
+    let z = is_open r 0 past in
     let as_data : f ≡ data_on d f = is_data f c.is_data ∙ ap (λ (m : ℕ). data_on m f) c.same in
     belongs_open (is_open r d past) (ends z d (Got f)) (ap (λ (g : Frame). ends z d (Got g)) as_data ∙ data_come_none z d d f c.apart)
 
@@ -65,7 +65,7 @@ got_belongs r d past f e =
 pub sent_belongs : (r : Role) (d : ℕ) (past : List Act) (f : Frame) → carries d f ≡ true → belongs r d past (Sent f) ≡ is_open r d past
 sent_belongs r d past f e =
     let c = carried d f e in
-    let z = (standings r d past).zero.is_open in
+    let z = is_open r 0 past in
     let as_data : f ≡ data_on d f = is_data f c.is_data ∙ ap (λ (m : ℕ). data_on m f) c.same in
     belongs_open (is_open r d past) (ends z d (Sent f)) (ap (λ (g : Frame). ends z d (Sent g)) as_data ∙ data_ends_none z d d f c.apart)
 

@@ -1,7 +1,7 @@
 -- No SABM is sent on a connection that is open, so no UA opens it anew.
 use Rattle.std.specs.Prelude.{◌≡◌, ℕ, zero, suc, ◌+◌, ◌==◌, ◌&&◌, ◌||◌, not, nat_le, Bool, true, false, List, [], ◌∷◌, ◌++◌, length, map, refl, if◌then◌else◌, Option, Some, None, is_none}
 use Rattle.std.specs.List.{list_all}
-use Rattle.std.proofs.Common.{ap, ◌∙◌, eqb-true}
+use Rattle.std.proofs.Common.{ap, ◌∙◌, eqb-true, sym}
 use Rattle.std.proofs.lemmas.Bool.{and_parts, and_from}
 use Rattle.std.proofs.lemmas.List.Folds.{list_all-append}
 use Rattle.mux_frame.specs.Frames.{Frame}
@@ -12,7 +12,8 @@ use Rattle.mux_station.specs.declared.role.Role.TheVariants.{Initiator, Responde
 use Rattle.mux_station.specs.Written.{is_on, written}
 use Rattle.mux_station.specs.Messages.{Message, is_command, nsc, cld, brings_command, message_in, response_of}
 use Rattle.mux_station.specs.Acts as station
-use Rattle.mux_station.specs.Opening.{standings, ends, opens_now, is_open, is_mode_frame_on}
+use Rattle.mux_station.specs.Opening.{ends, opens_now, is_asked, is_open, is_mode_frame_on}
+use Rattle.mux_station.proofs.states.OpeningSteps.{is_open_after}
 use Rattle.mux_station.specs.States.{State, IsShut, IsOpening, IsOpened, IsClosing, IsStopping, is_opened}
 use Rattle.mux_station.specs.Tables.{by_message, by_table, response_to, is_supported, ua_or_dm, msc_after_opening, is_opening, ticked, if_room, again, has_room, octets_of, msc_frame, message_frame, ready, held_up}
 use Rattle.modem_desk.specs.declared.request.Ask.{Ask}
@@ -171,10 +172,6 @@ freed_free s v d e = alive s v (Freed e) d (free_if d (is_opened (v.state e)) (m
 
 -- ## Asked or not
 
--- d was asked for: of the mode frames on d the last is a SABM that was sent, and nothing ended d since
-abbrev pub is_asked : Role → ℕ → List station.Act → Bool
-is_asked r d w = (standings r d w).own.is_asked
-
 not_asked : (b x c : Bool) → not b ≡ true → x ≡ false → (b || (x && c)) ≡ false
 not_asked false false c h k = refl
 not_asked false true c h k = cc
@@ -215,8 +212,7 @@ by_opening d f true false e g h k = mode_frame_answers true (is_mode_frame_on d 
 pub got_unasked : (d : ℕ) (f : Frame) (w : List station.Act) → (is_open Initiator d w ≡ true → is_asked Initiator d w ≡ false) → is_open Initiator d (station.Got f ∷ w) ≡ true
     → is_asked Initiator d (station.Got f ∷ w) ≡ false
 got_unasked d f w h k =
-    let s = standings Initiator d w in
-    by_opening d f s.own.is_asked s.own.is_open (not (ends s.zero.is_open d (station.Got f))) (ends s.zero.is_open d (station.Got f)) k h
+    by_opening d f (is_asked Initiator d w) (is_open Initiator d w) (not (ends (is_open Initiator 0 w) d (station.Got f))) (ends (is_open Initiator 0 w) d (station.Got f)) (sym (is_open_after Initiator d w (station.Got f)) ∙ k) h
 
 -- where d isn't asked for, a tick doesn't ask for it
 pub tick_unasked : (r : Role) (d : ℕ) (w : List station.Act) → is_asked r d w ≡ false → is_asked r d (station.Tick ∷ w) ≡ false

@@ -4,9 +4,9 @@ use Rattle.std.proofs.Common.{ap, ◌∙◌}
 use Rattle.mux_frame.specs.Frames.{Frame}
 use Rattle.mux_station.specs.declared.role.Role.{Role}
 use Rattle.mux_station.specs.Acts.{Act, Called, Got, Sent, Tick, Lost, Given}
-use Rattle.mux_station.specs.Opening.{Standings, since, is_open, opens, opens_now}
+use Rattle.mux_station.specs.Opening.{since, is_asked, is_open, opens, opens_now}
 use Rattle.mux_station.specs.Traces.{without_calls}
-use Rattle.mux_station.proofs.law_proofs.PastsWithoutCalls.{same_standings, same_since}
+use Rattle.mux_station.proofs.law_proofs.PastsWithoutCalls.{same_asked, same_open, same_since}
 use Rattle.at_text.specs.Lines.{lines, kept_run}
 use Rattle.at_text.specs.Windows.{Mark, Line, Begun}
 use Rattle.modem_history.specs.Connections.{carries, info_of, info_got, info_sent, information_got, information_sent, lines_ended, lines_with, lines_got, with_cr, whole_in, wholly_sent, commands_ended, placed, NeedsNoCalls}
@@ -40,10 +40,12 @@ all_sent r d past = ap (info_sent d) (same_since r d past) ∙ sent_alike d (sin
 -- ## Lines
 
 open_alike : (r : Role) (d : ℕ) (past : List Act) → is_open r d (without_calls past) ≡ is_open r d past
-open_alike r d past = ap (λ (s : Standings). s.own.is_open) (same_standings r d past)
+open_alike r d past = same_open r d past
 
 opens_alike : (r : Role) (d : ℕ) (past : List Act) (a : Act) → opens_now r d (without_calls past) a ≡ opens_now r d past a
-opens_alike r d past a = ap (λ (s : Standings). opens r s.zero.is_open s.own.is_asked d a) (same_standings r d past)
+opens_alike r d past a =
+    ap (λ (z : Bool). opens r z (is_asked r d (without_calls past)) d a) (same_open r 0 past)
+    ∙ ap (λ (k : Bool). opens r (is_open r 0 past) k d a) (same_asked r d past)
 
 ended_alike : (r : Role) (d : ℕ) (past : List Act) (f : Frame) → lines_ended r d (without_calls past) f ≡ lines_ended r d past f
 ended_alike r d past f = ap (λ (v : List ℕ). lines (kept_run v ++ f.info)) (all_got r d past)

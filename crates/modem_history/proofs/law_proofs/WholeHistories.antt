@@ -67,9 +67,9 @@ if_true true xs ys h = refl
 if_true false xs ys h = cc
 
 -- and by one that fails, the second
-pub if_false : (b : Bool) (xs ys : List Act) → b ≡ false → (if b then xs else ys) ≡ ys
-if_false false xs ys h = refl
-if_false true xs ys h = cc
+pub if_fails : (b : Bool) (xs ys : List Act) → b ≡ false → (if b then xs else ys) ≡ ys
+if_fails false xs ys h = refl
+if_fails true xs ys h = cc
 
 -- the acts pay what is owed first, one after the other
 pub pays : (s : Setting) (past acts rest : List Act) → owed s past ≡ acts ++ rest → list_all is_said acts ≡ true → Lawful s past → Lawful s (after past acts) × (owed s (after past acts) ≡ rest)
@@ -79,7 +79,7 @@ pays s past (Sent f ∷ acts) rest h p l =
     let parts = and_parts (not (is_data_frame f)) (list_all is_said acts) p in
     let control : is_data_frame f ≡ false = not_true (is_data_frame f) parts.0 in
     pays s (Sent f ∷ past) acts rest
-    (if_false (is_data_frame f) (owed s past) (drop 1 (owed s past)) control ∙ dropped (owed s past) (acts ++ rest) (Sent f) h) parts.1 (
+    (if_fails (is_data_frame f) (owed s past) (drop 1 (owed s past)) control ∙ dropped (owed s past) (acts ++ rest) (Sent f) h) parts.1 (
       record {
         gated = when_not (is_data_frame f) _ control;
         once = when_not (is_data_frame f) _ control;

@@ -12,7 +12,6 @@ use Rattle.mux_station.specs.Acts as station
 use Rattle.mux_station.specs.Written.{is_kind, is_data_frame}
 use Rattle.mux_station.specs.Opening.{is_open, opens}
 use Rattle.mux_station.specs.States.{State, is_opened, state_of}
-use Rattle.mux_station.proofs.states.OpenedStates.{opened_is_open}
 use Rattle.at_text.specs.declared.unsolicited.UrcKind.{UrcKind}
 use Rattle.at_text.specs.Dialects.{Dialect}
 use Rattle.at_text.specs.Lines.{lines}
@@ -126,9 +125,8 @@ frame_here s past owing f d h =
     let k = is_kind f.kind Uih in
     let z = d == 0 in
     let o = is_open s.role d (wire past) in
-    ap (λ (b : Bool). to_be_heard d (if b && (k && not z) then said else [])) (opened_is_open s.role (wire past) d)
-    ∙ (lines_if d o k z s said ms (map Line ls) (lines_heard s d (first_on d v.waiting) ms ls)
-    ∙ ap (λ (b : Bool). listened s (announced_from s.dialect ms (placed_if ((not z && (k && b)) && o) (map Line ls)))) (sym h))
+    lines_if d o k z s said ms (map Line ls) (lines_heard s d (first_on d v.waiting) ms ls)
+    ∙ ap (λ (b : Bool). listened s (announced_from s.dialect ms (placed_if ((not z && (k && b)) && o) (map Line ls)))) (sym h)
 
 frame_by : (s : Setting) (past owing : List Act) (f : Frame) (d : ℕ) (b : Bool) → (f.dlci == d) ≡ b
     → to_be_heard d (said_on s past owing f f.dlci) ≡ listened s (announced_from s.dialect (marks s.role d past) (placed_if (carries d f && is_open s.role d (wire past)) (lines_placed s.role d past f)))

@@ -12,13 +12,13 @@ taken_off [] hand = hand
 taken_off (Told o ∷ acts) hand = taken_off acts (without o hand)
 taken_off (_ ∷ acts) hand = taken_off acts hand
 
-pub record Deliveries (acts past : List Act) : Type 0 where
+pub record Delivered (acts past : List Act) : Type 0 where
   pub wire_same : wire (after past acts) ≡ wire past
   pub lost_same : is_lost (after past acts) ≡ is_lost past
   pub hand_same : in_hand (after past acts) ≡ taken_off acts (in_hand past)
 
 -- outcomes and lines leave the wire, and whether it is lost; from the hand they take the requests told
-pub deliveries : (acts past : List Act) → list_all is_delivery acts ≡ true → Deliveries acts past
+pub deliveries : (acts past : List Act) → list_all is_delivery acts ≡ true → Delivered acts past
 deliveries [] past h = record { wire_same = refl; lost_same = refl; hand_same = refl }
 deliveries (Told o ∷ acts) past h = let w = deliveries acts (Told o ∷ past) h in record { wire_same = w.wire_same; lost_same = w.lost_same; hand_same = w.hand_same }
 deliveries (Heard k d line ∷ acts) past h = let w = deliveries acts (Heard k d line ∷ past) h in record { wire_same = w.wire_same; lost_same = w.lost_same; hand_same = w.hand_same }

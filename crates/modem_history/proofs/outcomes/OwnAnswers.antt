@@ -10,7 +10,6 @@ use Rattle.mux_station.specs.declared.role.Role.TheVariants.{Initiator}
 use Rattle.mux_station.specs.Written.{is_data_frame}
 use Rattle.mux_station.specs.Opening.{is_open}
 use Rattle.mux_station.specs.States.{is_opened}
-use Rattle.mux_station.proofs.states.OpenedStates.{opened_is_open}
 use Rattle.at_text.specs.declared.answer.AnswerLine.{AnswerLine}
 use Rattle.at_text.specs.Lines.{lines}
 use Rattle.at_text.specs.Windows.{Mark, Line, Window, answered, open_window, windows}
@@ -148,7 +147,7 @@ frame_owned s past f l k = by_case (is_opened ((seen s past).state f.dlci) && is
     by_case : (b : Bool) → (is_opened ((seen s past).state f.dlci) && is_data_frame f) ≡ b → AllTell (Owned s (Got f ∷ past)) (if b then by_lines s f.dlci (first_on f.dlci (in_hand past)) ms all else [])
     by_case true e =
         let parts = and_parts (is_opened ((seen s past).state f.dlci)) (is_data_frame f) e in
-        by_window parts.1 (sym (opened_is_open s.role (wire past) f.dlci) ∙ parts.0) (open_window s.dialect ms) refl
+        by_window parts.1 parts.0 (open_window s.dialect ms) refl
     by_case false e = tt
 
 -- ## Whole histories
@@ -194,7 +193,7 @@ live_owned s r past f l c u n e = by_zero (f.dlci == 0) refl
 
 -- once the line is lost no line is read
 lost_owned : (s : Setting) → s.role ≡ Initiator → (past : List Act) (f : Frame) → Lawful s past → is_lost past ≡ true → AllTell (Owned s (Got f ∷ past)) (lines_said s (seen s past) (Got f))
-lost_owned s r past f l n = unread (is_opened ((seen s past).state f.dlci)) (opened_is_open s.role (wire past) f.dlci ∙ none_open s f.dlci past r l n)
+lost_owned s r past f l n = unread (is_opened ((seen s past).state f.dlci)) (none_open s f.dlci past r l n)
   where
     unread : (b : Bool) → b ≡ false
         → AllTell (Owned s (Got f ∷ past)) (if b && is_data_frame f then by_lines s f.dlci (first_on f.dlci (in_hand past)) (marks s.role f.dlci past) (lines (run_on s.role f.dlci past ++ f.info)) else [])

@@ -2,9 +2,9 @@
 use Rattle.std.specs.Prelude.{◌≡◌, ℕ, ◌&&◌, ◌||◌, not, Bool, true, false, List, [], ◌∷◌, ◌++◌, filter, refl}
 use Rattle.std.proofs.Common.{ap, sym, ◌∙◌, append-nil}
 use Rattle.mux_station.specs.Acts as station
-use Rattle.mux_station.specs.Opening.{standings, opens_now, ends, is_open}
+use Rattle.mux_station.specs.Opening.{opens_now, ends, is_open, is_asked}
+use Rattle.mux_station.proofs.states.OpeningSteps.{is_open_after}
 use Rattle.mux_station.specs.States.{is_opened}
-use Rattle.mux_station.proofs.states.OpenedStates.{opened_is_open}
 use Rattle.at_text.specs.Windows.{answered}
 use Rattle.modem_desk.specs.declared.request.Request.{Request}
 use Rattle.modem_history.specs.Acts.{Act, Tick, Held, Freed, wire, in_hand}
@@ -15,7 +15,7 @@ use Rattle.modem_history.specs.Requests.{are_distinct}
 use Rattle.modem_history.specs.Wholes.{commands_for, InStep, OnChannel}
 use Rattle.modem_history.proofs.outcomes.OutcomesAndLines.{taken_off}
 use Rattle.modem_history.proofs.requests.RequestsAfterCalls.{stays, off_tolds, commands_stay, commands_go, distinct_front, apart_none}
-use Rattle.modem_history.proofs.connections.NoSecondOpening.{Free, is_asked, tick_free, held_free, freed_free, sent_unasked, tick_unasked}
+use Rattle.modem_history.proofs.connections.NoSecondOpening.{Free, tick_free, held_free, freed_free, sent_unasked, tick_unasked}
 use Rattle.modem_history.proofs.calls.CallEnds.{frames_in, now_in, ended, end_of, sent_open, if_false}
 use Rattle.modem_history.proofs.commands.BegunCommands.{opens_by_tick}
 
@@ -75,7 +75,7 @@ plain s d past a k hand was same_accepted same_marks =
 
 -- what is open was seen to be Opened
 pub seen_open : (s : Setting) (d : ℕ) (past : List Act) → is_open s.role d (wire past) ≡ true → is_opened ((seen s past).state d) ≡ true
-seen_open s d past h = opened_is_open s.role (wire past) d ∙ h
+seen_open s d past h = h
 
 -- a connection that is open at the end was open after the call's first act
 pub open_first : (s : Setting) (d : ℕ) (past : List Act) (a : Act) → is_open s.role d (wire (ended s past a)) ≡ true → is_open s.role d (wire (a ∷ past)) ≡ true
@@ -97,8 +97,7 @@ or_right true b e h = cc
 
 tick_was : (s : Setting) (d : ℕ) (past : List Act) → is_open s.role d (station.Tick ∷ wire past) ≡ true → is_open s.role d (wire past) ≡ true
 tick_was s d past h =
-    let t = standings s.role d (wire past) in
-    open_left t.own.is_open (not (ends t.zero.is_open d station.Tick)) (or_right (opens_now s.role d (wire past) station.Tick) (t.own.is_open && not (ends t.zero.is_open d station.Tick)) (opens_by_tick s.role t.zero.is_open t.own.is_asked d) h)
+    open_left (is_open s.role d (wire past)) (not (ends (is_open s.role 0 (wire past)) d station.Tick)) (or_right (opens_now s.role d (wire past) station.Tick) (is_open s.role d (wire past) && not (ends (is_open s.role 0 (wire past)) d station.Tick)) (opens_by_tick s.role (is_open s.role 0 (wire past)) (is_asked s.role d (wire past)) d) (sym (is_open_after s.role d (wire past) station.Tick) ∙ h))
 
 -- a tick, with all that it calls for, keeps the commands on d in step
 pub kept_tick : (s : Setting) (d : ℕ) (past : List Act) → are_distinct (in_hand past) ≡ true → Kept s d past → Kept s d (ended s past Tick)

@@ -10,7 +10,8 @@ use Rattle.mux_station.specs.declared.role.Role.TheVariants.{Initiator, Responde
 use Rattle.mux_station.specs.Acts as station
 use Rattle.mux_frame.specs.declared.frame.Kind.TheVariants.{Uih}
 use Rattle.mux_station.specs.Written.{is_kind, is_data_frame}
-use Rattle.mux_station.specs.Opening.{standings, opens, opens_now, ends, is_open}
+use Rattle.mux_station.specs.Opening.{opens, opens_now, ends, is_open, is_asked}
+use Rattle.mux_station.proofs.states.OpeningSteps.{is_open_after}
 use Rattle.mux_station.specs.States.{is_opened}
 use Rattle.at_text.specs.Dialects.{Dialect}
 use Rattle.at_text.specs.Lines.{lines}
@@ -33,7 +34,7 @@ use Rattle.modem_history.proofs.commands.CommandOrder.{open_count, counts}
 use Rattle.modem_history.proofs.commands.WholeTexts.{whole_few}
 use Rattle.modem_history.proofs.commands.BegunCommands as begins
 use Rattle.modem_history.proofs.commands.BegunCommands.{Carried, carried, begun_append, begun_lines, begun_counted, turns_lines, texts_counted}
-use Rattle.modem_history.proofs.connections.NoSecondOpening.{is_asked, got_free, got_unasked, opens_shut}
+use Rattle.modem_history.proofs.connections.NoSecondOpening.{got_free, got_unasked, opens_shut}
 use Rattle.modem_history.proofs.outcomes.OutcomeCounts.{is_data}
 use Rattle.modem_history.proofs.calls.CallEnds.{now_in, ended, end_of, if_false}
 use Rattle.modem_history.proofs.requests.CommandsInStep.{Kept, told_off_all, left_in, seen_open, open_first, unasked_end, in_step, open_left, or_right}
@@ -134,7 +135,7 @@ begun_same ms ls =
     sym (begun_counted (ms ++ map Line ls))
     ∙ (ap length (begun_append ms (map Line ls) ∙ (ap (λ (v : List (List ℕ)). begun_in ms ++ v) (begun_lines ls) ∙ append-nil (begun_in ms))) ∙ begun_counted ms)
 
-begun_few : (dialect : Dialect) (ms : List Mark) (out : List ℕ) (qs : List Request) → begins.Kept dialect ms out qs → begun_count ms ≤ length qs
+begun_few : (dialect : Dialect) (ms : List Mark) (out : List ℕ) (qs : List Request) → begins.KeptCommands dialect ms out qs → begun_count ms ≤ length qs
 begun_few dialect ms out qs k =
     let n = whole_in (length out) (texts qs) in
     let few : n ≤ length qs = omega (arith, whole_few (length out) (texts qs), texts_counted qs) in
@@ -149,7 +150,7 @@ data_answers s d past ls before cs left l h acc ans e = by_windows (open_window 
     ms : List Mark
     ms = marks s.role d past
 
-    kept : begins.Kept s.dialect ms (information_out s.role d past) (accepted s.role d past)
+    kept : begins.KeptCommands s.dialect ms (information_out s.role d past) (accepted s.role d past)
     kept = begins.kept s past l d
 
     by_windows : (o p : Option Window) → open_window s.dialect ms ≡ o → open_window s.dialect (ms ++ map Line ls) ≡ p → Answers before cs left (answered s.dialect (ms ++ map Line ls))
@@ -186,9 +187,9 @@ data_answers s d past ls before cs left l h acc ans e = by_windows (open_window 
 -- ## The whole call
 
 -- at an initiator data opens no connection
-pub opens_none : (r : Role) → r ≡ Initiator → (z k : Bool) (d : ℕ) (f : Frame) → is_data_frame f ≡ true → opens r z k d (station.Got f) ≡ false
-opens_none Initiator e z k d f h = ap (λ (g : Frame). opens Initiator z k d (station.Got g)) (is_data f h)
-opens_none Responder e z k d f h = cc
+pub data_opens_none : (r : Role) → r ≡ Initiator → (z k : Bool) (d : ℕ) (f : Frame) → is_data_frame f ≡ true → opens r z k d (station.Got f) ≡ false
+data_opens_none Initiator e z k d f h = ap (λ (g : Frame). opens Initiator z k d (station.Got g)) (is_data f h)
+data_opens_none Responder e z k d f h = cc
 
 unasked_got : (r : Role) → r ≡ Initiator → (d : ℕ) (f : Frame) (w : List station.Act) → (is_open r d w ≡ true → is_asked r d w ≡ false) → is_open r d (station.Got f ∷ w) ≡ true
     → is_asked r d (station.Got f ∷ w) ≡ false
@@ -202,8 +203,7 @@ shut_opens Responder e d f w h k = cc
 -- an open connection that this frame doesn't open was open before it
 pub got_was : (s : Setting) (d : ℕ) (past : List Act) (f : Frame) → opens_now s.role d (wire past) (station.Got f) ≡ false → is_open s.role d (wire (ended s past (Got f))) ≡ true → is_open s.role d (wire past) ≡ true
 got_was s d past f n o =
-    let t = standings s.role d (wire past) in
-    open_left t.own.is_open (not (ends t.zero.is_open d (station.Got f))) (or_right (opens_now s.role d (wire past) (station.Got f)) _ n (open_first s d past (Got f) o))
+    open_left (is_open s.role d (wire past)) (not (ends (is_open s.role 0 (wire past)) d (station.Got f))) (or_right (opens_now s.role d (wire past) (station.Got f)) _ n (sym (is_open_after s.role d (wire past) (station.Got f)) ∙ open_first s d past (Got f) o))
 
 -- the frame is data on an open connection
 abbrev pub is_read : Setting → List Act → Frame → Bool
@@ -282,7 +282,7 @@ read_here s d past f r l n z h k same o =
     let a = Got f in
     let g = end_of s past a d in
     let parts = and_parts (is_opened ((seen s past).state f.dlci)) (is_data_frame f) n in
-    let e : opens_now s.role d (wire past) (station.Got f) ≡ false = opens_none s.role r _ _ d f parts.1 in
+    let e : opens_now s.role d (wire past) (station.Got f) ≡ false = data_opens_none s.role r _ _ d f parts.1 in
     let was = got_was s d past f e o in
     let i = k.on.while_open was in
     let cs = commands_for d (in_hand past) in
@@ -309,7 +309,7 @@ read_there s d past f r n h k apart o =
     let g = end_of s past a d in
     let e' = f.dlci in
     let parts = and_parts (is_opened ((seen s past).state f.dlci)) (is_data_frame f) n in
-    let e : opens_now s.role d (wire past) (station.Got f) ≡ false = opens_none s.role r _ _ d f parts.1 in
+    let e : opens_now s.role d (wire past) (station.Got f) ≡ false = data_opens_none s.role r _ _ d f parts.1 in
     let stay : commands_for d (left_in s past a) ≡ commands_for d (in_hand past) = commands_stay (seen s past) (now_in s past a) a d (in_hand past) (sym g.open_is ∙ o) in
     let c = closes s.dialect (marks s.role e' past) (lines (run_on s.role e' past ++ f.info)) in
     in_step s d past (ended s past a) (k.on.while_open (got_was s d past f e o)) (g.accepted_is ∙ got_accepted s d past f e)

@@ -6,7 +6,6 @@ use Rattle.std.proofs.lemmas.List.Elements.{filter-append}
 use Rattle.mux_frame.specs.Frames.{Frame}
 use Rattle.mux_station.specs.Opening.{is_open}
 use Rattle.mux_station.specs.States.{is_opened}
-use Rattle.mux_station.proofs.states.OpenedStates.{opened_is_open}
 use Rattle.modem_desk.specs.declared.request.Ask.{Ask}
 use Rattle.modem_desk.specs.declared.request.Ask.TheVariants.{OpenChannel, CloseChannel, Command, Probe, Stop}
 use Rattle.modem_desk.specs.declared.request.Request.{Request}
@@ -150,7 +149,7 @@ none_more d q None true e h = absurd (let x : true ≡ false = h refl in cc)
 
 told_or_shut : (s : Setting) (d : ℕ) (past : List Act) (q : Request) (b : Bool) → is_open s.role d (wire past) ≡ b → is_open s.role d (wire (ended s past (Took q))) ≡ false → command_on d q.ask ≡ true
     → is_none (at_once s (seen s past) q) ≡ false
-told_or_shut s d past q false g o c = command_shut s (seen s past) q d (opened_is_open s.role (wire past) d ∙ g) q.ask refl c
+told_or_shut s d past q false g o c = command_shut s (seen s past) q d g q.ask refl c
 told_or_shut s d past q true g o c =
     let same : wire (ended s past (Took q)) ≡ wire past =
     (end_of s past (Took q) d).wire_is ∙ ap (λ (fs : List Frame). wire (after (Took q ∷ past) (map Sent fs))) (no_frame s past q d q.ask refl c) in

@@ -10,7 +10,8 @@ use Rattle.mux_station.specs.declared.role.Role.{Role}
 use Rattle.mux_station.specs.declared.role.Role.TheVariants.{Initiator}
 use Rattle.mux_station.specs.Acts as station
 use Rattle.mux_station.specs.Written.{is_data_frame}
-use Rattle.mux_station.specs.Opening.{standings, opens, opens_now, ends, is_open}
+use Rattle.mux_station.specs.Opening.{opens, opens_now, ends, is_open, is_asked}
+use Rattle.mux_station.proofs.states.OpeningSteps.{is_open_after}
 use Rattle.at_text.specs.Dialects.{Dialect}
 use Rattle.at_text.specs.Windows.{Mark, Begun, Window, answers, answer_of, answered, has_final, windows}
 use Rattle.at_text.proofs.windows.AnswerWindows.{windows-begun}
@@ -26,7 +27,6 @@ use Rattle.modem_history.proofs.law_proofs.WholeHistories.{not_true}
 use Rattle.modem_history.proofs.outcomes.OutcomeCounts.{one, many, many_append, many_without, data_on, is_data}
 use Rattle.modem_history.proofs.outcomes.WholeCounts.{many_filtered}
 use Rattle.modem_history.proofs.commands.BegunCommands.{opens_by_sent, opens_by_mark, data_ends_none, marks_of}
-use Rattle.modem_history.proofs.connections.NoSecondOpening.{is_asked}
 use Rattle.modem_history.proofs.calls.CallEnds.{ended, if_false}
 use Rattle.modem_history.proofs.requests.CommandsInStep.{Kept, kept_tick, kept_held, kept_freed}
 use Rattle.modem_history.proofs.requests.StepOfRequest.{kept_took}
@@ -113,13 +113,12 @@ none_and false = refl
 -- a frame given on leaves d open or shut as it was
 pub given_open : (r : Role) (d : ℕ) (w : List station.Act) → is_open r d (station.Given ∷ w) ≡ is_open r d w
 given_open r d w =
-    let t = standings r d w in
-    same_stand (opens r t.zero.is_open t.own.is_asked d station.Given) t.own.is_open (ends t.zero.is_open d station.Given) (opens_by_mark r t.zero.is_open t.own.is_asked d) (none_and (not (d == 0)))
+    is_open_after r d w station.Given
+    ∙ same_stand (opens r (is_open r 0 w) (is_asked r d w) d station.Given) (is_open r d w) (ends (is_open r 0 w) d station.Given) (opens_by_mark r (is_open r 0 w) (is_asked r d w) d) (none_and (not (d == 0)))
 
 given_asked : (r : Role) (d : ℕ) (w : List station.Act) → is_asked r d (station.Given ∷ w) ≡ is_asked r d w
 given_asked r d w =
-    let t = standings r d w in
-    same_stand false t.own.is_asked (false || ends t.zero.is_open d station.Given) refl (none_and (not (d == 0)))
+    same_stand false (is_asked r d w) (false || ends (is_open r 0 w) d station.Given) refl (none_and (not (d == 0)))
 
 -- what stands as it stood keeps the commands in step
 kept_same : (s : Setting) (d : ℕ) (past later : List Act) → is_open s.role d (wire later) ≡ is_open s.role d (wire past) → is_asked s.role d (wire later) ≡ is_asked s.role d (wire past)
@@ -161,14 +160,13 @@ sent_answered dialect r d past f false = refl
 -- data sent on another connection than 0 leaves d open or shut as it was
 pub data_open : (r : Role) (d e : ℕ) (f : Frame) (w : List station.Act) → (e == 0) ≡ false → is_open r d (station.Sent (data_on e f) ∷ w) ≡ is_open r d w
 data_open r d e f w z =
-    let t = standings r d w in
-    same_stand (opens r t.zero.is_open t.own.is_asked d (station.Sent (data_on e f))) t.own.is_open (ends t.zero.is_open d (station.Sent (data_on e f)))
-    (opens_by_sent r t.zero.is_open t.own.is_asked d (data_on e f)) (data_ends_none t.zero.is_open d e f z)
+    is_open_after r d w (station.Sent (data_on e f))
+    ∙ same_stand (opens r (is_open r 0 w) (is_asked r d w) d (station.Sent (data_on e f))) (is_open r d w) (ends (is_open r 0 w) d (station.Sent (data_on e f)))
+    (opens_by_sent r (is_open r 0 w) (is_asked r d w) d (data_on e f)) (data_ends_none (is_open r 0 w) d e f z)
 
 data_asked : (r : Role) (d e : ℕ) (f : Frame) (w : List station.Act) → (e == 0) ≡ false → is_asked r d (station.Sent (data_on e f) ∷ w) ≡ is_asked r d w
 data_asked r d e f w z =
-    let t = standings r d w in
-    same_stand false t.own.is_asked (false || ends t.zero.is_open d (station.Sent (data_on e f))) refl (data_ends_none t.zero.is_open d e f z)
+    same_stand false (is_asked r d w) (false || ends (is_open r 0 w) d (station.Sent (data_on e f))) refl (data_ends_none (is_open r 0 w) d e f z)
 
 -- a data frame is on another connection than 0
 pub not_on_zero : (f : Frame) → is_data_frame f ≡ true → (f.dlci == 0) ≡ false

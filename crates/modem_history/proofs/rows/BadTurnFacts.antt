@@ -24,7 +24,7 @@ use Rattle.modem_history.specs.BadWaits.{wrong_turns, waiting_but_told, waiting_
 use Rattle.at_text.specs.Kinds.{kind_place}
 use Rattle.modem_history.proofs.rows.HistoryTests.{unquiet}
 use Rattle.modem_history.proofs.rows.TurnTests.{no_more}
-use Rattle.modem_history.proofs.rows.SessionTests.{all_small, frames_in, rest_of, read_in, octets_differ}
+use Rattle.modem_history.proofs.rows.SessionTests.{all_small, frames_read, rest_of, read_in, octets_differ}
 
 never : false ≡ true → ⊥
 never e = cc
@@ -46,12 +46,12 @@ numbers_differ n m h e = never_back (sym (eq-eqb n m e) ∙ h)
 
 -- the octets received aren't read as what was got
 unread : (row : TurnRow) (octets : List ℕ) → row.new.line.received ≡ entry_answer ++ octets → all_small octets ≡ true
-    → (length (frames_in octets) == length (gots (after (after [] row.before) row.acts))) ≡ false → AllAreGot beginning row.new (after (after [] row.before) row.acts) → ⊥
+    → (length (frames_read octets) == length (gots (after (after [] row.before) row.acts))) ≡ false → AllAreGot beginning row.new (after (after [] row.before) row.acts) → ⊥
 unread row octets e small h g =
     let same : octets ≡ g.octets = append_cancel_left entry_answer octets g.octets (sym e ∙ g.since) in
     let reads = subst (λ x. Reads 31 x (gots (after (after [] row.before) row.acts)) g.rest) (sym same) g.reads in
-    let one = one_reading 31 octets (frames_in octets) (gots (after (after [] row.before) row.acts)) (rest_of octets) g.rest (read_in octets small) reads in
-    numbers_differ (length (frames_in octets)) (length (gots (after (after [] row.before) row.acts))) h (ap length one.0)
+    let one = one_reading 31 octets (frames_read octets) (gots (after (after [] row.before) row.acts)) (rest_of octets) g.rest (read_in octets small) reads in
+    numbers_differ (length (frames_read octets)) (length (gots (after (after [] row.before) row.acts))) h (ap length one.0)
 
 idle_with_frame_wrong : IsWrongTurn idle_with_frame
 unfolding check_octet_of verdict_on by_header by_end

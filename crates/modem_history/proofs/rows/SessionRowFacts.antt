@@ -26,7 +26,7 @@ use Rattle.modem_history.specs.GoodSessions.{right_sessions, nothing_yet, sabm_q
 use Rattle.modem_history.specs.BadSessions.{wrong_sessions, written_twice, octet_left_out, octet_waits_again, marked_too_early, marked_too_late, two_marked, data_overtakes_octets, data_overtakes_frame, half_a_frame, octets_of_none, broken_frame_got, got_too_soon, got_unfed, frame_dropped, flag_dropped, other_n1, request_dropped, request_invented, number_twice, caller_unknown, sound_line_lost, lost_twice, told_and_kept, outcome_dropped, told_to_another, told_by_number, told_in_other_order, not_told_at_all, announced_out_of_order, announced_elsewhere, announced_twice, line_dropped, unheard_line_waits, lines_change_places, announced_beyond}
 use Rattle.modem_history.proofs.rules.MadeLaws.{laws_of}
 use Rattle.modem_history.proofs.rows.HistoryTests.{refused, incomplete}
-use Rattle.modem_history.proofs.rows.SessionTests.{all_small, small_octets, frames_in, rest_of, read_in, is_read, fed_is, fits_by, fits_none, octets_differ, acts_differ, outcomes_differ, requests_differ}
+use Rattle.modem_history.proofs.rows.SessionTests.{all_small, small_octets, frames_read, rest_of, read_in, read_by, fed_is, fits_by, fits_none, octets_differ, acts_differ, outcomes_differ, requests_differ}
 
 nothing_yet_right : IsRight nothing_yet
 unfolding check_octet_of body_of verdict_on by_header by_end
@@ -192,14 +192,14 @@ two_marked_wrong f = no_longer f.sent.written two_marked.view.unwritten (last_oc
 -- the octets taken aren't read as the frames that were got, or leave another rest
 misread : (row : SessionRow) (fed : List ℕ) → row.view.line.received ≡ entry_answer ++ fed ++ row.view.unfed → row.view.deframer.n1 ≡ 31
     → row.view.deframer.next ≡ None → all_small fed ≡ true
-    → ((length (frames_in fed) == length (gots (after [] row.acts))) && (length (rest_of fed) == length row.view.deframer.undecided)) ≡ false
+    → ((length (frames_read fed) == length (gots (after [] row.acts))) && (length (rest_of fed) == length row.view.deframer.undecided)) ≡ false
     → IsWrong row
 misread row fed e n1 none small h f =
     let r = f.received in
     let is_fed = fed_is entry_answer fed r.fed row.view.unfed row.view.line.received e r.received_are in
     let deframes = subst (λ x. Deframes x (gots (after [] row.acts)) row.view.deframer) (sym is_fed) r.deframes in
-    let read = is_read fed (gots (after [] row.acts)) row.view.deframer deframes n1 none small in
-    counts (length (frames_in fed)) (length (gots (after [] row.acts))) (length (rest_of fed)) (length row.view.deframer.undecided) (ap length read.frames) (ap length read.rest) h
+    let read = read_by fed (gots (after [] row.acts)) row.view.deframer deframes n1 none small in
+    counts (length (frames_read fed)) (length (gots (after [] row.acts))) (length (rest_of fed)) (length row.view.deframer.undecided) (ap length read.frames) (ap length read.rest) h
   where
     both : (x y : Bool) → x ≡ true → y ≡ true → (x && y) ≡ false → ⊥
     both true true i j h = cc

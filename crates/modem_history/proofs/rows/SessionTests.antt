@@ -194,15 +194,15 @@ small_octets (x ∷ xs) e zero = ltb-true x 256 (and_parts (nat_lt x 256) (all_s
 small_octets (x ∷ xs) e (suc i) = small_octets xs (and_parts (nat_lt x 256) (all_small xs) e).1 i
 
 -- what is read in octets, with N1 31
-abbrev pub frames_in : List ℕ → List Frame
-frames_in s = (found_in 31 (length s) s).frames
+abbrev pub frames_read : List ℕ → List Frame
+frames_read s = (found_in 31 (length s) s).frames
 
 -- and what is left behind it
 abbrev pub rest_of : List ℕ → List ℕ
 rest_of s = (found_in 31 (length s) s).rest
 
 -- octets are read so, with N1 31
-pub read_in : (s : List ℕ) → all_small s ≡ true → Reads 31 s (frames_in s) (rest_of s)
+pub read_in : (s : List ℕ) → all_small s ≡ true → Reads 31 s (frames_read s) (rest_of s)
 read_in s e = found_reads 31 (length s) s (omega arith) (small_octets s e)
 
 -- all that was taken is read as what was handed out, and none is at hand
@@ -216,14 +216,14 @@ all_handed taken_requests handed kept reads small again = record {
 
 -- what a deframer without a frame at hand has taken is read as what it handed out, with what it keeps as rest
 pub record IsRead (taken_requests : List ℕ) (handed : List Frame) (kept : List ℕ) : Type 0 where
-  pub frames : frames_in taken_requests ≡ handed
+  pub frames : frames_read taken_requests ≡ handed
   pub rest : rest_of taken_requests ≡ kept
 
 -- so it is, with N1 31
-pub is_read : (taken_requests : List ℕ) (handed : List Frame) (d : Deframing) → Deframes taken_requests handed d → d.n1 ≡ 31 → d.next ≡ None → all_small taken_requests ≡ true → IsRead taken_requests handed d.undecided
-is_read taken_requests handed d deframes n1 none small =
+pub read_by : (taken_requests : List ℕ) (handed : List Frame) (d : Deframing) → Deframes taken_requests handed d → d.n1 ≡ 31 → d.next ≡ None → all_small taken_requests ≡ true → IsRead taken_requests handed d.undecided
+read_by taken_requests handed d deframes n1 none small =
     let reads = subst (λ n. Reads n taken_requests handed d.undecided) n1 (past_all taken_requests handed d deframes none) in
-    let same = one_reading 31 taken_requests (frames_in taken_requests) handed (rest_of taken_requests) d.undecided (read_in taken_requests small) reads in
+    let same = one_reading 31 taken_requests (frames_read taken_requests) handed (rest_of taken_requests) d.undecided (read_in taken_requests small) reads in
     record { frames = same.0; rest = same.1 }
 
 -- what was fed

@@ -16,7 +16,7 @@ use Rattle.modem_history.specs.Rules.{Made, may_begin, nothing, call, goes_out}
 use Rattle.modem_history.specs.RuleLaws.{KeepsLaws, LawfulIsMade}
 use Rattle.modem_history.proofs.calls.StatesAfterActs.{after_both}
 use Rattle.modem_history.proofs.commands.SentPrefixes.{when_true}
-use Rattle.modem_history.proofs.law_proofs.WholeHistories.{moved, if_true, if_false}
+use Rattle.modem_history.proofs.law_proofs.WholeHistories.{moved, if_true, if_fails}
 use Rattle.modem_history.proofs.rules.NextFrames.{waits_first}
 
 -- the past is made; or a call is under way, of which the acts that are still owed lack
@@ -116,7 +116,7 @@ stands s (Sent f ∷ past) n l = by_kind (is_data_frame f) refl (stands s past n
         let none = l.calls.0 (ap not e) in
         sent_out s past f (made s past earlier none) none (when_true (is_data_frame f) e l.in_turn.0) e
     by_kind false e earlier =
-        goes_on s past (Sent f) earlier (when_true (not (is_data_frame f)) (ap not e) l.lawful.0.controlled) (if_false (is_data_frame f) (owed s past) (drop 1 (owed s past)) e)
+        goes_on s past (Sent f) earlier (when_true (not (is_data_frame f)) (ap not e) l.lawful.0.controlled) (if_fails (is_data_frame f) (owed s past) (drop 1 (owed s past)) e)
 
 -- so what keeps the laws the rules make, where a frame takes an octet at least
 pub made_by : (s : Setting) (past : List Act) → 1 ≤ s.n1 → KeepsLaws s past → Made s past

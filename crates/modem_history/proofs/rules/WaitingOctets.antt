@@ -32,16 +32,16 @@ pub record GoesOn (qs : List Request) (out chunk : List ℕ) (count : ℕ) : Typ
   pub few : reached_in (length (out ++ chunk)) (texts qs) ≤ count
 
 -- the octets of the first texts that haven't left
-abbrev pub left_of : List Request → (out : List ℕ) → (count : ℕ) → List ℕ
-left_of qs out count = drop (length out) (concat (texts (take count qs)))
+abbrev pub octets_left : List Request → (out : List ℕ) → (count : ℕ) → List ℕ
+octets_left qs out count = drop (length out) (concat (texts (take count qs)))
 
 -- the first of these, however many, go on so with what left already, where some wait
-pub goes_on : (qs : List Request) (out : List ℕ) (count n : ℕ) → IsPrefixOf out (concat (texts qs)) → 0 < length (left_of qs out count) → GoesOn qs out (take n (left_of qs out count)) count
+pub goes_on : (qs : List Request) (out : List ℕ) (count n : ℕ) → IsPrefixOf out (concat (texts qs)) → 0 < length (octets_left qs out count) → GoesOn qs out (take n (octets_left qs out count)) count
 goes_on qs out count n p some =
     let first = take count qs in
     let may = concat (texts first) in
     let rest = concat (texts (drop count qs)) in
-    let w = left_of qs out count in
+    let w = octets_left qs out count in
     let chunk = take n w in
     let all : concat (texts qs) ≡ may ++ rest = ap (λ (v : List Request). concat (texts v)) (sym (take-append-drop count qs)) ∙ more_text first (drop count qs) in
     let left : length w ≡ length may - length out = length-drop (length out) may in

@@ -7,6 +7,7 @@ use Rattle.mux_frame.specs.Frames.{Frame}
 use Rattle.mux_station.specs.declared.role.Role.TheVariants.{Responder}
 use Rattle.mux_station.specs.Acts as station
 use Rattle.mux_station.specs.Opening.{opens_now, belongs, since, since_after}
+use Rattle.mux_station.proofs.states.OpeningSteps.{is_open_after}
 use Rattle.mux_station.specs.Offering.{octets_offered, joined_octets}
 use Rattle.mux_frame.specs.declared.frame.Kind.TheVariants.{Uih}
 use Rattle.mux_station.specs.Written.{is_data_frame, is_kind}
@@ -264,9 +265,10 @@ was_open false b is = cc
 
 -- after a frame what is kept of any connection is what the past says
 pub box_goes_on : (e : End) (past : List Act) (f : Frame) (x : Brought) (d : ℕ) (b : Box) → IsBrought e past f x → FitsOpen e d past b → FitsOpen e d (Wire (station.Got f) ∷ past) (box_heard f.dlci (length (texts_with past f)) (box_turned (opens_now Responder d (wire past) (station.Got f)) (f.dlci == d) x b))
-box_goes_on e past f x d b brought fits there_open =
+box_goes_on e past f x d b brought fits open_then =
     let opens = opens_now Responder d (wire past) (station.Got f) in
     let there = belongs Responder d (wire past) (station.Got f) in
+    let there_open : (opens || there) ≡ true = sym (is_open_after Responder d (wire past) (station.Got f)) ∙ open_then in
     let here = f.dlci == d in
     let rest = since Responder d (wire past) in
     let h = hold_on d past in
@@ -359,9 +361,10 @@ still_there false there is none = is
 
 -- after it, what was offered by it isn't unsent any more
 pub box_still : (e : End) (past : List Act) (a : station.Act) (d : ℕ) (b : Box) (unsent : List ℕ) → IsStill d past a → b.unsent ≡ octets_offered d a ++ unsent → FitsOpen e d past b → FitsOpen e d (Wire a ∷ past) (record b { unsent = unsent })
-box_still e past a d b unsent still offers fits there_open =
+box_still e past a d b unsent still offers fits open_then =
     let opens = opens_now Responder d (wire past) a in
     let there = belongs Responder d (wire past) a in
+    let there_open : (opens || there) ≡ true = sym (is_open_after Responder d (wire past) a) ∙ open_then in
     let rest = since Responder d (wire past) in
     let given = joined_octets (octets_offered d) rest in
     let fit = fits (was_open (is_open_at_modem d past) _ (still_there opens there there_open still.opens_none)) in

@@ -6,6 +6,7 @@ use Rattle.mux_frame.specs.Frames.{Frame}
 use Rattle.mux_station.specs.declared.role.Role.TheVariants.{Responder}
 use Rattle.mux_station.specs.Acts as station
 use Rattle.mux_station.specs.Opening.{opens_now, belongs}
+use Rattle.mux_station.proofs.states.OpeningSteps.{is_open_after}
 use Rattle.modem_sim.specs.declared.script.StepAct.TheVariants.{Announce, Flow, Hold, Disconnect, CloseDown}
 use Rattle.modem_sim.specs.declared.state.ModemState.{ModemState}
 use Rattle.modem_sim.specs.LineSteps.{repeats, step}
@@ -93,5 +94,6 @@ says_replies e (Did (Hold x y) ∷ past) d there_open = says_replies e past d th
 says_replies e (Did (Disconnect x) ∷ past) d there_open = says_replies e past d there_open
 says_replies e (Did CloseDown ∷ past) d there_open = says_replies e past d there_open
 says_replies e (Wire a ∷ past) d there_open =
-    box_asked e d past a (outbox e d past) (replies_since e d past) (opens_now Responder d (wire past) a) (belongs Responder d (wire past) a) there_open
+    box_asked e d past a (outbox e d past) (replies_since e d past) (opens_now Responder d (wire past) a) (belongs Responder d (wire past) a)
+    (sym (is_open_after Responder d (wire past) a) ∙ there_open)
     (λ there. says_replies e past d (still_open (is_open_at_modem d past) _ there))

@@ -21,9 +21,7 @@ use Rattle.mux_station.specs.States.{State, IsShut, IsOpening, IsOpened, IsClosi
 use Rattle.mux_station.specs.Messages.{Message, cld, brings_command, message_of, octet_is}
 use Rattle.mux_station.specs.Noting.{noted_of, noted_of_probe, noted_by_message, noted_by_table}
 use Rattle.mux_station.specs.Written.{is_data_frame, is_kind, is_on}
-use Rattle.mux_station.proofs.states.OpenByPlaces.{zero_same}
 use Rattle.mux_station.specs.Opening.{opens_now}
-use Rattle.mux_station.proofs.states.OpenedStates.{opened_is_open}
 use Rattle.mux_station.proofs.law_proofs.OwedFrames.{answers_keep, calls_control}
 use Rattle.at_text.specs.Lines.{lines, kept_run}
 use Rattle.modem_history.specs.Connections.{unfinished_on}
@@ -164,7 +162,6 @@ role_is c e is = ap (λ s. s.role) is
 pub opened_is : (e : End) (w : Wired) (c : Core) (past : List Act) (d : ℕ) → d < 62 → Fits e w c past → is_opened (stations.channel_at c.station d).state ≡ is_open_at_modem d past
 opened_is e w c past d small fits =
     ap is_opened (sym (fits.station_is.channels_are d small).state_is)
-    ∙ opened_is_open c.station.role (wire past) d
     ∙ ap (λ r. opening.is_open r d (wire past)) (role_is c e fits.setting_is)
 
 lines_at : (e : End) (past : List Act) (d : ℕ) (b : Box) (info : List ℕ) (data_is there : Bool) → kept_run b.run ≡ b.run → is_open_at_modem d past ≡ there → FitsOpen e d past b → lines (b.run ++ (if data_is && there then info else [])) ≡ (if data_is && there then lines (unfinished_on Responder d (wire past) ++ info) else [])
@@ -243,7 +240,7 @@ heard_at old new f past d inside opened takes =
 -- the frame opens its connection where the end says so
 opens_are : (e : End) (w : Wired) (c : Core) (past : List Act) (f : Frame) → Fits e w c past → opens_in c f ≡ opens_now Responder f.dlci (wire past) (station.Got f)
 opens_are e w c past f fits =
-    let zero = opened_is e w c past 0 (lit< tt) fits ∙ sym (zero_same Responder f.dlci (wire past)) in
+    let zero = opened_is e w c past 0 (lit< tt) fits in
     ap (λ (o : Bool). is_on Sabm f.dlci f && ((f.dlci == 0) || o)) zero
 
 capped : (m n : ℕ) (a : Bool) → nat_le (2 ^ 64 - 1) m ≡ a → counted (m + n) ≡ counted (counted m + n)

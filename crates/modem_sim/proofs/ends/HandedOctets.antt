@@ -10,6 +10,7 @@ use Rattle.mux_station.specs.Acts as station
 use Rattle.mux_station.specs.Sending as sending
 use Rattle.mux_station.specs.Stations as stations
 use Rattle.mux_station.specs.Opening.{opens_now, belongs, since, since_after}
+use Rattle.mux_station.proofs.states.OpeningSteps.{is_open_after}
 use Rattle.mux_station.specs.Offering.{data_out, joined_octets, octets_offered, octets_sent, offered}
 use Rattle.mux_station.specs.States.{is_opened}
 use Rattle.modem_sim.specs.Acts.{Act, Wire, End, is_handing, is_open_at_modem, wire}
@@ -35,10 +36,11 @@ record StaysOpen (d : ℕ) (past : List Act) (c : station.Call) : Type 0 where
   leaves : data_out Responder d (wire (Wire (station.Called c) ∷ past)) ≡ data_out Responder d (wire past)
 
 stays_open : (d : ℕ) (past : List Act) (c : station.Call) → is_open_at_modem d (Wire (station.Called c) ∷ past) ≡ true → StaysOpen d past c
-stays_open d past c there_open =
+stays_open d past c open_then =
     let a : station.Act = station.Called c in
     let opens = opens_now Responder d (wire past) a in
     let there = belongs Responder d (wire past) a in
+    let there_open : (opens || there) ≡ true = sym (is_open_after Responder d (wire past) a) ∙ open_then in
     let rest = since Responder d (wire past) in
     record {
       was = was_open (is_open_at_modem d past) _ (still_there opens there there_open refl);

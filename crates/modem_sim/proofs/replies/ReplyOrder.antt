@@ -9,7 +9,8 @@ use Rattle.mux_frame.specs.declared.frame.Kind.TheVariants.{Sabm}
 use Rattle.mux_station.specs.declared.role.Role.TheVariants.{Responder}
 use Rattle.mux_station.specs.Acts as station
 use Rattle.mux_station.specs.Opening as opening
-use Rattle.mux_station.specs.Opening.{opens_now, belongs, ends, standings}
+use Rattle.mux_station.specs.Opening.{opens_now, belongs, ends, is_open, is_asked}
+use Rattle.mux_station.proofs.states.OpeningSteps.{is_open_after}
 use Rattle.mux_station.specs.Offering.{data_out}
 use Rattle.mux_station.specs.Written.{is_kind, is_on}
 use Rattle.at_text.specs.Dialects.{standard, is_solicited}
@@ -78,7 +79,8 @@ says_first e (Wire a ∷ past) d = by_open (is_open_at_modem d (Wire a ∷ past)
     by_open : (b : Bool) → is_open_at_modem d (Wire a ∷ past) ≡ b → IsPrefixOf (asked_for (outbox e d past).said) (replies_since e d past) → IsPrefixOf (asked_for (outbox e d (Wire a ∷ past)).said) (replies_since e d (Wire a ∷ past))
     by_open true is before = record { rest = asked_for (outbox e d (Wire a ∷ past)).held; joins = says_replies e (Wire a ∷ past) d is }
     by_open false is before =
-        shut_first e d past a (outbox e d past) (replies_since e d past) (opens_now Responder d (wire past) a) (belongs Responder d (wire past) a) is before
+        shut_first e d past a (outbox e d past) (replies_since e d past) (opens_now Responder d (wire past) a) (belongs Responder d (wire past) a)
+        (sym (is_open_after Responder d (wire past) a) ∙ is) before
 
 -- ## The replies to all lines
 
@@ -128,16 +130,17 @@ idle_shut false true e is was = cc
 idle_shut false false e is was = refl
 
 abbrev zero_open : ℕ → List station.Act → Bool
-zero_open d past = (standings Responder d past).zero.is_open
+zero_open d past = is_open Responder 0 past
 
 idle : (d : ℕ) (past : List station.Act) (a : station.Act) → is_got a ≡ false → opening.is_open Responder d past ≡ false → opening.is_open Responder d (a ∷ past) ≡ false
-idle d past a other was = idle_shut (opens_now Responder d past a) (opening.is_open Responder d past) (ends (zero_open d past) d a) (opens_none Responder (zero_open d past) (standings Responder d past).own.is_asked d a other) was
+idle d past a other was = is_open_after Responder d past a ∙ idle_shut (opens_now Responder d past a) (opening.is_open Responder d past) (ends (zero_open d past) d a) (opens_none Responder (zero_open d past) (is_asked Responder d past) d a other) was
 
 shut_before : (d : ℕ) (past : List station.Act) → filter (is_on Sabm d) (frames_got past) ≡ [] → opening.is_open Responder d past ≡ false
 shut_before d [] none = refl
 shut_before d (station.Got f ∷ past) none =
     let parts = none_asked d f (frames_got past) (is_on Sabm d f) refl none in
-    no_sabm (is_on Sabm d f) ((d == 0) || zero_open d past) (opening.is_open Responder d past) (ends (zero_open d past) d (station.Got f)) parts.0 (shut_before d past parts.1)
+    is_open_after Responder d past (station.Got f)
+    ∙ no_sabm (is_on Sabm d f) ((d == 0) || zero_open d past) (opening.is_open Responder d past) (ends (zero_open d past) d (station.Got f)) parts.0 (shut_before d past parts.1)
 shut_before d (station.Sent f ∷ past) none = idle d past (station.Sent f) refl (shut_before d past none)
 shut_before d (station.Called c ∷ past) none = idle d past (station.Called c) refl (shut_before d past none)
 shut_before d (station.Tick ∷ past) none = idle d past station.Tick refl (shut_before d past none)

@@ -92,8 +92,8 @@ neither true b is is_too = cc
 neither false b is is_too = is_too
 
 -- nothing has changed where all is as it was
-pub stays : (s : SimState ℕ) → has_changed unseen s s ≡ false
-stays s =
+pub unchanged : (s : SimState ℕ) → has_changed unseen s s ≡ false
+unchanged s =
     neither (is_fewer s.machine.unfed s.machine.unfed) _ (same_length (length s.machine.unfed))
     (neither (is_fewer s.machine.core.steps s.machine.core.steps) _ (same_length (length s.machine.core.steps))
     (neither (is_fewer s.machine.out s.machine.out) _ (same_length (length s.machine.out))
@@ -101,7 +101,7 @@ stays s =
 
 -- a turn has moved where octets came, a frame was got or octets were handed on, and not where all stays
 pub moved_rows : MovedRows
-moved_rows = (λ k. refl, λ s f. refl, λ s octets. refl, stays, stays)
+moved_rows = (λ k. refl, λ s f. refl, λ s octets. refl, unchanged, unchanged)
 
 not_both : (b : Bool) → b ≡ true → b ≡ false → ⊥
 not_both true is other = cc

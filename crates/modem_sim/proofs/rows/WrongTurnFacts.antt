@@ -1,5 +1,5 @@
 -- What is no turn of a simulated modem, computed.
-use Rattle.std.specs.Prelude.{◌≡◌, ◌≢◌, ℕ, ◌+◌, ◌==◌, codes, true, false, List, [], ◌∷◌, length, Option, Some, None, refl}
+use Rattle.std.specs.Prelude.{◌≡◌, ◌≢◌, ℕ, ◌+◌, ◌==◌, codes, true, false, List, [], ◌∷◌, ◌++◌, length, Option, Some, None, refl}
 use Rattle.std.specs.Fmt.{digits}
 use Rattle.std.proofs.Common.{arith, sym, ap, ◌∙◌, lit<}
 use Rattle.std.proofs.lemmas.Bool.Decides.{nat_tests}
@@ -17,16 +17,16 @@ use Rattle.modem_sim.specs.declared.sim.SimTurn.TheVariants.{Moved}
 use Rattle.modem_sim.specs.Acts.{Act, after}
 use Rattle.modem_sim.specs.Cores.{after_wire_act}
 use Rattle.modem_sim.specs.Sims.{SimState, is_ended}
-use Rattle.modem_sim.specs.Turns.{DoesSteps, Exchange, GoesTurn, HandsOn, Means, NoneIsThere, Offers, TakesAtHand, count_after, has_done, has_no_room, has_room_for, is_taken, none_at_hand}
+use Rattle.modem_sim.specs.Turns.{DoesSteps, Exchange, GoesTurn, HandsOn, Means, NoneIsThere, TakesAtHand, has_done, has_no_room, has_room_for, is_taken, left_of, none_at_hand}
 use Rattle.modem_sim.specs.HistoryRows.{announcing, comes, one, plain, ready_one, sends, silent}
 use Rattle.modem_sim.specs.TurnRows.{CallsNothing, WrongCalls, WrongCounts, WrongTurns, unseen}
-use Rattle.modem_sim.proofs.rows.TurnRowFacts.{due_now, none_some, stays}
-use Rattle.modem_history.specs.Turns.{Read, Write, calls_made}
+use Rattle.modem_sim.proofs.rows.TurnRowFacts.{due_now, none_some, unchanged}
+use Rattle.modem_history.specs.Turns.{Offers, Read, Write, calls_made, counted, octets_written}
 
 no : {P : Type 0} → false ≡ true → P
 no is = cc
 
-some_calls : (w : Option Write) (r : Option Read) → 0 ≡ count_after (calls_made w + calls_made r) 0 → (w ≡ None) × (r ≡ None)
+some_calls : (w : Option Write) (r : Option Read) → 0 ≡ counted 0 (calls_made w + calls_made r) → (w ≡ None) × (r ≡ None)
 some_calls None None same = (refl, refl)
 some_calls None (Some r) same = absurd (omega (arith, same))
 some_calls (Some w) None same = absurd (omega (arith, same))
@@ -37,14 +37,15 @@ none_read old new says going fed turn =
     let t = turn.exchange in
     (turn.leaves going).reads fed (some_calls t.write t.read turn.exchanges.calls_are).1
 
-none_offered : (w : Option Write) (out : List ℕ) → w ≡ None → Offers w out → out ≡ []
-none_offered None out is offers = offers
-none_offered (Some w) out is offers = cc
+nothing_waits : (w : Option Write) (out : List ℕ) → w ≡ None → Offers w (left_of w out) → octets_written w ++ left_of w out ≡ []
+nothing_waits None out is offers = offers
+nothing_waits (Some w) out is offers = cc
 
 none_written : (old new : SimState ℕ) (says : SimTurn) → old.machine.out ≢ [] → ¬ GoesTurn unseen old new says
 none_written old new says waits turn =
     let t = turn.exchange in
-    waits (none_offered t.write old.machine.out (some_calls t.write t.read turn.exchanges.calls_are).0 turn.exchanges.offers)
+    let none = (some_calls t.write t.read turn.exchanges.calls_are).0 in
+    waits (sym turn.exchanges.parts ∙ nothing_waits t.write old.machine.out none turn.exchanges.offers)
 
 -- no turn leaves its line alone where it hasn't ended and nothing is to be fed, nor where octets wait for the line
 pub calls_nothing : CallsNothing
@@ -59,10 +60,13 @@ wrong_counts = (λ old new fed idle. apart 0 1 (idle.empty fed) refl, λ old new
 
 -- no write offers nothing, and no read has no room
 pub wrong_calls : WrongCalls
-wrong_calls = (λ out offer. offer.some refl, λ room. let some = room.some in absurd (omega (arith, some)))
+wrong_calls = (
+  λ left offer. let some = offer.some in absurd (omega (arith, some)),
+  λ old new exchanges. let some = exchanges.some_room _ refl in absurd (omega (arith, some)),
+)
 
 nothing_moved : (s : SimState ℕ) (came went : List ℕ) (t : Exchange) (past : List Act) → ¬ Means unseen plain came went s s t [] past Moved
-nothing_moved s came went t past (has_done is) = no (sym (stays s) ∙ is)
+nothing_moved s came went t past (has_done is) = no (sym (unchanged s) ∙ is)
 
 step_left : (past : List Act) → ¬ DoesSteps (announcing 0 one) past (after [] ready_one)
 step_left past does = none_some _ (does.none_left (Announce one (codes "RING")) due_now).asked

@@ -25,7 +25,7 @@ use Rattle.modem_sim.specs.Stills.{ReadsOnce, SimMachineStays, TakesFrame, Write
 use Rattle.modem_sim.specs.Turns.{left_of}
 use Rattle.modem_sim.proofs.ends.EndAfterFrame.{later-sent_after}
 use Rattle.modem_sim.proofs.ends.OfferedPieces.{later_then}
-use Rattle.mux_station.proofs.law_proofs.PlainFrames.{plain_short}
+use Rattle.mux_station.proofs.law_proofs.PlainFrames.{plain_within}
 use Rattle.modem_sim.proofs.sims.WrittenFrames.{goes_out_plain}
 use Rattle.modem_history.specs.Turns.{octets_read, octets_written}
 
@@ -112,7 +112,7 @@ pub record Gave (e : End) (came went : List ℕ) (past : List Act) (f : Frame) (
 pub gave_fits : (old : SimMachine) (f : Frame) (out : List ℕ) → old.out ≡ [] → next_given old.core.station old.core.station.queue ≡ Some f → length f.info ≤ 1024 → (length f.info ≤ spelling.most_info 1024 f.kind → out ≡ spelling.spelled f) → GivesOut old.core → (e : End) (came went : List ℕ) (past : List Act) → SimMachineFits e came went old past → Gave e came went past f (record old { core = gone_on old.core; out = out })
 gave_fits old f out none next short writes gives e came went past fits =
     let went_on = gives f next e fits.wired past fits.core_fits in
-    let written = writes (plain_short f (goes_out_plain e fits.wired old.core past f fits.core_fits next) short) in
+    let written = writes (plain_within f (goes_out_plain e fits.wired old.core past f fits.core_fits next) short) in
     record {
       now = went_on.now;
       given = went_on.given;

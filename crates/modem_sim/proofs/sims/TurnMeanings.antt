@@ -1,14 +1,15 @@
 -- The answers of a turn mean what they say.
-use Rattle.std.specs.Prelude.{◌≡◌, ◌≢◌, ℕ, nat_lt, ◌==◌, ◌&&◌, Bool, true, false, List, [], ◌∷◌, length, None, refl, if◌then◌else◌}
+use Rattle.std.specs.Prelude.{◌≡◌, ◌≢◌, ℕ, ◌==◌, ◌&&◌, Bool, true, false, List, [], ◌∷◌, length, None, refl, if◌then◌else◌}
 use Rattle.std.proofs.Common.{arith, sym, ap, ◌∙◌, append-nil}
 use Rattle.std.proofs.lemmas.Bool.Decides.{nat_tests}
 use Rattle.std.proofs.lemmas.List.{nil_from_length}
 use Rattle.at_cmds.proofs.command_texts.CommandLines.{both_true}
-use Rattle.serial_line.specs.Counts.{one_more, counted_if_none}
+use Rattle.serial_line.specs.Counts.{one_more}
 use Rattle.serial_line.specs.LineViews.{LineView}
 use Rattle.modem_sim.specs.declared.sim.SimTurn.TheVariants.{Moved, Idle, Ended}
 use Rattle.modem_sim.specs.Sims.{SimMachine, SimState, is_ended}
-use Rattle.modem_sim.specs.Turns.{Exchange, Exchanges, GoesTurn, IsIdleAtLine, empty_after, has_done, is_over, stalled_after, stood_still}
+use Rattle.modem_history.specs.EveryTurn.{counted_none, empty_after, stalled_after}
+use Rattle.modem_sim.specs.Turns.{Exchange, Exchanges, GoesTurn, IsIdleAtLine, has_done, is_over, stood_still}
 use Rattle.modem_sim.specs.Stills.{GoesOnce, StoodStill}
 use Rattle.modem_sim.proofs.sims.IdleTurns.{idle}
 
@@ -31,11 +32,11 @@ turn_moved see old new moved once really = record {
 }
 
 -- by the line's counts
-some_stalled : (out : List ℕ) (n : ℕ) → out ≢ [] → counted_if_none (length out) 0 n ≡ one_more n
+some_stalled : (out : List ℕ) (n : ℕ) → out ≢ [] → counted_none (length out) 0 n ≡ one_more n
 some_stalled [] n some = absurd (some refl)
 some_stalled (x ∷ out) n some =
-    let there : nat_lt 0 (length (x ∷ out)) ≡ true = grind (arith, nat_tests) in
-    ap (λ (b : Bool). if b && (0 == 0) then one_more n else n) there
+    let no_zero : (length (x ∷ out) == 0) ≡ false = grind (arith, nat_tests) in
+    ap (λ (b : Bool). if b then n else if 0 == 0 then one_more n else n) no_zero
 
 idle_at_line : {X : Type 0} (see : X → LineView) (old new : SimState X) (t : Exchange) → Exchanges see old new t → StoodStill new.machine t → IsIdleAtLine see old new
 idle_at_line see old new t deals still = record {
@@ -93,8 +94,10 @@ turn_was_over see s over = record {
   exchanges = record {
     came = sym (append-nil (see s.line).received);
     room = tt;
+    some_room = λ r none. cc;
     went = sym (append-nil (see s.line).sent);
     offers = none_out s.machine over;
+    parts = refl;
     calls_are = refl;
     stalled_are = refl;
     empty_are = refl;

@@ -1,10 +1,10 @@
 -- What the parts of a turn do, or why they do nothing.
-use Rattle.std.specs.Prelude.{◌≡◌, ◌≢◌, ℕ, zero, suc, ◌<◌, ◌≤◌, nat_lt, ◌==◌, Bool, true, false, List, [], ◌∷◌, ◌++◌, length, take, drop, Option, Some, None, option_map, refl}
+use Rattle.std.specs.Prelude.{◌≡◌, ◌≢◌, ℕ, zero, suc, ◌<◌, ◌≤◌, nat_lt, ◌==◌, ◌&&◌, Bool, true, false, List, [], ◌∷◌, ◌++◌, length, take, drop, Option, Some, None, option_map, refl, if◌then◌else◌}
 use Rattle.std.proofs.Common.{arith, sym, ap, ◌∙◌, append-nil, length-take, take-append-drop}
 use Rattle.std.proofs.lemmas.Bool.Decides.{nat_tests}
 use Rattle.std.proofs.lemmas.List.{nil_from_length}
 use Rattle.std.proofs.Math.Seq.{take-length}
-use Rattle.serial_line.specs.Counts.{counted_if_none}
+use Rattle.serial_line.specs.Counts.{one_more, counted_if_none}
 use Rattle.serial_line.specs.LineViews.{LineView, after_read, after_write}
 use Rattle.mux_frame.specs.Frames.{Frame}
 use Rattle.mux_frame.specs.Deframing.{Deframing, TakesIn}
@@ -12,6 +12,8 @@ use Rattle.modem_sim.specs.Sims.{SimMachine}
 use Rattle.mux_station.specs.Giving.{next_given}
 use Rattle.mux_station.specs.GivenFrames.{with_freshness}
 use Rattle.modem_sim.specs.Cores.{Core, IsHandedOn, gone_on}
+use Rattle.modem_history.specs.EveryTurn.{counted_none}
+use Rattle.modem_history.specs.Turns.{Read}
 use Rattle.modem_sim.specs.Stills.{Feeds, FeedsNone, LoadsNone, ReadsOnce, Writes}
 use Rattle.modem_sim.proofs.sims.SimPasts.{fed_fits, fetched_nothing, none_mapped}
 
@@ -106,6 +108,15 @@ loads_nothing old mid core fresh same none is handed = record {
 
 -- ## The line
 
+-- a call that could move octets and moved none is counted
+none_counted : (could n count : ℕ) → counted_if_none could n count ≡ counted_none could n count
+none_counted zero n count = refl
+none_counted (suc k) n count =
+    let some : nat_lt 0 (suc k) ≡ true = grind (arith, nat_tests) in
+    let no_zero : (suc k == 0) ≡ false = grind (arith, nat_tests) in
+    ap (λ (b : Bool). if b && (n == 0) then one_more count else count) some
+    ∙ sym (ap (λ (b : Bool). if b then count else if n == 0 then one_more count else count) no_zero)
+
 -- where no octets wait the line is offered none
 pub writes_nothing : (k : SimMachine) (l : LineView) → (length k.out == 0) ≡ true → Writes l l k k 0
 writes_nothing k l empty = record {
@@ -126,11 +137,15 @@ writes_nothing k l empty = record {
 pub writes_some : (old new : SimMachine) (l m : LineView) (n : ℕ) → (length old.out == 0) ≡ false → n ≤ length old.out → m ≡ after_write n old.out l → new ≡ record old { out = drop n old.out } → Writes l m old new n
 writes_some old new l m n some bound took is = record {
   write = Some (record { offered = old.out; count = n });
-  offers = record { some = some_of old.out some; bound = bound; first = record { rest = []; joins = append-nil old.out } };
+  offers = record {
+    some = some_length old.out (some_of old.out some);
+    bound = bound;
+    first = record { rest = []; joins = append-nil old.out ∙ sym (take-append-drop n old.out) };
+  };
   went = ap (λ (v : LineView). v.sent) took;
   none_came = ap (λ (v : LineView). v.received) took;
   calls_are = ap (λ (v : LineView). v.calls) took;
-  stalled_are = ap (λ (v : LineView). v.stalled_writes) took;
+  stalled_are = ap (λ (v : LineView). v.stalled_writes) took ∙ none_counted (length old.out) n l.stalled_writes;
   empty_stay = ap (λ (v : LineView). v.empty_reads) took;
   parts = take-append-drop n old.out;
   count_is = let long = length-take n old.out in omega (arith, long, bound);
@@ -143,6 +158,7 @@ pub reads_nothing : (k : SimMachine) (l : LineView) → (length k.unfed == 0) �
 reads_nothing k l some = record {
   read = None;
   room = tt;
+  some_room = λ r none. cc;
   reads = λ empty. absurd (some_of k.unfed some empty);
   reads_fed = λ there. absurd (there refl);
   came_are = sym (append-nil l.received);
@@ -155,11 +171,16 @@ reads_nothing k l some = record {
   none = λ empty none. absurd (some_of k.unfed some empty);
 }
 
+abbrev room_of : Option Read → ℕ
+room_of None = 0
+room_of (Some r) = r.room
+
 -- else it is read, with room for 512 octets
 pub reads_some : (old new : SimMachine) (l m : LineView) (octets : List ℕ) (n : ℕ) → (length old.unfed == 0) ≡ true → n ≤ 512 → n ≡ length octets → m ≡ after_read 512 n octets l → new ≡ record old { unfed = octets } → ReadsOnce l m old new (nat_lt 0 n)
 reads_some old new l m octets n empty bound count gave is = record {
   read = Some (record { room = 512; octets = octets });
-  room = record { some = omega arith; bound = omega (arith, bound, count) };
+  room = omega (arith, bound, count);
+  some_room = λ r is. let room : 512 ≡ r.room = ap room_of is in omega (arith, room);
   reads = λ _ none. cc;
   reads_fed = λ _. none_of old.unfed empty;
   came_are =
@@ -167,7 +188,9 @@ reads_some old new l m octets n empty bound count gave is = record {
       ∙ ap (λ xs. l.received ++ xs) (take-length octets);
   none_went = ap (λ (v : LineView). v.sent) gave;
   calls_are = ap (λ (v : LineView). v.calls) gave;
-  empty_are = ap (λ (v : LineView). v.empty_reads) gave ∙ ap (λ m. counted_if_none 512 m l.empty_reads) count;
+  empty_are =
+      ap (λ (v : LineView). v.empty_reads) gave
+      ∙ (ap (λ m. counted_if_none 512 m l.empty_reads) count ∙ none_counted 512 (length octets) l.empty_reads);
   stalled_stay = ap (λ (v : LineView). v.stalled_writes) gave;
   says = ap (nat_lt 0) count;
   kept = is ∙ ap (λ xs. record old { unfed = xs ++ octets }) (sym (none_of old.unfed empty));

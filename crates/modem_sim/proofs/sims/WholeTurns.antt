@@ -11,9 +11,10 @@ use Rattle.serial_line.specs.LineViews.{LineView}
 use Rattle.modem_sim.specs.Acts.{Act, is_step_act}
 use Rattle.modem_sim.specs.Cores.{Core, HasNoneToDo, HasPassed, IsHandedOn, holds_over}
 use Rattle.modem_sim.specs.Sims.{SimMachine, SimMachineGoes, SimState}
-use Rattle.modem_sim.specs.Turns.{Exchanges, Leaves, Offers, count_after, empty_after, has_changed, has_moved, is_fewer, is_work, left_of}
+use Rattle.modem_sim.specs.Turns.{Exchanges, Leaves, has_changed, has_moved, is_fewer, is_work, left_of}
 use Rattle.modem_sim.specs.Stills.{Feeds, FeedsNone, HasLoaded, HasNoneToLoad, Loads, LoadsBy, LoadsNone, ReadsOnce, StoodStill, TakesFrame, TakesNone, Writes, at_line, let_go, puts, puts_none, ready, some_wait}
-use Rattle.modem_history.specs.Turns.{Read, Write, calls_made, octets_read, octets_written}
+use Rattle.modem_history.specs.EveryTurn.{empty_after}
+use Rattle.modem_history.specs.Turns.{Offers, Read, Write, calls_made, counted, octets_read, octets_written}
 
 -- ## What moved
 
@@ -310,18 +311,22 @@ module _ {X : Type 0} (see : X → LineView) (l0 l2 l5 : X) (k0 k1 k2 k3 k4 k5 k
   deals_so = record {
     came = came_at_end;
     room = w.reads.room;
+    some_room = w.reads.some_room;
     went = sent_at_end;
-    offers = subst (λ (xs : List ℕ). Offers w.writes.write xs) (ap (λ (k : SimMachine). k.out) w.steps_rest) w.writes.offers;
-    calls_are = w.reads.calls_are ∙ ap (count_after (calls_made w.reads.read)) w.writes.calls_are ∙ both_made w.writes.write w.reads.read;
+    offers = subst (λ (k : SimMachine). Offers w.writes.write (left_of w.writes.write k.out)) w.steps_rest w.writes.offers;
+    parts = subst (λ (k : SimMachine). octets_written w.writes.write ++ left_of w.writes.write k.out ≡ k.out) w.steps_rest w.writes.parts;
+    calls_are =
+        w.reads.calls_are
+        ∙ (ap (λ (n : ℕ). counted n (calls_made w.reads.read)) w.writes.calls_are ∙ both_made (see l0).calls w.writes.write w.reads.read);
     stalled_are = w.reads.stalled_stay ∙ w.writes.stalled_are;
     empty_are = w.reads.empty_are ∙ ap (empty_after w.reads.read) w.writes.empty_stay;
   }
     where
-      both_made : (a : Option Write) (b : Option Read) → count_after (calls_made b) (count_after (calls_made a) (see l0).calls) ≡ count_after (calls_made a + calls_made b) (see l0).calls
-      both_made None None = refl
-      both_made None (Some b) = refl
-      both_made (Some a) None = refl
-      both_made (Some a) (Some b) = refl
+      both_made : (n : ℕ) (a : Option Write) (b : Option Read) → counted (counted n (calls_made a)) (calls_made b) ≡ counted n (calls_made a + calls_made b)
+      both_made n None None = refl
+      both_made n None (Some b) = refl
+      both_made n (Some a) None = refl
+      both_made n (Some a) (Some b) = omega arith
 
   -- behind the write the output has what the line didn't take
   pub left_at : k2.out ≡ left_of w.writes.write k0.out

@@ -19,7 +19,6 @@ use Rattle.mux_station.specs.Stations.{Channel, Station, channel_at, setting_of}
 use Rattle.mux_station.specs.Fitting.{StationFits}
 use Rattle.mux_station.specs.Getting.{TurnsBy, opens_by, all_turned_in, message_taken}
 use Rattle.mux_station.specs.Noting.{noted_by_table, noted_of_probe, noted_by_message, noted_of, says_open, says_info, NotesWhatHappens, NotedTruly}
-use Rattle.mux_station.proofs.states.OpenedStates.{opened_is_open}
 use Rattle.mux_station.proofs.user_calls.OpenAndClose.{is_opened_state}
 use Rattle.mux_station.proofs.received.StatesAfterFrames.{state_own, state_other, opens_own}
 use Rattle.mux_station.proofs.received.TableFrames.{zero_fits, turned_closed, zero_place, zero_others}
@@ -175,7 +174,7 @@ shut_all v f past h d l = (h.channels_are d l).state_is ∙ by_zero (d == 0) ref
     by_zero false e = ap (λ (c : Channel). c.state) (zero_others v IsShut d l e)
 
 open_state : (r : Role) (past : List Act) (d : ℕ) (b : Bool) → is_open r d past ≡ b → is_opened (state_of r d past) ≡ b
-open_state r past d b h = opened_is_open r past d ∙ h
+open_state r past d b h = h
 
 noted_by_row : (r : Role) (v : StationView) (f : Frame) → is_on Uih 0 f ≡ false → noted_of r v f ≡ noted_by_table r f.dlci (v.state 0) (v.state f.dlci) f.kind
 noted_by_row r v f i = ap (λ (b : Bool). if b then noted_by_message (v.state 0) v.probe (message_of f.info) else noted_by_table r f.dlci (v.state 0) (v.state f.dlci) f.kind) i
@@ -226,8 +225,7 @@ table_notes v past f i h n l =
       opened = ap says_open noted ∙ ((table_says v.role f.dlci z s f.kind).opens ∙ (ap (λ (x : State). opens_by v.role ((f.dlci == 0) || is_opened z) x f.kind) own.state_is ∙ sym (opens_own v.role past f (channel_at v f.dlci) own)));
       info = ap says_info noted
           ∙ ((table_says v.role f.dlci z s f.kind).info
-          ∙ (ap (λ (b : Bool). is_kind f.kind Uih && b) (opened_is_open v.role past f.dlci)
-          ∙ ap (λ (b : Bool). b && is_open v.role f.dlci past) (no_data (is_kind f.kind Uih) (f.dlci == 0) i)));
+          ∙ ap (λ (b : Bool). b && is_open v.role f.dlci past) (no_data (is_kind f.kind Uih) (f.dlci == 0) i));
       all_shut = λ e d k. table_shut v past f (f.dlci == 0) refl i h n l (ap says_all (sym noted ∙ e)) d k;
       closes_all = λ o c. all_closed (noted_of v.role (station_view (setting_of v) past) f)
           (ap says_all noted ∙ row_closes v past f (f.dlci == 0) refl i (open_state v.role past 0 true o) (open_state v.role (Got f ∷ past) 0 false c));

@@ -6,8 +6,8 @@ use Rattle.mux_station.specs.declared.role.Role.{Role}
 use Rattle.mux_station.specs.declared.role.Role.TheVariants.{Initiator, Responder}
 use Rattle.mux_station.specs.Written.{is_data_frame}
 use Rattle.mux_station.specs.Acts.{Call, Act, Called, Got, Sent, Tick, Lost, Given}
-use Rattle.mux_station.specs.Opening.{Standing, Standings, ends, opens, standing_after, standings_after, standings, since_after, since, opens_now, belongs}
-use Rattle.mux_station.specs.States.{State, States, states_after, states}
+use Rattle.mux_station.specs.Opening.{asks, ends, is_asked, is_mode_frame, is_open, opens, since_after, since, opens_now, belongs}
+use Rattle.mux_station.specs.States.{State, States, is_opened, states_after, states}
 use Rattle.mux_station.specs.Stopping.{last_said, got_says, msc_says, flow_says, is_stopped}
 use Rattle.mux_station.specs.Messages.{Message}
 use Rattle.mux_station.specs.Sending.{queue}
@@ -54,38 +54,30 @@ opens_none : (r : Role) (z k : Bool) (d : ℕ) (x : Call) → opens r z k d (Cal
 opens_none Initiator z k d x = refl
 opens_none Responder z k d x = refl
 
-called_standing : (r : Role) (z : Bool) (d : ℕ) (s : Standing) (x : Call) → standing_after r z d s (Called x) ≡ s
-called_standing r z d s x =
-    let none = none_and (not (d == 0)) in
-    ap (λ (b : Bool). record { is_open = b; is_asked = s.is_asked && not (ends z d (Called x)) }) (stays (opens r z s.is_asked d (Called x)) s.is_open (ends z d (Called x)) (opens_none r z s.is_asked d x) none)
-    ∙ ap (λ (b : Bool). record { is_open = s.is_open; is_asked = b }) (stays false s.is_asked (ends z d (Called x)) refl none)
+-- a call opens nothing, ends nothing and asks for nothing
+called_asked : (r : Role) (d : ℕ) (past : List Act) (x : Call) → is_asked r d (Called x ∷ past) ≡ is_asked r d past
+called_asked r d past x = stays false (is_asked r d past) (ends (is_open r 0 past) d (Called x)) refl (none_and (not (d == 0)))
 
-called_standings : (r : Role) (d : ℕ) (s : Standings) (x : Call) → standings_after r d s (Called x) ≡ s
-called_standings r d s x =
-    ap (λ (v : Standing). record { zero = v; own = standing_after r s.zero.is_open d s.own (Called x) }) (called_standing r s.zero.is_open 0 s.zero x)
-    ∙ ap (λ (v : Standing). record { zero = s.zero; own = v }) (called_standing r s.zero.is_open d s.own x)
+-- without the calls d is open where it was
+pub same_open : (r : Role) (d : ℕ) (past : List Act) → is_open r d (without_calls past) ≡ is_open r d past
+same_open r d past = ap (λ (s : States). is_opened s.own) (same_states r d past)
 
--- and stand the same, open or asked for
-pub same_standings : (r : Role) (d : ℕ) (past : List Act) → standings r d (without_calls past) ≡ standings r d past
-same_standings r d [] = refl
-same_standings r d (Called x ∷ past) = same_standings r d past ∙ sym (called_standings r d (standings r d past) x)
-same_standings r d (Got f ∷ past) = ap (λ (s : Standings). standings_after r d s (Got f)) (same_standings r d past)
-same_standings r d (Sent f ∷ past) = ap (λ (s : Standings). standings_after r d s (Sent f)) (same_standings r d past)
-same_standings r d (Tick ∷ past) = ap (λ (s : Standings). standings_after r d s Tick) (same_standings r d past)
-same_standings r d (Lost ∷ past) = ap (λ (s : Standings). standings_after r d s Lost) (same_standings r d past)
-same_standings r d (Given ∷ past) = ap (λ (s : Standings). standings_after r d s Given) (same_standings r d past)
+asked_after : (r : Role) (d : ℕ) (past : List Act) (a : Act) → is_asked r d (without_calls past) ≡ is_asked r d past → is_asked r d (a ∷ without_calls past) ≡ is_asked r d (a ∷ past)
+asked_after r d past a before =
+    ap (λ (b : Bool). asks d a || (b && not (is_mode_frame d a || ends (is_open r 0 (without_calls past)) d a))) before
+    ∙ ap (λ (b : Bool). asks d a || (is_asked r d past && not (is_mode_frame d a || ends b d a))) (same_open r 0 past)
+
+-- and asked for where it was
+pub same_asked : (r : Role) (d : ℕ) (past : List Act) → is_asked r d (without_calls past) ≡ is_asked r d past
+same_asked r d [] = refl
+same_asked r d (Called x ∷ past) = same_asked r d past ∙ sym (called_asked r d past x)
+same_asked r d (Got f ∷ past) = asked_after r d past (Got f) (same_asked r d past)
+same_asked r d (Sent f ∷ past) = asked_after r d past (Sent f) (same_asked r d past)
+same_asked r d (Tick ∷ past) = asked_after r d past Tick (same_asked r d past)
+same_asked r d (Lost ∷ past) = asked_after r d past Lost (same_asked r d past)
+same_asked r d (Given ∷ past) = asked_after r d past Given (same_asked r d past)
 
 -- ## What follows an opening
-
-abbrev opens_at : Role → ℕ → Standings → Act → Bool
-opens_at r d s a = opens r s.zero.is_open s.own.is_asked d a
-
-abbrev belongs_at : Role → ℕ → Standings → Act → Bool
-belongs_at r d s a = s.own.is_open && not (ends s.zero.is_open d a)
-
--- one act further, by how 0 and d stand
-abbrev since_at : Role → ℕ → Standings → Act → List Act → List Act
-since_at r d s a rest = since_after (opens_at r d s a) (belongs_at r d s a) a rest
 
 kept_after : (b c : Bool) (a : Act) (rest : List Act) → without_calls (a ∷ []) ≡ a ∷ [] → without_calls (since_after b c a rest) ≡ since_after b c a (without_calls rest)
 kept_after true true a rest h = refl
@@ -108,11 +100,15 @@ called_after false false x rest h = refl
 
 -- an act that is no call
 more : (r : Role) (d : ℕ) (past : List Act) (a : Act) → without_calls (a ∷ []) ≡ a ∷ [] → since r d (without_calls past) ≡ without_calls (since r d past)
-    → since_at r d (standings r d (without_calls past)) a (since r d (without_calls past)) ≡ without_calls (since r d (a ∷ past))
+    → since r d (a ∷ without_calls past) ≡ without_calls (since r d (a ∷ past))
 more r d past a h before =
-    ap (λ (s : Standings). since_at r d s a (since r d (without_calls past))) (same_standings r d past)
-    ∙ (ap (since_at r d (standings r d past) a) before
-    ∙ sym (kept_after (opens_now r d past a) (belongs r d past a) a (since r d past) h))
+    let rest = since r d (without_calls past) in
+    let zero = same_open r 0 past in
+    ap (λ (z : Bool). since_after (opens r z (is_asked r d (without_calls past)) d a) (is_open r d (without_calls past) && not (ends z d a)) a rest) zero
+    ∙ (ap (λ (k : Bool). since_after (opens r (is_open r 0 past) k d a) (is_open r d (without_calls past) && not (ends (is_open r 0 past) d a)) a rest) (same_asked r d past)
+    ∙ (ap (λ (o : Bool). since_after (opens_now r d past a) (o && not (ends (is_open r 0 past) d a)) a rest) (same_open r d past)
+    ∙ (ap (since_after (opens_now r d past a) (belongs r d past a) a) before
+    ∙ sym (kept_after (opens_now r d past a) (belongs r d past a) a (since r d past) h))))
 
 -- of what follows its opening only the calls are missing
 pub same_since : (r : Role) (d : ℕ) (past : List Act) → since r d (without_calls past) ≡ without_calls (since r d past)
@@ -145,10 +141,10 @@ same_stopped r d past =
     let p = without_calls past in
     let own = last_said (got_says (msc_says d)) (since r d p) in
     let all = last_said (got_says flow_says) (since r 0 p) in
-    ap (λ (s : Standings). not (d == 0) && ((s.own.is_open && own) || ((standings r 0 p).own.is_open && all))) (same_standings r d past)
-    ∙ (ap (λ (s : Standings). not (d == 0) && (((standings r d past).own.is_open && own) || (s.own.is_open && all))) (same_standings r 0 past)
-    ∙ (ap (λ (b : Bool). not (d == 0) && (((standings r d past).own.is_open && b) || ((standings r 0 past).own.is_open && all))) (same_last r d (msc_says d) past)
-    ∙ ap (λ (b : Bool). not (d == 0) && (((standings r d past).own.is_open && last_said (got_says (msc_says d)) (since r d past)) || ((standings r 0 past).own.is_open && b))) (same_last r 0 flow_says past)))
+    ap (λ (o : Bool). not (d == 0) && ((o && own) || (is_open r 0 p && all))) (same_open r d past)
+    ∙ (ap (λ (o : Bool). not (d == 0) && ((is_open r d past && own) || (o && all))) (same_open r 0 past)
+    ∙ (ap (λ (b : Bool). not (d == 0) && ((is_open r d past && b) || (is_open r 0 past && all))) (same_last r d (msc_says d) past)
+    ∙ ap (λ (b : Bool). not (d == 0) && ((is_open r d past && last_said (got_says (msc_says d)) (since r d past)) || (is_open r 0 past && b))) (same_last r 0 flow_says past)))
 
 -- ## What is sent
 
@@ -179,7 +175,7 @@ same_given r d past = ap (joined_octets (octets_sent d)) (same_since r d past) �
 pub leaves_no_trace : (r : Role) (d : ℕ) (past : List Act) → LeavesNoTrace r d past
 leaves_no_trace r d past = record {
   states_same = same_states r d past;
-  standings_same = same_standings r d past;
+  asked_same = same_asked r d past;
   since_same = same_since r d past;
   stopped_same = same_stopped r d past;
   queue_same = same_queue past;

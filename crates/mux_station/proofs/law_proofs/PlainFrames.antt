@@ -91,8 +91,8 @@ first_plain v (g ∷ q) f h is =
     let same : g ≡ f = cc in ap is_plain (sym same) ∙ (and_parts (is_plain g) (list_all is_plain q) h).0
 
 -- so it has at most what its kind may have
-pub plain_short : (f : Frame) → is_plain f ≡ true → length f.info ≤ 1024 → length f.info ≤ most_info 1024 f.kind
-plain_short f p h = by_kind f.kind p
+pub plain_within : (f : Frame) → is_plain f ≡ true → length f.info ≤ 1024 → length f.info ≤ most_info 1024 f.kind
+plain_within f p h = by_kind f.kind p
   where
     none : (length f.info == 0) ≡ true → length f.info ≤ 0
     none e = let x = eqb-true (length f.info) 0 e in omega (arith, x)

@@ -11,7 +11,7 @@ use Rattle.mux_station.specs.declared.role.Role.TheVariants.{Initiator, Responde
 use Rattle.mux_station.specs.Written.{is_kind, is_on}
 use Rattle.mux_station.specs.Messages.{Message, message_in, message_of, command_of, octet_is, cld, msc, msc_dlci, msc_stops, brings_command, brings_response}
 use Rattle.mux_station.specs.Acts.{Act, Got}
-use Rattle.mux_station.specs.Opening.{standings, opens_now, since}
+use Rattle.mux_station.specs.Opening.{is_asked, is_open, opens_now, since}
 use Rattle.mux_station.specs.States.{State, IsShut, IsOpening, IsOpened, IsClosing, IsStopping, is_opened, at_close_down, got_by, state_of}
 use Rattle.mux_station.specs.Stopping.{last_said, got_says, msc_says, flow_says, if_message}
 use Rattle.mux_station.specs.Sending.{Waiting, probe_of, zero_stays, brings_probe_back, refuses_probe}
@@ -22,7 +22,7 @@ use Rattle.mux_station.proofs.states.StatesAfterActs.{shut_now, untouched, goes_
 use Rattle.mux_station.proofs.user_calls.CallFrames.{all_untouched, probe_needs}
 use Rattle.mux_station.proofs.user_calls.OpenAndClose.{stop_in_past}
 use Rattle.mux_station.proofs.received.StatesAfterFrames.{ends_zero, stays_up, state_zero, state_beside_zero}
-use Rattle.mux_station.proofs.received.TableFrames.{kept, got_kept, zero_same, probe_gone, zero_place, zero_others}
+use Rattle.mux_station.proofs.received.TableFrames.{kept, got_kept, zero_stays_same, probe_gone, zero_place, zero_others}
 
 abbrev fresh : State → Channel
 fresh t = record { state = t; is_stopped = false; waiting = [] }
@@ -92,8 +92,8 @@ other_told v f past e o h l k =
 
 -- it opens no connection
 pub opens_none : (r : Role) (e : ℕ) (past : List Act) (f : Frame) → OnZero f → opens_now r e past (Got f) ≡ false
-opens_none Initiator e past f o = ap (λ (k : Kind). (is_kind k Ua && (f.dlci == e)) && (standings Initiator e past).own.is_asked) o.kind_is
-opens_none Responder e past f o = ap (λ (k : Kind). (is_kind k Sabm && (f.dlci == e)) && ((e == 0) || (standings Responder e past).zero.is_open)) o.kind_is
+opens_none Initiator e past f o = ap (λ (k : Kind). (is_kind k Ua && (f.dlci == e)) && is_asked Initiator e past) o.kind_is
+opens_none Responder e past f o = ap (λ (k : Kind). (is_kind k Sabm && (f.dlci == e)) && ((e == 0) || is_open Responder 0 past)) o.kind_is
 
 -- ## 0 is closed by it
 
@@ -141,7 +141,7 @@ passed v f past b up o p h = record {
   others_shut = h.others_shut;
   stop_of_all_is = λ t. all b up t;
   probe_is = got_kept (setting_of v) (zero_stays (setting_of v) past (Got f)) (probe_of (setting_of v) past) f
-      ∙ (ap (λ (z : Bool). kept z (message_in f) (probe_of (setting_of v) past)) (zero_same (setting_of v) past f none same)
+      ∙ (ap (λ (z : Bool). kept z (message_in f) (probe_of (setting_of v) past)) (zero_stays_same (setting_of v) past f none same)
       ∙ (probe b (ap is_opened (h.channels_are 0 (omega arith)).state_is ∙ up) ∙ h.probe_is));
   queue_is = h.queue_is;
   last_is = h.last_is;
@@ -279,7 +279,7 @@ running_fits v f m past w =
           ∙ (ap (λ (x : Option Bool). unwrap_or x (last_said (got_says flow_says) (since v.role 0 past))) (said v f m past flow_says w)
           ∙ ap (λ (b : Bool). unwrap_or (flow_says m) b) (w.fits.stop_of_all_is up));
       probe_is = got_kept (setting_of v) (zero_stays (setting_of v) past (Got f)) (probe_of (setting_of v) past) f
-          ∙ (ap (λ (z : Bool). kept z (message_in f) (probe_of (setting_of v) past)) (zero_same (setting_of v) past f none same ∙ (ap is_opened (w.fits.channels_are 0 (omega arith)).state_is ∙ up))
+          ∙ (ap (λ (z : Bool). kept z (message_in f) (probe_of (setting_of v) past)) (zero_stays_same (setting_of v) past f none same ∙ (ap is_opened (w.fits.channels_are 0 (omega arith)).state_is ∙ up))
           ∙ (ap (λ (x : Option Message). kept true x (probe_of (setting_of v) past)) w.read
           ∙ (probe_told m (probe_of (setting_of v) past) ∙ ap (λ (x : Option Waiting). probe_answered x m) w.fits.probe_is)));
       queue_is = w.fits.queue_is;

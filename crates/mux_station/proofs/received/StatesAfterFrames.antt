@@ -9,15 +9,14 @@ use Rattle.mux_station.specs.declared.role.Role.TheVariants.{Initiator, Responde
 use Rattle.mux_station.specs.Written.{is_kind, is_on}
 use Rattle.mux_station.specs.Messages.{Message, message_of, command_of, octet_is, cld, brings_command, brings_response}
 use Rattle.mux_station.specs.Acts.{Act, Got}
-use Rattle.mux_station.specs.Opening.{standings, opens_now}
+use Rattle.mux_station.specs.Opening.{is_asked, is_open, opens_now}
 use Rattle.mux_station.specs.States.{State, IsShut, IsOpening, IsOpened, IsClosing, IsStopping, is_opened, at_close_down, got_by, own_after, state_of}
 use Rattle.mux_station.specs.Tables.{is_opening, response_to, by_message, by_table}
 use Rattle.mux_station.specs.Sending.{without_room, got_refused}
 use Rattle.mux_station.specs.Stations.{Channel, Station, channel_at, setting_of, seen_in}
 use Rattle.mux_station.specs.Fitting.{ChannelFits}
 use Rattle.mux_station.specs.Getting.{opens_by, message_calls}
-use Rattle.mux_station.proofs.states.OpenedStates.{opened_is_open, opening_is_asked}
-use Rattle.mux_station.proofs.states.OpenByPlaces.{zero_same}
+use Rattle.mux_station.proofs.states.OpeningSteps.{opening_asked}
 use Rattle.mux_station.proofs.states.StatesAfterActs.{state_next}
 
 -- ## What a message calls for
@@ -159,8 +158,8 @@ state_beside_zero r e past f z o k =
 
 -- the frame opens no other connection than its own
 pub opens_elsewhere : (r : Role) (e : ℕ) (past : List Act) (f : Frame) → (f.dlci == e) ≡ false → opens_now r e past (Got f) ≡ false
-opens_elsewhere Initiator e past f k = ap (λ (b : Bool). b && (standings Initiator e past).own.is_asked) (elsewhere Ua e f k)
-opens_elsewhere Responder e past f k = ap (λ (b : Bool). b && ((e == 0) || (standings Responder e past).zero.is_open)) (elsewhere Sabm e f k)
+opens_elsewhere Initiator e past f k = ap (λ (b : Bool). b && is_asked Initiator e past) (elsewhere Ua e f k)
+opens_elsewhere Responder e past f k = ap (λ (b : Bool). b && ((e == 0) || is_open Responder 0 past)) (elsewhere Sabm e f k)
 
 opening_not_opened : (s : State) → is_opened s ≡ true → is_opening s ≡ false
 opening_not_opened IsShut h = cc
@@ -173,12 +172,12 @@ and_on : (b : Bool) → (b && true) ≡ b
 and_on true = refl
 and_on false = refl
 
-asked_opening : (d : ℕ) (past : List Act) (c : Channel) (b : Bool) → is_opened c.state ≡ b → ChannelFits Initiator d past c → (standings Initiator d past).own.is_asked ≡ is_opening c.state
+asked_opening : (d : ℕ) (past : List Act) (c : Channel) (b : Bool) → is_opened c.state ≡ b → ChannelFits Initiator d past c → is_asked Initiator d past ≡ is_opening c.state
 asked_opening d past c true o h = h.unasked o ∙ sym (opening_not_opened c.state o)
 asked_opening d past c false o h =
-    let t = (standings Initiator d past).own in
-    let shut : t.is_open ≡ false = sym (opened_is_open Initiator past d) ∙ (ap is_opened h.state_is ∙ o) in
-    sym (and_on t.is_asked) ∙ (ap (λ (b : Bool). t.is_asked && not b) (sym shut) ∙ (sym (opening_is_asked d past) ∙ ap is_opening h.state_is))
+    let t = is_asked Initiator d past in
+    let shut : is_open Initiator d past ≡ false = ap is_opened h.state_is ∙ o in
+    sym (and_on t) ∙ (ap (λ (b : Bool). t && not b) (sym shut) ∙ (sym (opening_asked d past) ∙ ap is_opening h.state_is))
 
 on_own : (k : Kind) (f : Frame) → is_on k f.dlci f ≡ is_kind f.kind k
 on_own k f = ap (λ (b : Bool). is_kind f.kind k && b) (eq-eqb f.dlci f.dlci refl) ∙ and_on (is_kind f.kind k)
@@ -186,8 +185,7 @@ on_own k f = ap (λ (b : Bool). is_kind f.kind k && b) (eq-eqb f.dlci f.dlci ref
 -- whether it opens its own
 pub opens_own : (r : Role) (past : List Act) (f : Frame) (c : Channel) → ChannelFits r f.dlci past c → opens_now r f.dlci past (Got f) ≡ opens_by r ((f.dlci == 0) || is_opened (state_of r 0 past)) c.state f.kind
 opens_own Initiator past f c h =
-    ap (λ (b : Bool). b && (standings Initiator f.dlci past).own.is_asked) (on_own Ua f)
+    ap (λ (b : Bool). b && is_asked Initiator f.dlci past) (on_own Ua f)
     ∙ ap (λ (b : Bool). is_kind f.kind Ua && b) (asked_opening f.dlci past c (is_opened c.state) refl h)
 opens_own Responder past f c h =
-    ap (λ (b : Bool). b && ((f.dlci == 0) || (standings Responder f.dlci past).zero.is_open)) (on_own Sabm f)
-    ∙ ap (λ (b : Bool). is_kind f.kind Sabm && ((f.dlci == 0) || b)) (zero_same Responder f.dlci past ∙ sym (opened_is_open Responder past 0))
+    ap (λ (b : Bool). b && ((f.dlci == 0) || is_open Responder 0 past)) (on_own Sabm f)

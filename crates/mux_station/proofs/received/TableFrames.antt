@@ -69,15 +69,15 @@ and_off true = refl
 and_off false = refl
 
 -- 0 stays as it is
-pub zero_same : (s : StationSetting) (past : List Act) (f : Frame) → opens_now s.role 0 past (Got f) ≡ false → state_of s.role 0 (Got f ∷ past) ≡ state_of s.role 0 past → zero_stays s past (Got f) ≡ is_opened (state_of s.role 0 past)
-zero_same s past f n e =
+pub zero_stays_same : (s : StationSetting) (past : List Act) (f : Frame) → opens_now s.role 0 past (Got f) ≡ false → state_of s.role 0 (Got f ∷ past) ≡ state_of s.role 0 past → zero_stays s past (Got f) ≡ is_opened (state_of s.role 0 past)
+zero_stays_same s past f n e =
     ap (λ (b : Bool). is_opened (state_of s.role 0 (Got f ∷ past)) && not b) n ∙ (and_on (is_opened (state_of s.role 0 (Got f ∷ past))) ∙ ap is_opened e)
 
 probe_same : (s : StationSetting) (past : List Act) (f : Frame) → is_on Uih 0 f ≡ false → opens_now s.role 0 past (Got f) ≡ false → state_of s.role 0 (Got f ∷ past) ≡ state_of s.role 0 past → probe_of s (Got f ∷ past) ≡ probe_of s past
 probe_same s past f h n e =
     let z = is_opened (state_of s.role 0 past) in
     got_kept s (zero_stays s past (Got f)) (probe_of s past) f
-    ∙ (ap (λ (b : Bool). kept b (message_in f) (probe_of s past)) (zero_same s past f n e)
+    ∙ (ap (λ (b : Bool). kept b (message_in f) (probe_of s past)) (zero_stays_same s past f n e)
     ∙ (ap (λ (m : Option Message). kept z m (probe_of s past)) (no_message_in f h)
     ∙ kept_none z (probe_of s past) (λ (k : z ≡ false). probe_needs s past k)))
 

@@ -11,8 +11,8 @@ use Rattle.mux_station.specs.declared.role.Role.TheVariants.{Initiator, Responde
 use Rattle.mux_station.specs.Written.{is_kind}
 use Rattle.mux_station.specs.Messages.{cld, octet_is, message_of, command_of}
 use Rattle.mux_station.specs.Acts.{Act, Called, Got, Sent, Tick, Lost, Given}
-use Rattle.mux_station.specs.Opening.{Standing, standing_after, standings, ends_itself}
-use Rattle.mux_station.specs.States.{State, IsShut, IsOpening, IsOpened, IsClosing, IsStopping, is_opened, at_tick, at_sent, got_by, at_close_down, own_after, states, state_of, OpenedIsOpen}
+use Rattle.mux_station.specs.OpeningRule.{Standing, standing_after, standings, OpenedIsOpen}
+use Rattle.mux_station.specs.States.{State, IsShut, IsOpening, IsOpened, IsClosing, IsStopping, is_opened, at_tick, at_sent, got_by, at_close_down, own_after, states, state_of, ends_itself}
 use Rattle.mux_station.specs.Tables.{is_opening as opening}
 
 beq_same : (b c : Bool) → beq b c ≡ true → b ≡ c

@@ -3,13 +3,13 @@ use Rattle.std.specs.Prelude.{◌≡◌, ℕ, ◌&&◌, ◌||◌, not, Bool, tru
 use Rattle.std.proofs.Common.{◌∙◌, ap, sym, append_assoc, append-nil}
 use Rattle.mux_station.specs.declared.role.Role.{Role}
 use Rattle.mux_station.specs.Acts.{Act}
-use Rattle.mux_station.specs.Opening.{asks, is_mode_frame, ends, is_open, standings, since, since_after, opens_now, belongs}
+use Rattle.mux_station.specs.Opening.{asks, is_mode_frame, ends, is_asked, is_open, since, since_after, opens_now, belongs}
 use Rattle.mux_station.specs.States.{State, IsOpened, is_opened, own_after, joined, states, state_of}
 use Rattle.mux_station.specs.Stopping.{last_said, got_says, msc_says}
 use Rattle.mux_station.specs.Offering.{offered, data_out, octets_offered, octets_sent, joined_octets}
 use Rattle.mux_station.specs.Stations.{Channel}
 use Rattle.mux_station.specs.Fitting.{ChannelFits}
-use Rattle.mux_station.proofs.states.OpenedStates.{opened_is_open}
+use Rattle.mux_station.proofs.states.OpeningSteps.{is_open_after}
 
 -- ## States
 
@@ -38,7 +38,7 @@ state_next r d past a = ap (λ (z : State). next_state r d z (state_of r d past)
 
 -- a connection that is Opened is open
 pub opened_open : (r : Role) (d : ℕ) (past : List Act) (s : State) → state_of r d past ≡ s → is_opened s ≡ true → is_open r d past ≡ true
-opened_open r d past s e o = sym (opened_is_open r past d) ∙ (ap is_opened e ∙ o)
+opened_open r d past s e o = ap is_opened e ∙ o
 
 none_opened : (s : State) → is_opened s ≡ false → is_opened s ≡ true → ⊥
 none_opened s f t = let e : false ≡ true = sym f ∙ t in cc
@@ -70,10 +70,9 @@ pub opened_now : (r : Role) (d : ℕ) (past : List Act) (a : Act) → opens_now 
     → state_of r d (a ∷ past) ≡ IsOpened → ChannelFits r d (a ∷ past) (record { state = IsOpened; is_stopped = false; waiting = [] })
 opened_now r d past a o k w e =
     let none = since_opens r d past a o in
-    let s = standings r d past in
     record {
       state_is = e;
-      unasked = λ t. or_false (asks d a) (s.own.is_asked && not (is_mode_frame d a || ends s.zero.is_open d a)) k (asked_off s.own.is_asked (is_mode_frame d a) (ends s.zero.is_open d a) w);
+      unasked = λ t. or_false (asks d a) (is_asked r d past && not (is_mode_frame d a || ends (is_open r 0 past) d a)) k (asked_off (is_asked r d past) (is_mode_frame d a) (ends (is_open r 0 past) d a) w);
       stop_is = λ t. ap (last_said (got_says (msc_says d))) none;
       ring_is = λ t. ap (joined_octets (octets_offered d)) none ∙ sym (append-nil (data_out r d (a ∷ past)) ∙ ap (joined_octets (octets_sent d)) none);
     }
@@ -85,7 +84,7 @@ stays_belongs true b h k = cc
 -- an act that doesn't open a connection, which is open after it, follows its opening
 pub since_goes_on : (r : Role) (d : ℕ) (past : List Act) (a : Act) → opens_now r d past a ≡ false → is_open r d (a ∷ past) ≡ true → since r d (a ∷ past) ≡ a ∷ since r d past
 since_goes_on r d past a o h =
-    let b : belongs r d past a ≡ true = stays_belongs (opens_now r d past a) (belongs r d past a) h o in
+    let b : belongs r d past a ≡ true = stays_belongs (opens_now r d past a) (belongs r d past a) (sym (is_open_after r d past a) ∙ h) o in
     ap (λ (v : Bool). since_after v (belongs r d past a) a (since r d past)) o ∙ ap (λ (v : Bool). since_after false v a (since r d past)) b
 
 asked_stays : (b e : Bool) (x : Bool) → b ≡ false → e ≡ false → (e || (b && x)) ≡ false
@@ -105,10 +104,9 @@ pub goes_on : (r : Role) (d : ℕ) (past : List Act) (a : Act) (c new : Channel)
     → ChannelFits r d (a ∷ past) new
 goes_on r d past a c new h o e t n k stops rings =
     let on : since r d (a ∷ past) ≡ a ∷ since r d past = since_goes_on r d past a n (opened_open r d (a ∷ past) new.state e t) in
-    let s = standings r d past in
     record {
       state_is = e;
-      unasked = λ v. asked_stays s.own.is_asked (asks d a) (not (is_mode_frame d a || ends s.zero.is_open d a)) (h.unasked o) k;
+      unasked = λ v. asked_stays (is_asked r d past) (asks d a) (not (is_mode_frame d a || ends (is_open r 0 past) d a)) (h.unasked o) k;
       stop_is = λ v. ap (last_said (got_says (msc_says d))) on ∙ (ap (λ (b : Bool). unwrap_or (got_says (msc_says d) a) b) (h.stop_is o) ∙ sym stops);
       ring_is = λ v. ap (joined_octets (octets_offered d)) on ∙ (offered_more (offered r d past) (data_out r d past) c.waiting (octets_offered d a) (octets_sent d a) new.waiting (h.ring_is o) rings
           ∙ ap (λ (w : List Act). joined_octets (octets_sent d) w ++ new.waiting) (sym on));

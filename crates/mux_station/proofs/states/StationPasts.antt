@@ -10,7 +10,6 @@ use Rattle.mux_frame.specs.Frames.{Frame}
 use Rattle.std.proofs.lemmas.List.{get_or-replicate}
 use Rattle.mux_station.specs.Stations.{Channel, Station, shut_channel, new_station, channel_at, stopped_in}
 use Rattle.mux_station.specs.Fitting.{ChannelFits, StationFits}
-use Rattle.mux_station.proofs.states.OpenedStates.{opened_is_open}
 
 and_same : (b x y : Bool) → (b ≡ true → x ≡ y) → (b && x) ≡ (b && y)
 and_same true x y h = h refl
@@ -18,7 +17,7 @@ and_same false x y h = refl
 
 -- a connection is open where its state is Opened
 pub open_fits : (v : Station) (past : List Act) (d : ℕ) → StationFits v past → d < 62 → is_open v.role d past ≡ is_opened (channel_at v d).state
-open_fits v past d h l = sym (opened_is_open v.role past d) ∙ ap is_opened (h.channels_are d l).state_is
+open_fits v past d h l = ap is_opened (h.channels_are d l).state_is
 
 -- and stopped where the station has it stopped
 pub stopped_fits : (v : Station) (past : List Act) (d : ℕ) → StationFits v past → d < 62 → stopped_in v d ≡ is_stopped v.role d past

@@ -11,7 +11,8 @@ use Rattle.mux_station.specs.declared.role.Role.TheVariants.{Initiator, Responde
 use Rattle.mux_station.specs.Written.{is_kind, is_on, written, is_data_frame}
 use Rattle.mux_station.specs.Messages.{cld, brings_command}
 use Rattle.mux_station.specs.Acts.{Act, Sent, Tick}
-use Rattle.mux_station.specs.Opening.{opens_now, ends_itself}
+use Rattle.mux_station.specs.Opening.{opens_now}
+use Rattle.mux_station.specs.States.{ends_itself}
 use Rattle.mux_station.specs.States.{State, IsShut, IsOpening, IsOpened, IsClosing, IsStopping, is_opened, at_sent, at_tick, own_after, state_of}
 use Rattle.mux_station.specs.Tables.{again, if_room, has_room, octets_of, ticked}
 use Rattle.mux_station.specs.Sending.{StationSetting, Waiting, station_view, is_loss, queue, probe_of, probe_after, zero_stays, called_frames, frames_seeing, sent_after}

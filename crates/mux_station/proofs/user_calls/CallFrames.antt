@@ -10,7 +10,8 @@ use Rattle.mux_station.specs.declared.error.StationError.TheVariants.{TooLong, N
 use Rattle.mux_station.specs.Written.{is_on, is_data_frame}
 use Rattle.mux_station.specs.Messages.{cld, brings_command}
 use Rattle.mux_station.specs.Acts.{Call, Open, Close, Probe, Stop, Flow, Offer, Act, Called, Got, Sent, Tick, Lost, Given}
-use Rattle.mux_station.specs.Opening.{since, opens_now, ends_itself}
+use Rattle.mux_station.specs.Opening.{since, opens_now}
+use Rattle.mux_station.specs.States.{ends_itself}
 use Rattle.mux_station.specs.States.{State, IsShut, IsOpening, IsOpened, IsClosing, IsStopping, is_opened, at_sent, at_tick, own_after, state_of}
 use Rattle.mux_station.specs.Stopping.{last_said, got_says, flow_says}
 use Rattle.mux_station.specs.Sending.{StationSetting, Waiting, station_view, refused, or_else, if_no_room, probe_after, probe_begun, zero_stays, probe_of}

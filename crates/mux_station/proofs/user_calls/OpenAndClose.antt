@@ -77,9 +77,9 @@ pub seen_queued : (v : Station) (past : List Act) → StationFits v past → oct
 seen_queued v past h = sym (ap octets_of h.queue_is)
 
 -- where a refusal is none, each of its parts is none
-pub none_else : (a b : Option StationError) → or_else a b ≡ None → (a ≡ None) × (b ≡ None)
-none_else None b h = (refl, h)
-none_else (Some e) b h = absurd (let g : Some e ≡ None = h in cc)
+pub neither_refuses : (a b : Option StationError) → or_else a b ≡ None → (a ≡ None) × (b ≡ None)
+neither_refuses None b h = (refl, h)
+neither_refuses (Some e) b h = absurd (let g : Some e ≡ None = h in cc)
 
 open_refused : StationSetting → ℕ → State → State → ℕ → Option StationError
 open_refused s d z o q =
@@ -119,7 +119,7 @@ is_shut_state (IsStopping n) h = cc
 -- an opening is taken only on a connection that is shut
 open_shut : (s : StationSetting) (v : StationView) (d : ℕ) → refused s v (Open d) ≡ None → v.state d ≡ IsShut
 open_shut s v d h =
-    let states = (none_else (refused_by_state v (Open d)) (if_no_room s v (Open d)) h).0 in
+    let states = (neither_refuses (refused_by_state v (Open d)) (if_no_room s v (Open d)) h).0 in
     let one = if_then_none (not (d == 0) && not (is_opened (v.state 0))) NotOpen _ states in
     let two = if_then_none (is_opened (v.state d)) AlreadyOpen _ one.1 in
     let three = if_then_none (not (is_shut (v.state d))) Busy None two.1 in
@@ -137,7 +137,7 @@ and_none true c h k = cc
 
 open_zero : (s : StationSetting) (v : StationView) (d : ℕ) → refused s v (Open d) ≡ None → (d == 0) ≡ false → is_opened (v.state 0) ≡ true
 open_zero s v d h z =
-    let states = (none_else (refused_by_state v (Open d)) (if_no_room s v (Open d)) h).0 in
+    let states = (neither_refuses (refused_by_state v (Open d)) (if_no_room s v (Open d)) h).0 in
     let one = if_then_none (not (d == 0) && not (is_opened (v.state 0))) NotOpen _ states in
     and_none (d == 0) (is_opened (v.state 0)) one.0 z
 
@@ -299,7 +299,7 @@ is_opened_state (IsStopping n) h = cc
 -- a close is taken only on a connection that is Opened, and not on 0
 close_opened : (s : StationSetting) (v : StationView) (d : ℕ) → refused s v (Close d) ≡ None → (v.state d ≡ IsOpened) × ((d == 0) ≡ false)
 close_opened s v d h =
-    let states = (none_else (refused_by_state v (Close d)) (if_no_room s v (Close d)) h).0 in
+    let states = (neither_refuses (refused_by_state v (Close d)) (if_no_room s v (Close d)) h).0 in
     let one = if_then_none (d == 0) ControlChannel _ states in
     let two = if_then_none (is_shut (v.state d)) NotOpen _ one.1 in
     let three = if_then_none (not (is_opened (v.state d))) Busy None two.1 in

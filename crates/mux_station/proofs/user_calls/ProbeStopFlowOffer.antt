@@ -20,7 +20,7 @@ use Rattle.mux_station.specs.Stations.{Channel, Station, shut_channel, channel_a
 use Rattle.mux_station.specs.Fitting.{ChannelFits, StationFits, StationHandles, SeesThePast}
 use Rattle.mux_station.proofs.states.StatesAfterActs.{state_next, shut_now, goes_on}
 use Rattle.mux_station.proofs.user_calls.CallFrames.{state_called, state_sent_uih, fits_sent, fits_called, all_sent, all_called, probe_sent, probe_called, probe_taken_on}
-use Rattle.mux_station.proofs.user_calls.OpenAndClose.{one_call, seen_state, seen_queued, none_else, if_then_none, not_false, stop_in_past, open_seen, close_seen}
+use Rattle.mux_station.proofs.user_calls.OpenAndClose.{one_call, seen_state, seen_queued, neither_refuses, if_then_none, not_false, stop_in_past, open_seen, close_seen}
 
 abbrev no_frames : List Frame
 no_frames = []
@@ -240,8 +240,8 @@ offer_opened : (v : Station) (d : ℕ) (octets : List ℕ) → offer_refused v d
 offer_opened v d octets h =
     let s = setting_of v in
     let w = seen_in v in
-    let first = (none_else (refused s w (Offer d octets)) _ h).0 in
-    let states = (none_else (refused_by_state w (Offer d octets)) (if_no_room s w (Offer d octets)) first).0 in
+    let first = (neither_refuses (refused s w (Offer d octets)) _ h).0 in
+    let states = (neither_refuses (refused_by_state w (Offer d octets)) (if_no_room s w (Offer d octets)) first).0 in
     let one = if_then_none (d == 0) ControlChannel _ states in
     let two = if_then_none (not (is_opened (w.state d))) NotOpen None one.1 in
     not_false (is_opened (w.state d)) two.0

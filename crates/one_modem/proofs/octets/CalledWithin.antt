@@ -1,5 +1,5 @@
 -- The frames that the tables, the control messages, ticks and flow call for are such as this N1 reads, where those that came are.
-use Rattle.std.proofs.Common.{ap, subst, arith, eqb-true}
+use Rattle.std.proofs.Common.{ap, sym, ◌∙◌, subst, arith, eqb-true}
 use Rattle.std.proofs.lemmas.Bool.{and_from, and_parts, le-leb, leb-true, lt-ltb, ltb-true}
 use Rattle.std.proofs.lemmas.List.{length-take}
 use Rattle.std.specs.Prelude.{◌≡◌, ℕ, zero, suc, ◌+◌, ◌*◌, ◌/◌, ◌≤◌, ◌<◌, ◌==◌, ◌%◌, ◌&&◌, ◌||◌, not, nat_le, nat_lt, Bool, true, false, List, [], ◌∷◌, ◌++◌, length, take, Option, Some, None, refl, if◌then◌else◌}
@@ -10,7 +10,8 @@ use Rattle.mux_frame.specs.declared.frame.Kind.TheVariants.{Sabm, Ua, Dm, Disc, 
 use Rattle.mux_station.specs.declared.role.Role.{Role}
 use Rattle.mux_station.specs.declared.role.Role.TheVariants.{Initiator, Responder}
 use Rattle.mux_station.specs.Acts.{Act, Called, Got, Sent, Given, Tick, Lost}
-use Rattle.mux_station.specs.Opening.{ends, is_open, opens, standings}
+use Rattle.mux_station.specs.Opening.{ends, is_open, opens, is_asked}
+use Rattle.mux_station.proofs.states.OpeningSteps.{is_open_after}
 use Rattle.mux_station.specs.Written.{is_kind, is_on, written}
 use Rattle.mux_station.specs.Messages.{Message, message_in, message_of, is_command, is_good_msc, is_msc, if_good, msc, nsc, cld, brings_command, response_of}
 use Rattle.mux_station.specs.States.{State, IsShut, IsOpening, IsOpened, IsClosing, IsStopping, is_opened}
@@ -184,8 +185,7 @@ opens_none Responder zero_open asked d Given h = refl
 
 was_open : (r : Role) (d : ℕ) (a : Act) (past : List Act) → no_frame a ≡ true → is_open r d (a ∷ past) ≡ true → is_open r d past ≡ true
 was_open r d a past h o =
-    let s = standings r d past in
-    by_second (opens r s.zero.is_open s.own.is_asked d a) s.own.is_open (not (ends s.zero.is_open d a)) (opens_none r s.zero.is_open s.own.is_asked d a h) o
+    by_second (opens r (is_open r 0 past) (is_asked r d past) d a) (is_open r d past) (not (ends (is_open r 0 past) d a)) (opens_none r (is_open r 0 past) (is_asked r d past) d a h) (sym (is_open_after r d past a) ∙ o)
   where
     by_second : (x y z : Bool) → x ≡ false → (x || (y && z)) ≡ true → y ≡ true
     by_second true y z e o = let no : true ≡ false = e in cc
@@ -200,8 +200,7 @@ pub open_low : (n1 d : ℕ) (r : Role) (past : List Act) → Within n1 (frames_g
 open_low n1 d r [] w o = let e : false ≡ true = o in absurd cc
 open_low n1 d r (Got f ∷ past) w o =
     let p = and_parts (is_within n1 f) (list_all (is_within n1) (frames_got past)) w in
-    let s = standings r d past in
-    opened_or (opens r s.zero.is_open s.own.is_asked d (Got f)) s.own.is_open (not (ends s.zero.is_open d (Got f))) o (opens_low n1 d r s.zero.is_open s.own.is_asked f p.0) (open_low n1 d r past p.1)
+    opened_or (opens r (is_open r 0 past) (is_asked r d past) d (Got f)) (is_open r d past) (not (ends (is_open r 0 past) d (Got f))) (sym (is_open_after r d past (Got f)) ∙ o) (opens_low n1 d r (is_open r 0 past) (is_asked r d past) f p.0) (open_low n1 d r past p.1)
 open_low n1 d r (Called c ∷ past) w o = open_low n1 d r past w (was_open r d (Called c) past refl o)
 open_low n1 d r (Sent f ∷ past) w o = open_low n1 d r past w (was_open r d (Sent f) past refl o)
 open_low n1 d r (Tick ∷ past) w o = open_low n1 d r past w (was_open r d Tick past refl o)

@@ -10,7 +10,8 @@ use Rattle.mux_frame.specs.declared.frame.Kind.TheVariants.{Sabm, Ua, Dm, Disc, 
 use Rattle.mux_station.specs.declared.role.Role.TheVariants.{Initiator, Responder}
 use Rattle.mux_station.specs.Acts.{Act, Called, Got, Sent, Tick, Lost, Given}
 use Rattle.mux_station.specs.Offering.{data_out, joined_octets, octets_sent}
-use Rattle.mux_station.specs.Opening.{ends, is_open, is_mode_frame, opens_now, since, standings}
+use Rattle.mux_station.specs.Opening.{ends, is_open, is_mode_frame, opens_now, since, is_asked}
+use Rattle.mux_station.proofs.states.OpeningSteps.{is_open_after}
 use Rattle.mux_station.specs.Sending.{StationLawful}
 use Rattle.mux_station.specs.Written.{is_data_frame, is_kind, is_on}
 use Rattle.modem_history.specs.Connections.{carries, info_of, info_sent, information_got, information_sent}
@@ -90,10 +91,10 @@ asked_before n1 d line p came = by_asked (sabms d (frames_got (far line))) refl
 -- ## The initiator
 
 abbrev asked : ℕ → List Act → Bool
-asked d past = (standings Initiator d past).own.is_asked
+asked d past = is_asked Initiator d past
 
 abbrev zero_open : ℕ → List Act → Bool
-zero_open d past = (standings Initiator d past).zero.is_open
+zero_open d past = is_open Initiator 0 past
 
 word_ends : (a b c k e w : Bool) → c ≡ true → (a && not ((b || (c || k)) || e)) ≡ false
 word_ends true true c k e w is = refl
@@ -168,7 +169,7 @@ idle d past a other same h = record {
   first = same_prefix _ _ (information_got Initiator d past) (info_in d (frames_got past)) (got_same Initiator d past a other) (ap (info_in d) same) h.first;
   all = λ e.
       got_same Initiator d past a other
-      ∙ (h.all (was_open (opens_now Initiator d past a) (is_open Initiator d past) (ends (zero_open d past) d a) (opens_none Initiator (zero_open d past) (asked d past) d a other) e)
+      ∙ (h.all (was_open (opens_now Initiator d past a) (is_open Initiator d past) (ends (zero_open d past) d a) (opens_none Initiator (zero_open d past) (asked d past) d a other) (sym (is_open_after Initiator d past a) ∙ e))
       ∙ ap (info_in d) (sym same));
 }
 
@@ -229,7 +230,7 @@ frame_comes n1 d line f p h = by_opens (is_on Ua d f && asked d past) refl
         record {
           first = same_prefix _ _ (after false) (info_in d (f ∷ frames_got past)) now refl (by_carry (carries d f) (is_open Initiator d past) refl refl);
           all = λ g.
-              let there = was_open (is_on Ua d f && asked d past) (is_open Initiator d past) (ends (zero_open d past) d (Got f)) e g in
+              let there = was_open (is_on Ua d f && asked d past) (is_open Initiator d past) (ends (zero_open d past) d (Got f)) e (sym (is_open_after Initiator d past (Got f)) ∙ g) in
               now ∙ grows (carries d f) (is_open Initiator d past) there (h.all there);
         }
 
@@ -259,7 +260,7 @@ sent_all n1 d (Sent f ∷ past) timeless lawful one =
         ∙ ap (λ z. z ++ f.info) before
     by_carry false e all before = before ∙ sym (append-nil (info_in d (frames_sent past)))
 sent_all n1 d (Got f ∷ past) timeless lawful one =
-    sent_same Responder d past (Got f) refl ∙ by_sabm (is_on Sabm d f) ((d == 0) || (standings Responder d past).zero.is_open) refl (sent_all n1 d past timeless lawful (asks_fewer d f (frames_got past) one))
+    sent_same Responder d past (Got f) refl ∙ by_sabm (is_on Sabm d f) ((d == 0) || is_open Responder 0 past) refl (sent_all n1 d past timeless lawful (asks_fewer d f (frames_got past) one))
   where
     by_sabm : (b z : Bool) → is_on Sabm d f ≡ b → information_sent Responder d past ≡ info_in d (frames_sent past) → (if b && z then [] else information_sent Responder d past) ≡ info_in d (frames_sent past)
     by_sabm true true e before =

@@ -7,7 +7,7 @@ use Rattle.mux_frame.specs.declared.frame.Kind.TheVariants.{Sabm}
 use Rattle.mux_station.specs.declared.role.Role.TheVariants.{Initiator, Responder}
 use Rattle.mux_station.specs.Acts as station
 use Rattle.mux_station.specs.Offering.{data_out}
-use Rattle.mux_station.specs.Opening.{is_open, opens_now, standings}
+use Rattle.mux_station.specs.Opening.{is_open, opens_now}
 use Rattle.mux_station.specs.Sending as sending
 use Rattle.mux_station.specs.Written.{is_on}
 use Rattle.at_text.specs.Dialects.{standard, is_solicited}
@@ -80,7 +80,7 @@ lines_heard d (station.Got f ∷ past) one behind =
     on_both d (lines_got Responder past) (lines_with Responder past f)
     ∙ (ap (λ z. z ++ lines_on d (lines_with Responder past f)) (lines_heard d past (asks_fewer d f (frames_got past) one) behind.1)
     ∙ (ap (λ z. lines (information_got Responder d past) ++ z) (with_on Responder d past f (f.dlci == d) refl)
-    ∙ (by_opens d past f one behind.1 (is_on Sabm d f) ((d == 0) || (standings Responder d past).zero.is_open) (carries d f) (is_open Responder d past) refl refl
+    ∙ (by_opens d past f one behind.1 (is_on Sabm d f) ((d == 0) || is_open Responder 0 past) (carries d f) (is_open Responder d past) refl refl
     ∙ ap lines (sym (got_grows Responder d past f)))))
   where
     by_opens : (d : ℕ) (past : List station.Act) (f : Frame) → AsksOne d (f ∷ frames_got past) → ComesBehind d (frames_got past) → (o z c i : Bool) → is_on Sabm d f ≡ o → carries d f ≡ c

@@ -10,13 +10,12 @@ use Rattle.mux_frame.specs.declared.frame.Kind.TheVariants.{Sabm, Ua, Dm, Disc, 
 use Rattle.mux_station.specs.declared.role.Role.TheVariants.{Responder}
 use Rattle.mux_station.specs.Acts.{Act, Call, Open, Close, Probe, Stop, Flow, Offer, Called, Got, Sent, Tick, Lost, Given}
 use Rattle.mux_station.specs.Messages.{Message, is_command, nsc, cld, brings_command, message_in, response_of}
-use Rattle.mux_station.specs.Opening.{ends, is_open, opens_now, standings}
+use Rattle.mux_station.specs.Opening.{ends, is_open, opens_now, is_asked}
+use Rattle.mux_station.proofs.states.OpeningSteps.{is_open_after}
 use Rattle.mux_station.specs.Sending.{StationSetting, frames_asked, called_frames, frames_seeing, is_loss, owed_frames, refused, station_view, StationLawful, Sends}
 use Rattle.mux_station.specs.States.{State, IsShut, IsOpening, IsOpened, IsClosing, IsStopping, is_opened, state_of}
 use Rattle.mux_station.specs.Tables.{by_frame, by_message, by_table, is_supported, message_frame, msc_after_opening, msc_frame, ready, held_up, response_to, ua_or_dm}
 use Rattle.mux_station.specs.Written.{is_data_frame, is_kind, is_on}
-use Rattle.mux_station.proofs.states.OpenedStates.{opened_is_open}
-use Rattle.mux_station.proofs.states.OpenByPlaces.{zero_same}
 use Rattle.modem_history.specs.Connections.{carries, info_of}
 use Rattle.modem_history.specs.TwoEnds.{frames_got, frames_sent}
 use Rattle.modem_history.proofs.commands.FramesOnLine.{info_in, info_none}
@@ -153,11 +152,11 @@ still_shut false true e g h = cc
 still_shut false false e g h = refl
 
 abbrev zero_open : ℕ → List Act → Bool
-zero_open d past = (standings Responder d past).zero.is_open
+zero_open d past = is_open Responder 0 past
 
 -- where d is shut at a responder, an act but a frame that comes leaves it so
 pub not_opening : (d : ℕ) (past : List Act) (a : Act) → is_got a ≡ false → is_open Responder d past ≡ false → is_open Responder d (a ∷ past) ≡ false
-not_opening d past a other was = still_shut (opens_now Responder d past a) (is_open Responder d past) (ends (zero_open d past) d a) (opens_none Responder (zero_open d past) (standings Responder d past).own.is_asked d a other) was
+not_opening d past a other was = is_open_after Responder d past a ∙ still_shut (opens_now Responder d past a) (is_open Responder d past) (ends (zero_open d past) d a) (opens_none Responder (zero_open d past) (is_asked Responder d past) d a other) was
 
 -- an act that brings and sends nothing, and calls for nothing that is UA
 plain : (n1 d : ℕ) (past : List Act) (a : Act) → is_got a ≡ false → frames_got (a ∷ past) ≡ frames_got past → frames_sent (a ∷ past) ≡ frames_sent past → owed_frames (answering n1) (a ∷ past) ≡ owed_frames (answering n1) past ++ called_frames (answering n1) past a → uas d (called_frames (answering n1) past a) ≡ false → Stands n1 d past → Stands n1 d (a ∷ past)
@@ -202,12 +201,6 @@ sent_control n1 d past f later is next h =
     }
 
 -- a frame comes
-opened_there : (past : List Act) (n : ℕ) → is_opened (state_of Responder n past) ≡ is_open Responder n past
-opened_there past n = opened_is_open Responder past n
-
-zero_there : (d : ℕ) (past : List Act) → zero_open d past ≡ is_opened (state_of Responder 0 past)
-zero_there d past = zero_same Responder d past ∙ sym (opened_there past 0)
-
 comes : (n1 d : ℕ) (past : List Act) (f : Frame) → IsTimeless past → Stands n1 d past → Stands n1 d (Got f ∷ past)
 comes n1 d past f timeless h =
     let s = answering n1 in
@@ -216,13 +209,13 @@ comes n1 d past f timeless h =
     record {
       shut = λ e.
           let parts = or_parts (is_on Sabm d f) (sabms d (frames_got past)) e in
-          unopened_by (is_on Sabm d f) parts.0 (h.shut parts.1);
+          is_open_after Responder d past (Got f) ∙ unopened_by (is_on Sabm d f) parts.0 (h.shut parts.1);
       sent_none = λ e. h.sent_none (or_parts (is_on Sabm d f) (sabms d (frames_got past)) e).1;
       owed_none = λ e.
           let parts = or_parts (is_on Sabm d f) (sabms d (frames_got past)) e in
           let closed : (f.dlci == d) ≡ true → is_opened (state_of Responder f.dlci past) ≡ false = λ here.
           let same : f.dlci ≡ d = eqb-true f.dlci d here in
-          opened_there past f.dlci ∙ ap (λ n. is_open Responder n past) same ∙ h.shut parts.1 in
+          ap (λ n. is_open Responder n past) same ∙ h.shut parts.1 in
           none_both d (owed_frames s past) fs (h.owed_none parts.1) (ap (uas d) now ∙ none_framed d (station_view s past).state f parts.0 closed);
       unopened = λ e g.
           let parts = none_parts d (owed_frames s past) fs g in
@@ -235,9 +228,9 @@ comes n1 d past f timeless h =
     by_opens : (b : Bool) → (is_on Sabm d f && ((d == 0) || zero_open d past)) ≡ b → uas d (by_frame Responder (λ n. state_of Responder n past) f) ≡ false → is_open Responder d past ≡ false → is_open Responder d (Got f ∷ past) ≡ false
     by_opens true is none was =
         let parts = and_parts (is_on Sabm d f) ((d == 0) || zero_open d past) is in
-        let some = some_framed d (λ n. state_of Responder n past) f parts.0 (ap (λ (z : Bool). (d == 0) || z) (sym (zero_there d past)) ∙ parts.1) in
+        let some = some_framed d (λ n. state_of Responder n past) f parts.0 parts.1 in
         absurd (let g : true ≡ false = sym some ∙ none in cc)
-    by_opens false is none was = still_shut (is_on Sabm d f && ((d == 0) || zero_open d past)) (is_open Responder d past) (ends (zero_open d past) d (Got f)) is was
+    by_opens false is none was = is_open_after Responder d past (Got f) ∙ still_shut (is_on Sabm d f && ((d == 0) || zero_open d past)) (is_open Responder d past) (ends (zero_open d past) d (Got f)) is was
 
 -- so they stand in each past that keeps the responder's tables, without ticks and losses
 pub stands : (n1 d : ℕ) (past : List Act) → IsTimeless past → StationLawful (answering n1) past → Stands n1 d past

@@ -12,10 +12,10 @@ use Rattle.mux_station.specs.declared.role.Role.TheVariants.{Initiator}
 use Rattle.mux_station.specs.Acts as station
 use Rattle.mux_station.specs.Messages.{Message, brings_command, brings_response, cld, is_command, message_in, nsc, response_of}
 use Rattle.mux_station.specs.Opening.{ends, is_mode_frame_on}
+use Rattle.mux_station.proofs.states.OpeningSteps.{is_open_after}
 use Rattle.mux_station.specs.States.{State, IsShut, IsOpening, IsOpened, IsClosing, IsStopping, is_opened}
 use Rattle.mux_station.specs.Tables.{by_flow, by_frame, by_message, by_table, held_up, is_opening, is_supported, message_frame, msc_frame, ready, response_to, ua_or_dm}
 use Rattle.mux_station.specs.Written.{is_data_frame, is_kind, is_on}
-use Rattle.mux_station.proofs.states.OpenByPlaces.{zero_same}
 use Rattle.modem_desk.specs.declared.request.Ask.{Ask}
 use Rattle.modem_desk.specs.declared.request.Ask.TheVariants.{OpenChannel, CloseChannel, Command, Probe, Stop}
 use Rattle.modem_desk.specs.declared.request.Answer.{Answer}
@@ -41,7 +41,7 @@ use Rattle.show_laws.proofs.openings.DriverOpen.{IsOnceLine, ends_by, follows, o
 use Rattle.show_laws.proofs.openings.ModemCloses.{cld_behind, clds_closed}
 use Rattle.show_laws.proofs.openings.OpenBelowZero.{below, first_owes, many_or, open_below, open_not_refused}
 use Rattle.show_laws.proofs.openings.QuietFrames.{asked_at, open_at, zero_at}
-use Rattle.show_laws.proofs.openings.ResponderCalls.{down_by_cld, every}
+use Rattle.show_laws.proofs.openings.ResponderCalls.{down_by_cld, each_frame}
 use Rattle.show_laws.proofs.stops.StopsBehindSabm.{opened_state, opening_state}
 use Rattle.show_laws.proofs.talks.EndedLines.{driver_stays}
 
@@ -69,17 +69,17 @@ response_quiet r None = omega arith
 response_quiet r (Some m) = responds_quiet r m (is_supported m.octet) (is_command m && not (m.octet == nsc)) refl
 
 -- a message that comes calls for no control command that asks
-pub message_quiet : (r : Role) (s : State) (f : Frame) → many commands (by_message r s f) ≤ 0
-message_quiet r IsOpened f = response_quiet r (message_in f)
-message_quiet r (IsStopping n) f = few_if commands 0 (brings_command cld f) (response_to r (message_in f)) [] (response_quiet r (message_in f)) (omega arith)
-message_quiet r IsShut f = omega arith
-message_quiet r (IsOpening n) f = omega arith
-message_quiet r (IsClosing n) f = omega arith
+pub message_asks_none : (r : Role) (s : State) (f : Frame) → many commands (by_message r s f) ≤ 0
+message_asks_none r IsOpened f = response_quiet r (message_in f)
+message_asks_none r (IsStopping n) f = few_if commands 0 (brings_command cld f) (response_to r (message_in f)) [] (response_quiet r (message_in f)) (omega arith)
+message_asks_none r IsShut f = omega arith
+message_asks_none r (IsOpening n) f = omega arith
+message_asks_none r (IsClosing n) f = omega arith
 
 -- nor is a UA or DM one
-pub mode_quiet : (r : Role) (d : ℕ) (b : Bool) → many commands (ua_or_dm r d b ∷ []) ≤ 0
-mode_quiet r d true = omega arith
-mode_quiet r d false = omega arith
+pub mode_asks_none : (r : Role) (d : ℕ) (b : Bool) → many commands (ua_or_dm r d b ∷ []) ≤ 0
+mode_asks_none r d true = omega arith
+mode_asks_none r d false = omega arith
 
 table_quiet : (d : ℕ) (channel own : State) (k : Kind) → ((d == 0) ≡ false → is_opening own ≡ false) → many commands (by_table Initiator d channel own k) ≤ 0
 table_quiet d channel own Ua h = by_open (is_opening own) (d == 0) refl h
@@ -88,15 +88,15 @@ table_quiet d channel own Ua h = by_open (is_opening own) (d == 0) refl h
     by_open false z e k = omega arith
     by_open true true e k = omega arith
     by_open true false e k = let t : true ≡ false = sym e ∙ k refl in cc
-table_quiet d channel own Sabm h = mode_quiet Initiator d false
-table_quiet d channel own Disc h = mode_quiet Initiator d (is_opened own)
+table_quiet d channel own Sabm h = mode_asks_none Initiator d false
+table_quiet d channel own Disc h = mode_asks_none Initiator d (is_opened own)
 table_quiet d channel own Dm h = omega arith
 table_quiet d channel own Uih h = omega arith
 
 by_frame_quiet : (r : Role) (state : ℕ → State) (f : Frame) → r ≡ Initiator → ((f.dlci == 0) ≡ false → is_opening (state f.dlci) ≡ false) → many commands (by_frame r state f) ≤ 0
 by_frame_quiet r state f is h =
     subst (λ (q : Role). many commands (by_frame q state f) ≤ 0) (sym is)
-    (few_if commands 0 (is_on Uih 0 f) (by_message Initiator (state 0) f) (by_table Initiator f.dlci (state 0) (state f.dlci) f.kind) (message_quiet Initiator (state 0) f) (table_quiet f.dlci (state 0) (state f.dlci) f.kind h))
+    (few_if commands 0 (is_on Uih 0 f) (by_message Initiator (state 0) f) (by_table Initiator f.dlci (state 0) (state f.dlci) f.kind) (message_asks_none Initiator (state 0) f) (table_quiet f.dlci (state 0) (state f.dlci) f.kind h))
 
 -- while 0 isn't Opened a request calls for none
 pub asked_quiet : (s : Setting) (v : HistoryView) (q : Request) (b : Bool) → is_none (at_once s v q) ≡ b → (ask : Ask) → q.ask ≡ ask → is_opened (v.state 0) ≡ false → many commands (if b then asking s.role ask else []) ≤ 0
@@ -119,28 +119,28 @@ asked_quiet s v q true e Stop is shut =
 
 -- ## One frame at once
 
-one_if : (b : Bool) (f : Frame) → many every (if b then f ∷ [] else []) ≤ 1
+one_if : (b : Bool) (f : Frame) → many each_frame (if b then f ∷ [] else []) ≤ 1
 one_if true f = omega arith
 one_if false f = omega arith
 
-response_alone : (r : Role) (o : Option Message) → many every (response_to r o) ≤ 1
+response_alone : (r : Role) (o : Option Message) → many each_frame (response_to r o) ≤ 1
 response_alone r None = omega arith
 response_alone r (Some m) =
-    few_if every 1 (is_supported m.octet) (message_frame r (response_of m.octet) m.value ∷ []) (if is_command m && not (m.octet == nsc) then message_frame r (response_of nsc) (m.octet ∷ []) ∷ [] else [])
+    few_if each_frame 1 (is_supported m.octet) (message_frame r (response_of m.octet) m.value ∷ []) (if is_command m && not (m.octet == nsc) then message_frame r (response_of nsc) (m.octet ∷ []) ∷ [] else [])
     (omega arith) (one_if (is_command m && not (m.octet == nsc)) (message_frame r (response_of nsc) (m.octet ∷ [])))
 
 -- a message calls for one frame at most
-pub message_alone : (r : Role) (s : State) (f : Frame) → many every (by_message r s f) ≤ 1
+pub message_alone : (r : Role) (s : State) (f : Frame) → many each_frame (by_message r s f) ≤ 1
 message_alone r IsOpened f = response_alone r (message_in f)
-message_alone r (IsStopping n) f = few_if every 1 (brings_command cld f) (response_to r (message_in f)) [] (response_alone r (message_in f)) (omega arith)
+message_alone r (IsStopping n) f = few_if each_frame 1 (brings_command cld f) (response_to r (message_in f)) [] (response_alone r (message_in f)) (omega arith)
 message_alone r IsShut f = omega arith
 message_alone r (IsOpening n) f = omega arith
 message_alone r (IsClosing n) f = omega arith
 
-table_alone : (d : ℕ) (channel own : State) (k : Kind) → many every (by_table Initiator d channel own k) ≤ 1
+table_alone : (d : ℕ) (channel own : State) (k : Kind) → many each_frame (by_table Initiator d channel own k) ≤ 1
 table_alone d channel own Ua = by_open (is_opening own) (d == 0)
   where
-    by_open : (o z : Bool) → many every (if o then (if z then [] else msc_frame Initiator d ready ∷ []) else []) ≤ 1
+    by_open : (o z : Bool) → many each_frame (if o then (if z then [] else msc_frame Initiator d ready ∷ []) else []) ≤ 1
     by_open false z = omega arith
     by_open true true = omega arith
     by_open true false = omega arith
@@ -149,12 +149,12 @@ table_alone d channel own Disc = omega arith
 table_alone d channel own Dm = omega arith
 table_alone d channel own Uih = omega arith
 
-by_frame_alone : (r : Role) (state : ℕ → State) (f : Frame) → r ≡ Initiator → many every (by_frame r state f) ≤ 1
+by_frame_alone : (r : Role) (state : ℕ → State) (f : Frame) → r ≡ Initiator → many each_frame (by_frame r state f) ≤ 1
 by_frame_alone r state f is =
-    subst (λ (q : Role). many every (by_frame q state f) ≤ 1) (sym is)
-    (few_if every 1 (is_on Uih 0 f) (by_message Initiator (state 0) f) (by_table Initiator f.dlci (state 0) (state f.dlci) f.kind) (message_alone Initiator (state 0) f) (table_alone f.dlci (state 0) (state f.dlci) f.kind))
+    subst (λ (q : Role). many each_frame (by_frame q state f) ≤ 1) (sym is)
+    (few_if each_frame 1 (is_on Uih 0 f) (by_message Initiator (state 0) f) (by_table Initiator f.dlci (state 0) (state f.dlci) f.kind) (message_alone Initiator (state 0) f) (table_alone f.dlci (state 0) (state f.dlci) f.kind))
 
-asked_alone : (r : Role) (ask : Ask) (b : Bool) → many every (if b then asking r ask else []) ≤ 1
+asked_alone : (r : Role) (ask : Ask) (b : Bool) → many each_frame (if b then asking r ask else []) ≤ 1
 asked_alone r ask false = omega arith
 asked_alone r (OpenChannel c) true = omega arith
 asked_alone r (CloseChannel c) true = omega arith
@@ -188,7 +188,7 @@ record Stops (s : Setting) (past : List driver.Act) : Type 0 where
   so_far : StopsAsking (frames_sent (wire past))
   shut : 1 ≤ many closes (frames_sent (wire past)) → (open_at 0 (wire past) ≡ false) × (asked_at 0 (wire past) ≡ false)
   none : 1 ≤ many closes (frames_sent (wire past)) → sends commands (owed s past) ≤ 0
-  alone : 1 ≤ sends closes (owed s past) → sends every (owed s past) ≤ 1
+  alone : 1 ≤ sends closes (owed s past) → sends each_frame (owed s past) ≤ 1
 
 -- ## While 0 isn't open
 
@@ -210,20 +210,20 @@ below_unasked s d past is l shut apart = by_asked (asked_at d (wire past)) refl
     by_asked false a = refl
     by_asked true a =
         let z = (below s d past is apart l).up (or_right (open_at d (wire past)) (asked_at d (wire past)) a) in
-        let t : true ≡ false = sym z ∙ (zero_same Initiator d (wire past) ∙ shut) in cc
+        let t : true ≡ false = sym z ∙ shut in cc
 
 -- ## One act
 
 more_quiet : (s : Setting) (past : List driver.Act) (a : driver.Act) → owes_frame (owed s past) ≡ false → many commands (frames_by s (seen_behind s past (owed s past)) a) ≤ 0 → sends commands (owed s past ++ calls_behind s past (owed s past) a) ≤ 0
 more_quiet s past a prompt none = let few = first_owes s past a commands prompt in omega (arith, few, none)
 
-more_alone : (s : Setting) (past : List driver.Act) (a : driver.Act) → owes_frame (owed s past) ≡ false → many every (frames_by s (seen_behind s past (owed s past)) a) ≤ 1 → sends every (owed s past ++ calls_behind s past (owed s past) a) ≤ 1
-more_alone s past a prompt one = let few = first_owes s past a every prompt in omega (arith, few, one)
+more_alone : (s : Setting) (past : List driver.Act) (a : driver.Act) → owes_frame (owed s past) ≡ false → many each_frame (frames_by s (seen_behind s past (owed s past)) a) ≤ 1 → sends each_frame (owed s past ++ calls_behind s past (owed s past) a) ≤ 1
+more_alone s past a prompt one = let few = first_owes s past a each_frame prompt in omega (arith, few, one)
 
 down_shuts : (f : Frame) (p : List station.Act) → brings_command cld f ≡ true → is_on Sabm 0 f ≡ false → (open_at 0 (station.Sent f ∷ p) ≡ false) × (asked_at 0 (station.Sent f ∷ p) ≡ false)
 down_shuts f p down sabm =
     let e : ends (zero_at 0 p) 0 (station.Sent f) ≡ true = or_left (is_on Disc 0 f || brings_command cld f) false (or_right (is_on Disc 0 f) (brings_command cld f) down) in
-    (off (open_at 0 p) (ends (zero_at 0 p) 0 (station.Sent f)) e, unasked (is_on Sabm 0 f) (asked_at 0 p) (is_mode_frame_on 0 f) (ends (zero_at 0 p) 0 (station.Sent f)) sabm e)
+    (is_open_after Initiator 0 p (station.Sent f) ∙ off (open_at 0 p) (ends (zero_at 0 p) 0 (station.Sent f)) e, unasked (is_on Sabm 0 f) (asked_at 0 p) (is_mode_frame_on 0 f) (ends (zero_at 0 p) 0 (station.Sent f)) sabm e)
   where
     off : (o e : Bool) → e ≡ true → (o && not e) ≡ false
     off true true h = refl
@@ -257,7 +257,7 @@ sent_data s past f is stays h =
       so_far = (λ m. let t : true ≡ false = sym m ∙ plain in cc, h.so_far);
       shut = λ some. stays (omega (arith, some, u));
       none = λ some. let e = ap (sends commands) same in let k = h.none (omega (arith, some, u)) in omega (arith, e, k);
-      alone = λ some. let e = ap (sends closes) same in let g = ap (sends every) same in let k = h.alone (omega (arith, some, e)) in omega (arith, g, k);
+      alone = λ some. let e = ap (sends closes) same in let g = ap (sends each_frame) same in let k = h.alone (omega (arith, some, e)) in omega (arith, g, k);
     }
   where
     off_zero : (k z c d : Bool) → (k && not z) ≡ true → (((k && z) && c) || ((k && z) && d)) ≡ false
@@ -275,10 +275,10 @@ sent_control s n1 stamps line f h is n stays k =
     let past = driver_past line in
     let same : owed s (driver.Sent f ∷ past) ≡ n.later = ap (λ (b : Bool). if b then owed s past else drop 1 (owed s past)) is ∙ ap (λ (xs : List driver.Act). drop 1 xs) n.is_next in
     let first : sends commands (owed s past) ≡ unit (commands f) + sends commands n.later = ap (sends commands) n.is_next in
-    let all : sends every (owed s past) ≡ 1 + sends every n.later = ap (sends every) n.is_next in
+    let all : sends each_frame (owed s past) ≡ 1 + sends each_frame n.later = ap (sends each_frame) n.is_next in
     let some_close : sends closes (owed s past) ≡ unit (closes f) + sends closes n.later = ap (sends closes) n.is_next in
     let left : sends commands (owed s (driver.Sent f ∷ past)) ≡ sends commands n.later = ap (sends commands) same in
-    let left_every : sends every (owed s (driver.Sent f ∷ past)) ≡ sends every n.later = ap (sends every) same in
+    let left_every : sends each_frame (owed s (driver.Sent f ∷ past)) ≡ sends each_frame n.later = ap (sends each_frame) same in
     let left_closes : sends closes (owed s (driver.Sent f ∷ past)) ≡ sends closes n.later = ap (sends closes) same in
     record {
       so_far = (λ m. none_before (commands f) refl m (omega (arith, first)), k.so_far);
@@ -316,14 +316,14 @@ sent_control s n1 stamps line f h is n stays k =
         or_split false y h g k = k h
 
     now_none : (b : Bool) → closes f ≡ b → 1 ≤ unit b + many closes (frames_sent (wire (driver_past line))) → sends commands (owed s (driver.Sent f ∷ driver_past line)) ≤ sends commands (owed s (driver_past line))
-        → (sends every (owed s (driver_past line)) ≤ 1 → sends every (owed s (driver.Sent f ∷ driver_past line)) ≤ 0) → sends commands (owed s (driver.Sent f ∷ driver_past line)) ≡ sends commands n.later → sends commands (owed s (driver.Sent f ∷ driver_past line)) ≤ 0
+        → (sends each_frame (owed s (driver_past line)) ≤ 1 → sends each_frame (owed s (driver.Sent f ∷ driver_past line)) ≤ 0) → sends commands (owed s (driver.Sent f ∷ driver_past line)) ≡ sends commands n.later → sends commands (owed s (driver.Sent f ∷ driver_past line)) ≤ 0
     now_none false e some fewer last same = let q = k.none (omega (arith, some)) in omega (arith, q, fewer)
     now_none true e some fewer last same =
         let u : unit (closes f) ≡ 1 = ap unit e in
         let c : sends closes (owed s (driver_past line)) ≡ unit (closes f) + sends closes n.later = ap (sends closes) n.is_next in
         let one = k.alone (omega (arith, u, c)) in
         let none = last one in
-        let fewer2 = many_fewer commands every (frames_in (owed s (driver.Sent f ∷ driver_past line))) (λ g e. refl) in
+        let fewer2 = many_fewer commands each_frame (frames_in (owed s (driver.Sent f ∷ driver_past line))) (λ g e. refl) in
         omega (arith, none, fewer2)
 
 -- ## The whole line
@@ -337,9 +337,9 @@ sent_stops s n1 stamps line f h false is n stays k = sent_control s n1 stamps li
 -- an act that calls for frames while none is owed
 calls : (s : Setting) (n1 : ℕ) (a : driver.Act) (line : List LineAct) → owes_frame (owed s (driver_past line)) ≡ false
     → (open_at 0 (wire (driver_past line)) ≡ false → many commands (frames_by s (seen_behind s (driver_past line) (owed s (driver_past line))) a) ≤ 0)
-    → (1 ≤ many closes (frames_by s (seen_behind s (driver_past line) (owed s (driver_past line))) a) → many every (frames_by s (seen_behind s (driver_past line) (owed s (driver_past line))) a) ≤ 1) → Stops s (driver_past line)
+    → (1 ≤ many closes (frames_by s (seen_behind s (driver_past line) (owed s (driver_past line))) a) → many each_frame (frames_by s (seen_behind s (driver_past line) (owed s (driver_past line))) a) ≤ 1) → Stops s (driver_past line)
     → (1 ≤ many closes (frames_sent (wire (driver_past line))) → sends commands (owed s (driver_past line) ++ calls_behind s (driver_past line) (owed s (driver_past line)) a) ≤ 0)
-    × (1 ≤ sends closes (owed s (driver_past line) ++ calls_behind s (driver_past line) (owed s (driver_past line)) a) → sends every (owed s (driver_past line) ++ calls_behind s (driver_past line) (owed s (driver_past line)) a) ≤ 1)
+    × (1 ≤ sends closes (owed s (driver_past line) ++ calls_behind s (driver_past line) (owed s (driver_past line)) a) → sends each_frame (owed s (driver_past line) ++ calls_behind s (driver_past line) (owed s (driver_past line)) a) ≤ 1)
 calls s n1 a line prompt quiet alone k =
     let past = driver_past line in (
       λ some. more_quiet s past a prompt (quiet (k.shut some).0),
@@ -369,13 +369,13 @@ stops s n1 stamps (AtDriver (driver.Sent f) ∷ line) h =
 stops s n1 stamps (AtDriver (driver.Told o) ∷ line) h =
     let k = stops s n1 stamps line (once_line_before s n1 (AtDriver (driver.Told o)) line h) in
     let c = dropped commands (owed s (driver_past line)) in
-    let e = dropped every (owed s (driver_past line)) in
+    let e = dropped each_frame (owed s (driver_past line)) in
     let d = dropped closes (owed s (driver_past line)) in
     record { so_far = k.so_far; shut = k.shut; none = λ some. let x = k.none some in omega (arith, x, c); alone = λ some. let x = k.alone (omega (arith, some, d)) in omega (arith, x, e) }
 stops s n1 stamps (AtDriver (driver.Heard u n l) ∷ line) h =
     let k = stops s n1 stamps line (once_line_before s n1 (AtDriver (driver.Heard u n l)) line h) in
     let c = dropped commands (owed s (driver_past line)) in
-    let e = dropped every (owed s (driver_past line)) in
+    let e = dropped each_frame (owed s (driver_past line)) in
     let d = dropped closes (owed s (driver_past line)) in
     record { so_far = k.so_far; shut = k.shut; none = λ some. let x = k.none some in omega (arith, x, c); alone = λ some. let x = k.alone (omega (arith, some, d)) in omega (arith, x, e) }
 stops s n1 stamps (AtDriver driver.Given ∷ line) h =
@@ -391,9 +391,9 @@ stops s n1 stamps (AtDriver driver.Lost ∷ line) h =
     let c = sends_both commands (unsent (owed s past)) (calls_behind s past (owed s past) driver.Lost) in
     let c1 = unsent_none commands (owed s past) in
     let c2 = called commands 0 s v driver.Lost (omega arith) in
-    let e = sends_both every (unsent (owed s past)) (calls_behind s past (owed s past) driver.Lost) in
-    let e1 = unsent_none every (owed s past) in
-    let e2 = called every 0 s v driver.Lost (omega arith) in
+    let e = sends_both each_frame (unsent (owed s past)) (calls_behind s past (owed s past) driver.Lost) in
+    let e1 = unsent_none each_frame (owed s past) in
+    let e2 = called each_frame 0 s v driver.Lost (omega arith) in
     record {
       so_far = k.so_far;
       shut = λ some. driver_stays 0 driver.Lost past h.once (sabm_before s n1 line older some) (k.shut some);

@@ -12,7 +12,6 @@ use Rattle.mux_station.specs.Messages.{brings_command, brings_response, cld, mes
 use Rattle.mux_station.specs.Opening.{is_open}
 use Rattle.mux_station.specs.Sending.{StationComplete, owed_frames}
 use Rattle.mux_station.specs.States.{is_opened, is_stopping, state_of}
-use Rattle.mux_station.proofs.states.OpenedStates.{opened_is_open}
 use Rattle.modem_history.specs.Acts.{wire}
 use Rattle.modem_history.specs.Calls.{Setting}
 use Rattle.modem_history.specs.Lawful.{Complete, owed}
@@ -33,13 +32,13 @@ use Rattle.show_laws.proofs.counts.DriverCounts.{sends}
 use Rattle.show_laws.proofs.lines.CapturedFrames.{shows}
 use Rattle.show_laws.proofs.openings.FreshAsks.{mode_answers}
 use Rattle.show_laws.proofs.openings.QuietFrames.{cld_asks}
-use Rattle.show_laws.proofs.openings.ResponderCalls.{down_answers, every}
+use Rattle.show_laws.proofs.openings.ResponderCalls.{down_answers, each_frame}
 use Rattle.show_laws.proofs.talks.TalkingLines.{down_is_answer}
 
 -- ## Three kinds of asks, and their answers
 
 -- all asks and all answers are such a triple
-pub all_asks : IsTriple every is_ask is_answer
+pub all_asks : IsTriple each_frame is_ask is_answer
 all_asks = record {
   asked = λ f e. let u : unit (is_ask f) ≡ 1 = ap unit e in omega (arith, u);
   answer = λ g e. e;
@@ -80,8 +79,7 @@ asking f c = by_asks (message_asks (message_in f)) refl
 
 down_in_time : (r : Role) (f : Frame) (past : List station.Act) → is_in_time r f past ≡ true → brings_command cld f ≡ true → (is_opened (state_of r 0 past) || is_stopping (state_of r 0 past)) ≡ true
 down_in_time r f past h c =
-    let x : (is_open r 0 past || is_stopping (state_of r 0 past)) ≡ true = sym (ap (λ (b : Bool). is_open r 0 past || (if b then is_stopping (state_of r 0 past) else list_any (brings_command cld) (frames_sent past))) c) ∙ h in
-    ap (λ (b : Bool). b || is_stopping (state_of r 0 past)) (opened_is_open r past 0) ∙ x
+    sym (ap (λ (b : Bool). is_open r 0 past || (if b then is_stopping (state_of r 0 past) else list_any (brings_command cld) (frames_sent past))) c) ∙ h
 
 downs_called : (r : Role) (past : List station.Act) → ReadsInTime r past → CallsEach r (brings_command cld) (brings_response cld) past
 downs_called r [] h = tt
@@ -103,7 +101,7 @@ all_called r [] h got sent = tt
 all_called r (station.Got f ∷ past) h got sent =
     let g = or_parts (closes f) (list_any closes (frames_got past)) got in
     let c = (or_parts (brings_command cld f) (brings_response cld f) g.0).0 in
-    (frame_enough r (λ e. state_of r e past) f (λ asks. opened_is_open r past 0 ∙ open_in_time r f past (h.0 asks) c sent), all_called r past h.1 g.1 sent)
+    (frame_enough r (λ e. state_of r e past) f (λ asks. open_in_time r f past (h.0 asks) c sent), all_called r past h.1 g.1 sent)
 all_called r (station.Sent f ∷ past) h got sent = all_called r past h got (or_parts (brings_command cld f) (list_any (brings_command cld) (frames_sent past)) sent).1
 all_called r (station.Called c ∷ past) h got sent = all_called r past h got sent
 all_called r (station.Tick ∷ past) h got sent = all_called r past h got sent
@@ -113,7 +111,7 @@ all_called r (station.Given ∷ past) h got sent = all_called r past h got sent
 -- ## At the end
 
 -- where none is counted no ask is left
-pub none_left : (asks : List Ask) → many_asks every asks ≤ 0 → asks ≡ []
+pub none_left : (asks : List Ask) → many_asks each_frame asks ≤ 0 → asks ≡ []
 none_left [] h = refl
 none_left (a ∷ asks) h = absurd (omega (arith, h))
 
@@ -128,7 +126,7 @@ record HasAnswered (r : Role) (line : List Caught) (asking_sent answering_sent :
   came : frames_to r line ≡ answering_sent
   few_modes : many_asks is_mode_command (waiting r line) + many is_mode_answer (frames_to r line) ≤ many is_mode_command (frames_of r line)
   few_downs : many_asks (brings_command cld) (waiting r line) + many (brings_response cld) (frames_to r line) ≤ many (brings_command cld) (frames_of r line)
-  few : many_asks every (waiting r line) + many is_answer (frames_to r line) ≤ many is_ask (frames_of r line)
+  few : many_asks each_frame (waiting r line) + many is_answer (frames_to r line) ≤ many is_ask (frames_of r line)
   modes_done : many is_mode_command asking_sent ≤ many is_mode_answer answering_sent
   downs_done : many (brings_command cld) asking_sent ≤ many (brings_response cld) answering_sent
   downs_back : many (brings_command cld) answering_sent ≤ many (brings_response cld) asking_sent
@@ -191,7 +189,7 @@ answers_all s n1 line h done once at_driver at_modem by_modem stamps =
     let seen = shows stamps line in
     let d = frames_sent (wire (driver_past line)) in
     let m = frames_sent (modem_past line) in
-    let few = few_wait s n1 stamps every is_ask is_answer all_asks line h in
+    let few = few_wait s n1 stamps each_frame is_ask is_answer all_asks line h in
     let few_modes = few_wait s n1 stamps is_mode_command is_mode_command is_mode_answer modes line h in
     let few_downs = few_wait s n1 stamps (brings_command cld) (brings_command cld) (brings_response cld) downs line h in
     let modes_d = driver_done s n1 line is_mode_command is_mode_answer h done (modes_called Initiator (wire (driver_past line))) in

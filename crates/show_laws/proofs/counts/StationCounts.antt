@@ -29,21 +29,21 @@ probe_short s v octets h = by_length (nat_le (length octets) 16) (if not (is_ope
     by_length false o p h = cc
 
 -- a call that isn't refused calls for no frame of the first test, nor does one that is
-pub asked : (P : List ℕ → Type 0) (s : StationSetting) (u t : Frame → Bool) → Balanced P s.n1 s.role u t → (v : StationView) (c : Call) (b : Bool) → is_none (refused s v c) ≡ b → many u (if b then frames_asked s.role c else []) ≤ 0
-asked P s u t k v c false e = omega arith
-asked P s u t k v (Open d) true e = none_one u (written s.role Sabm d []) (k.sabm d)
-asked P s u t k v (Close d) true e = none_one u (written s.role Disc d []) (k.disc d)
-asked P s u t k v (Probe octets) true e = none_one u (message_frame s.role test octets) (k.probe octets (k.short octets (probe_short s v octets e)))
-asked P s u t k v Stop true e = none_one u (message_frame s.role cld []) (k.command cld [] refl (omega arith))
-asked P s u t k v (Flow d go) true e =
+pub station_asked : (P : List ℕ → Type 0) (s : StationSetting) (u t : Frame → Bool) → Balanced P s.n1 s.role u t → (v : StationView) (c : Call) (b : Bool) → is_none (refused s v c) ≡ b → many u (if b then frames_asked s.role c else []) ≤ 0
+station_asked P s u t k v c false e = omega arith
+station_asked P s u t k v (Open d) true e = none_one u (written s.role Sabm d []) (k.sabm d)
+station_asked P s u t k v (Close d) true e = none_one u (written s.role Disc d []) (k.disc d)
+station_asked P s u t k v (Probe octets) true e = none_one u (message_frame s.role test octets) (k.probe octets (k.short octets (probe_short s v octets e)))
+station_asked P s u t k v Stop true e = none_one u (message_frame s.role cld []) (k.command cld [] refl (omega arith))
+station_asked P s u t k v (Flow d go) true e =
     few_if u 0 (d == 0) (message_frame s.role (if go then 0xa3 else 0x63) [] ∷ []) (msc_frame s.role d (if go then ready else held_up) ∷ [])
     (none_one u (message_frame s.role (if go then 0xa3 else 0x63) []) (of_all P s u t k go))
     (none_one u (msc_frame s.role d (if go then ready else held_up)) (k.command msc ((4 * d + 3) ∷ (if go then ready else held_up) ∷ []) refl (omega arith)))
-asked P s u t k v (Offer d octets) true e = omega arith
+station_asked P s u t k v (Offer d octets) true e = omega arith
 
 -- what bounds the frames of an act by the tables bounds those that it calls for, though the line may be lost
-pub called : (u : Frame → Bool) (n : ℕ) (s : StationSetting) (past : List Act) (a : Act) → many u (frames_seeing s (station_view s past) a) ≤ n → many u (called_frames s past a) ≤ n
-called u n s past a h = few_if u n (list_any is_loss past) [] (frames_seeing s (station_view s past) a) (omega arith) h
+pub station_called : (u : Frame → Bool) (n : ℕ) (s : StationSetting) (past : List Act) (a : Act) → many u (frames_seeing s (station_view s past) a) ≤ n → many u (called_frames s past a) ≤ n
+station_called u n s past a h = few_if u n (list_any is_loss past) [] (frames_seeing s (station_view s past) a) (omega arith) h
 
 -- what was sent, and what is owed, is no more than what came
 abbrev Few : StationSetting → (u t : Frame → Bool) → List Act → Type 0
@@ -53,7 +53,7 @@ more : (s : StationSetting) (u t : Frame → Bool) (past : List Act) (a : Act) (
     → many u (owed_frames s past ++ called_frames s past a) + many u (frames_sent past) ≤ n + many t (frames_got past)
 more s u t past a n h k =
     let parts = many_both u (owed_frames s past) (called_frames s past a) in
-    let few = called u n s past a h in
+    let few = station_called u n s past a h in
     omega (arith, parts, few, k)
 
 more_none : (s : StationSetting) (u t : Frame → Bool) (past : List Act) (a : Act) → many u (frames_seeing s (station_view s past) a) ≤ 0 → Few s u t past
@@ -73,7 +73,7 @@ few : (P : List ℕ → Type 0) (s : StationSetting) (u t : Frame → Bool) → 
 unfolding StationLawful
 few P s u t b [] l = omega arith
 few P s u t b (Sent f ∷ past) l = sent_by P s u t b past f (is_data_frame f) refl l.0 (few P s u t b past l.1)
-few P s u t b (Called c ∷ past) l = more_none s u t past (Called c) (asked P s u t b (station_view s past) c (is_none (refused s (station_view s past) c)) refl) (few P s u t b past l)
+few P s u t b (Called c ∷ past) l = more_none s u t past (Called c) (station_asked P s u t b (station_view s past) c (is_none (refused s (station_view s past) c)) refl) (few P s u t b past l)
 few P s u t b (Got f ∷ past) l = more s u t past (Got f) (unit (t f)) (b.frame (station_view s past).state f) (few P s u t b past l)
 few P s u t b (Tick ∷ past) l = more_none s u t past Tick (none_of_tick P s.n1 s.role u t b s.n1 (station_view s past).state (station_view s past).queued 0 62) (few P s u t b past l)
 few P s u t b (Given ∷ past) l = more_none s u t past Given (omega arith) (few P s u t b past l)

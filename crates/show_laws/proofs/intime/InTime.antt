@@ -25,7 +25,7 @@ use Rattle.show_laws.proofs.asks.NoneUnasked.{any_probes}
 use Rattle.show_laws.proofs.counts.BalancedTables.{tick_none}
 use Rattle.show_laws.proofs.counts.DriverCounts.{driver_sends}
 use Rattle.show_laws.proofs.counts.ManyFrames.{many, many_both, none_many, unit}
-use Rattle.show_laws.proofs.counts.StationCounts.{called, station_sends}
+use Rattle.show_laws.proofs.counts.StationCounts.{station_called, station_sends}
 use Rattle.show_laws.proofs.intime.Behind.{Behind, behind_before, stops_before}
 use Rattle.show_laws.proofs.intime.CalmLines.{calm_before, calm_once}
 use Rattle.show_laws.proofs.intime.FirstCommands.{behind_sabm}
@@ -36,7 +36,7 @@ use Rattle.show_laws.proofs.openings.ClosersBehindSabm.{modem_unclosed}
 use Rattle.show_laws.proofs.openings.DiscBehindUa.{once_many}
 use Rattle.show_laws.proofs.openings.ModemCloses.{clds_closed, none_closed}
 use Rattle.show_laws.proofs.openings.OpenBelowZero.{many_or}
-use Rattle.show_laws.proofs.openings.ResponderCalls.{down_by_cld, every}
+use Rattle.show_laws.proofs.openings.ResponderCalls.{down_by_cld, each_frame}
 use Rattle.show_laws.proofs.talks.EndedLines.{no_sabms}
 
 -- ## The modem's commands
@@ -94,13 +94,13 @@ so_far s n1 (AtModem station.Given ∷ line) h =
       stops = k.stops;
       first = λ some. let x = same commands in k.first (omega (arith, some, x));
       none = λ some. let y = k.none some in let x = same commands in omega (arith, x, y);
-      alone = λ some. let z = same closes in let y = k.alone (omega (arith, some, z)) in let x = same every in omega (arith, x, y);
+      alone = λ some. let z = same closes in let y = k.alone (omega (arith, some, z)) in let x = same each_frame in omega (arith, x, y);
     }
   where
     same : (u : Frame → Bool) → many u (owed_frames (responding n1) (modem_past line) ++ called_frames (responding n1) (modem_past line) station.Given) ≡ many u (owed_frames (responding n1) (modem_past line))
     same u =
         let both = many_both u (owed_frames (responding n1) (modem_past line)) (called_frames (responding n1) (modem_past line) station.Given) in
-        let none = called u 0 (responding n1) (modem_past line) station.Given (omega arith) in
+        let none = station_called u 0 (responding n1) (modem_past line) station.Given (omega arith) in
         omega (arith, both, none)
 so_far s n1 (AtModem station.Lost ∷ line) h = absurd (let x : true ≡ false = h.modem_live in cc)
 

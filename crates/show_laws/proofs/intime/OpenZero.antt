@@ -1,14 +1,15 @@
 -- On a calm line 0 is open at each end from its opening on, until this end sends a CLD or one comes; from its own CLD on the stop is under way.
 use Rattle.std.specs.Prelude.{◌≡◌, zero, suc, ℕ, ◌+◌, ◌==◌, ◌≤◌, ◌&&◌, ◌||◌, not, Bool, true, false, List, [], ◌∷◌, refl}
-use Rattle.std.proofs.Common.{ap, arith}
+use Rattle.std.proofs.Common.{ap, arith, ◌∙◌}
 use Rattle.std.proofs.lemmas.Bool.{or_from, or_left, or_parts, or_right}
 use Rattle.mux_frame.specs.Frames.{Frame}
 use Rattle.mux_frame.specs.declared.frame.Kind.TheVariants.{Sabm, Ua, Dm, Disc}
 use Rattle.mux_station.specs.declared.role.Role.TheVariants.{Initiator, Responder}
 use Rattle.mux_station.specs.Acts as station
 use Rattle.mux_station.specs.Messages.{brings_command, brings_response, cld}
-use Rattle.mux_station.specs.Opening.{ends, ends_itself, is_mode_frame_on, is_open, standings}
-use Rattle.mux_station.specs.States.{is_stopping, state_of}
+use Rattle.mux_station.specs.Opening.{ends, is_mode_frame_on, is_open}
+use Rattle.mux_station.proofs.states.OpeningSteps.{is_open_after}
+use Rattle.mux_station.specs.States.{ends_itself, is_stopping, state_of}
 use Rattle.mux_station.specs.Written.{is_kind, is_on}
 use Rattle.modem_history.specs.Acts as driver
 use Rattle.modem_history.specs.Acts.{wire}
@@ -134,8 +135,8 @@ driver_up s n1 (AtDriver (driver.Sent f) ∷ line) h some sent got = by_sabm (is
         let modes = no_ua (is_kind f.kind Ua) (is_kind f.kind Dm) (f.dlci == 0) none.1 in
         let bare = (or_parts (brings_command cld f) (brings_response cld f) (none_of closes f (many closes (frames_sent (wire (driver_past line)))) sent)).0 in
         let end = sent_ends (zero_at 0 p) f none.0 bare in
-        still_up (station.Sent f) p (λ o. kept false (open_at 0 p) (ends (zero_at 0 p) 0 (station.Sent f)) o end)
-        (λ u. up_kept false (is_on Sabm 0 f) (open_at 0 p) (asked_at 0 p) (is_mode_frame_on 0 f) (ends (zero_at 0 p) 0 (station.Sent f)) u (mode_off f e modes.0 modes.1 none.0) end) refl (rest (omega (arith, k)))
+        still_up (station.Sent f) p (λ o. is_open_after Initiator 0 p (station.Sent f) ∙ kept false (open_at 0 p) (ends (zero_at 0 p) 0 (station.Sent f)) o end)
+        (λ u. ap (λ (b : Bool). b || asked_at 0 (station.Sent f ∷ p)) (is_open_after Initiator 0 p (station.Sent f)) ∙ up_kept false (is_on Sabm 0 f) (open_at 0 p) (asked_at 0 p) (is_mode_frame_on 0 f) (ends (zero_at 0 p) 0 (station.Sent f)) u (mode_off f e modes.0 modes.1 none.0) end) refl (rest (omega (arith, k)))
 driver_up s n1 (AtDriver (driver.Got f) ∷ line) h some sent got = by_ua (is_on Ua 0 f) refl (driver_up s n1 line (calm_before s n1 (AtDriver (driver.Got f)) line h) some sent (omega (arith, got)))
   where
     p : List station.Act
@@ -155,20 +156,22 @@ driver_up s n1 (AtDriver (driver.Got f) ∷ line) h some sent got = by_ua (is_on
 
     by_ua : (b : Bool) → is_on Ua 0 f ≡ b → Up (wire (driver_past line)) → Up (station.Got f ∷ wire (driver_past line))
     by_ua true e k =
-        let now : open_at 0 (station.Got f ∷ p) ≡ true = either (is_on Ua 0 f) (asked_at 0 p) (open_at 0 p) (ends (zero_at 0 p) 0 (station.Got f)) e k.up end in
+        let now : open_at 0 (station.Got f ∷ p) ≡ true = is_open_after Initiator 0 p (station.Got f) ∙ either (is_on Ua 0 f) (asked_at 0 p) (open_at 0 p) (ends (zero_at 0 p) 0 (station.Got f)) e k.up end in
         record { up = or_left (open_at 0 (station.Got f ∷ p)) (asked_at 0 (station.Got f ∷ p)) now; opened = λ some. now }
     by_ua false e k =
         let g = driver_gets s n1 f line h in
         let u : unit (is_on Ua 0 f) ≡ 0 = ap unit e in
-        still_up (station.Got f) p (λ o. kept (is_on Ua 0 f && asked_at 0 p) (open_at 0 p) (ends (zero_at 0 p) 0 (station.Got f)) o end)
-        (λ w. up_kept (is_on Ua 0 f && asked_at 0 p) false (open_at 0 p) (asked_at 0 p) (is_mode_frame_on 0 f) (ends (zero_at 0 p) 0 (station.Got f)) w (mode_off f g.sabm e g.dm g.disc) end) (omega (arith, u)) k
+        still_up (station.Got f) p (λ o. is_open_after Initiator 0 p (station.Got f) ∙ kept (is_on Ua 0 f && asked_at 0 p) (open_at 0 p) (ends (zero_at 0 p) 0 (station.Got f)) o end)
+        (λ w. ap (λ (b : Bool). b || asked_at 0 (station.Got f ∷ p)) (is_open_after Initiator 0 p (station.Got f)) ∙ up_kept (is_on Ua 0 f && asked_at 0 p) false (open_at 0 p) (asked_at 0 p) (is_mode_frame_on 0 f) (ends (zero_at 0 p) 0 (station.Got f)) w (mode_off f g.sabm e g.dm g.disc) end) (omega (arith, u)) k
 driver_up s n1 (AtDriver driver.Tick ∷ line) h some sent got =
     let p = wire (driver_past line) in
-    still_up station.Tick p (λ o. kept false (open_at 0 p) false o refl) (λ u. up_kept false false (open_at 0 p) (asked_at 0 p) false false u refl refl) refl
+    still_up station.Tick p (λ o. is_open_after Initiator 0 p station.Tick ∙ kept false (open_at 0 p) false o refl)
+    (λ u. ap (λ (b : Bool). b || asked_at 0 (station.Tick ∷ p)) (is_open_after Initiator 0 p station.Tick) ∙ up_kept false false (open_at 0 p) (asked_at 0 p) false false u refl refl) refl
     (driver_up s n1 line (calm_before s n1 (AtDriver driver.Tick) line h) some sent got)
 driver_up s n1 (AtDriver driver.Given ∷ line) h some sent got =
     let p = wire (driver_past line) in
-    still_up station.Given p (λ o. kept false (open_at 0 p) false o refl) (λ u. up_kept false false (open_at 0 p) (asked_at 0 p) false false u refl refl) refl
+    still_up station.Given p (λ o. is_open_after Initiator 0 p station.Given ∙ kept false (open_at 0 p) false o refl)
+    (λ u. ap (λ (b : Bool). b || asked_at 0 (station.Given ∷ p)) (is_open_after Initiator 0 p station.Given) ∙ up_kept false false (open_at 0 p) (asked_at 0 p) false false u refl refl) refl
     (driver_up s n1 line (calm_before s n1 (AtDriver driver.Given) line h) some sent got)
 driver_up s n1 (AtDriver driver.Lost ∷ line) h some sent got = absurd (let x : true ≡ false = h.driver_live in cc)
 driver_up s n1 (AtDriver (driver.Took q) ∷ line) h some sent got = driver_up s n1 line (calm_before s n1 (AtDriver (driver.Took q)) line h) some sent got
@@ -223,7 +226,7 @@ abbrev open_zero : List station.Act → Bool
 open_zero past = is_open Responder 0 past
 
 abbrev its_zero : List station.Act → Bool
-its_zero past = (standings Responder 0 past).zero.is_open
+its_zero past = is_open Responder 0 past
 
 -- once a SABM on 0 came to the modem, it sent no CLD, and while no CLD and no response to one came, 0 is open there
 pub modem_up : (s : Setting) (n1 : ℕ) (line : List LineAct) → IsCalmLine s n1 line → 1 ≤ many (is_on Sabm 0) (frames_got (modem_past line)) → many (brings_command cld) (frames_sent (modem_past line)) ≤ 0 → many closes (frames_got (modem_past line)) ≤ 0 → is_open Responder 0 (modem_past line) ≡ true
@@ -239,19 +242,19 @@ modem_up s n1 (AtModem (station.Got f) ∷ line) h some sent got = by_sabm (is_o
     opens false r e = cc
 
     by_sabm : (b : Bool) → is_on Sabm 0 f ≡ b → 1 ≤ unit b + many (is_on Sabm 0) (frames_got (modem_past line)) → (1 ≤ many (is_on Sabm 0) (frames_got (modem_past line)) → is_open Responder 0 (modem_past line) ≡ true) → is_open Responder 0 (station.Got f ∷ modem_past line) ≡ true
-    by_sabm true e k rest = opens (is_on Sabm 0 f) (open_zero p && not (ends (its_zero p) 0 (station.Got f))) e
+    by_sabm true e k rest = is_open_after Responder 0 p (station.Got f) ∙ opens (is_on Sabm 0 f) (open_zero p && not (ends (its_zero p) 0 (station.Got f))) e
     by_sabm false e k rest =
         let g = modem_gets s n1 f line h in
         let end = got_ends (its_zero p) f e g.disc g.dm (or_parts (brings_command cld f) (brings_response cld f) (none_of closes f (many closes (frames_got p)) got)).0 in
-        kept (is_on Sabm 0 f && true) (open_zero p) (ends (its_zero p) 0 (station.Got f)) (rest (omega (arith, k))) end
+        is_open_after Responder 0 p (station.Got f) ∙ kept (is_on Sabm 0 f && true) (open_zero p) (ends (its_zero p) 0 (station.Got f)) (rest (omega (arith, k))) end
 modem_up s n1 (AtModem (station.Sent f) ∷ line) h some sent got =
     let p = modem_past line in
     let none = modem_sends s n1 (AtModem (station.Sent f) ∷ line) h in
     let end = sent_ends (its_zero p) f (none_of (is_on Disc 0) f (many (is_on Disc 0) (frames_sent p)) none.disc) (none_of (brings_command cld) f (many (brings_command cld) (frames_sent p)) sent) in
-    kept false (open_zero p) (ends (its_zero p) 0 (station.Sent f)) (modem_up s n1 line (calm_before s n1 (AtModem (station.Sent f)) line h) some (omega (arith, sent)) got) end
-modem_up s n1 (AtModem (station.Called c) ∷ line) h some sent got = kept false (open_zero (modem_past line)) false (modem_up s n1 line (calm_before s n1 (AtModem (station.Called c)) line h) some sent got) refl
-modem_up s n1 (AtModem station.Tick ∷ line) h some sent got = kept false (open_zero (modem_past line)) false (modem_up s n1 line (calm_before s n1 (AtModem station.Tick) line h) some sent got) refl
-modem_up s n1 (AtModem station.Given ∷ line) h some sent got = kept false (open_zero (modem_past line)) false (modem_up s n1 line (calm_before s n1 (AtModem station.Given) line h) some sent got) refl
+    is_open_after Responder 0 p (station.Sent f) ∙ kept false (open_zero p) (ends (its_zero p) 0 (station.Sent f)) (modem_up s n1 line (calm_before s n1 (AtModem (station.Sent f)) line h) some (omega (arith, sent)) got) end
+modem_up s n1 (AtModem (station.Called c) ∷ line) h some sent got = is_open_after Responder 0 (modem_past line) (station.Called c) ∙ kept false (open_zero (modem_past line)) false (modem_up s n1 line (calm_before s n1 (AtModem (station.Called c)) line h) some sent got) refl
+modem_up s n1 (AtModem station.Tick ∷ line) h some sent got = is_open_after Responder 0 (modem_past line) station.Tick ∙ kept false (open_zero (modem_past line)) false (modem_up s n1 line (calm_before s n1 (AtModem station.Tick) line h) some sent got) refl
+modem_up s n1 (AtModem station.Given ∷ line) h some sent got = is_open_after Responder 0 (modem_past line) station.Given ∙ kept false (open_zero (modem_past line)) false (modem_up s n1 line (calm_before s n1 (AtModem station.Given) line h) some sent got) refl
 modem_up s n1 (AtModem station.Lost ∷ line) h some sent got = absurd (let x : true ≡ false = h.modem_live in cc)
 
 -- once it sent a CLD, and while no CLD and no response to one came, its stop is under way

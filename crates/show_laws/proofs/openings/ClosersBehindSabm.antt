@@ -8,11 +8,11 @@ use Rattle.mux_frame.specs.declared.frame.Kind.TheVariants.{Sabm, Ua, Dm, Disc, 
 use Rattle.mux_station.specs.declared.role.Role.TheVariants.{Initiator, Responder}
 use Rattle.mux_station.specs.Acts as station
 use Rattle.mux_station.specs.Messages.{brings_command, cld, message_of, msc, octet_is, test}
-use Rattle.mux_station.specs.Opening.{ends, ends_itself, is_mode_frame_on, is_open, opens_now, standings}
-use Rattle.mux_station.specs.States.{is_opened}
+use Rattle.mux_station.specs.Opening.{ends, is_mode_frame_on, is_open, opens_now}
+use Rattle.mux_station.proofs.states.OpeningSteps.{is_open_after}
+use Rattle.mux_station.specs.States.{ends_itself, is_opened}
 use Rattle.mux_station.specs.Tables.{held_up, message_frame, msc_frame, ready}
 use Rattle.mux_station.specs.Written.{is_data_frame, is_kind, is_on, written}
-use Rattle.mux_station.proofs.states.OpenByPlaces.{zero_same}
 use Rattle.modem_desk.specs.declared.request.Ask.{Ask}
 use Rattle.modem_desk.specs.declared.request.Ask.TheVariants.{OpenChannel, CloseChannel, Command, Probe, Stop}
 use Rattle.modem_desk.specs.declared.request.Answer.{Answer}
@@ -222,7 +222,7 @@ driver_unclosed s n1 e (AtDriver (driver.Sent f) ∷ line) h w =
     let k = once_line_before s n1 (AtDriver (driver.Sent f)) line h in
     or_elim (open_at e (station.Sent f ∷ p)) (asked_at e (station.Sent f ∷ p)) w
     (λ o.
-    let q = unended (open_at e p) (ends (zero_at e p) e (station.Sent f)) o in
+    let q = unended (open_at e p) (ends (zero_at e p) e (station.Sent f)) (sym (is_open_after Initiator e p (station.Sent f)) ∙ o) in
     let x = driver_unclosed s n1 e line k (or_left (open_at e p) (asked_at e p) q.0) in
     let u : unit (closer e f) ≡ 0 = ap unit (sent_unended (zero_at e p) e f q.1) in
     omega (arith, x, u))
@@ -243,12 +243,12 @@ driver_unclosed s n1 e (AtDriver (driver.Got f) ∷ line) h w =
     driver_unclosed s n1 e line (once_line_before s n1 (AtDriver (driver.Got f)) line h)
     (or_elim (open_at e (station.Got f ∷ p)) (asked_at e (station.Got f ∷ p)) w
     (λ o.
-    or_elim (is_on Ua e f && asked_at e p) (open_at e p && not (ends (zero_at e p) e (station.Got f))) o (λ u. or_right (open_at e p) (asked_at e p) (and_parts (is_on Ua e f) (asked_at e p) u).1)
+    or_elim (is_on Ua e f && asked_at e p) (open_at e p && not (ends (zero_at e p) e (station.Got f))) (sym (is_open_after Initiator e p (station.Got f)) ∙ o) (λ u. or_right (open_at e p) (asked_at e p) (and_parts (is_on Ua e f) (asked_at e p) u).1)
     (λ b. or_left (open_at e p) (asked_at e p) (and_parts (open_at e p) (not (ends (zero_at e p) e (station.Got f))) b).0))
     (λ a. or_right (open_at e p) (asked_at e p) (and_parts (asked_at e p) (not (is_mode_frame_on e f || ends (zero_at e p) e (station.Got f))) a).0))
 driver_unclosed s n1 e (AtDriver driver.Tick ∷ line) h w =
     let p = wire (driver_past line) in
-    driver_unclosed s n1 e line (once_line_before s n1 (AtDriver driver.Tick) line h) (either (open_at e p) (asked_at e p) (not (ends (zero_at e p) e station.Tick)) w)
+    driver_unclosed s n1 e line (once_line_before s n1 (AtDriver driver.Tick) line h) (either (open_at e p) (asked_at e p) (not (ends (zero_at e p) e station.Tick)) (sym (ap (λ (b : Bool). b || asked_at e (station.Tick ∷ p)) (is_open_after Initiator e p station.Tick)) ∙ w))
   where
     either : (a b c : Bool) → ((a && c) || (b && c)) ≡ true → (a || b) ≡ true
     either true b c w = refl
@@ -256,7 +256,7 @@ driver_unclosed s n1 e (AtDriver driver.Tick ∷ line) h w =
     either false false c w = w
 driver_unclosed s n1 e (AtDriver driver.Lost ∷ line) h w =
     let p = wire (driver_past line) in
-    driver_unclosed s n1 e line (once_line_before s n1 (AtDriver driver.Lost) line h) (either (open_at e p) (asked_at e p) (not (ends (zero_at e p) e station.Lost)) w)
+    driver_unclosed s n1 e line (once_line_before s n1 (AtDriver driver.Lost) line h) (either (open_at e p) (asked_at e p) (not (ends (zero_at e p) e station.Lost)) (sym (ap (λ (b : Bool). b || asked_at e (station.Lost ∷ p)) (is_open_after Initiator e p station.Lost)) ∙ w))
   where
     either : (a b c : Bool) → ((a && c) || (b && c)) ≡ true → (a || b) ≡ true
     either true b c w = refl
@@ -264,7 +264,7 @@ driver_unclosed s n1 e (AtDriver driver.Lost ∷ line) h w =
     either false false c w = w
 driver_unclosed s n1 e (AtDriver driver.Given ∷ line) h w =
     let p = wire (driver_past line) in
-    driver_unclosed s n1 e line (once_line_before s n1 (AtDriver driver.Given) line h) (either (open_at e p) (asked_at e p) (not (ends (zero_at e p) e station.Given)) w)
+    driver_unclosed s n1 e line (once_line_before s n1 (AtDriver driver.Given) line h) (either (open_at e p) (asked_at e p) (not (ends (zero_at e p) e station.Given)) (sym (ap (λ (b : Bool). b || asked_at e (station.Given ∷ p)) (is_open_after Initiator e p station.Given)) ∙ w))
   where
     either : (a b c : Bool) → ((a && c) || (b && c)) ≡ true → (a || b) ≡ true
     either true b c w = refl
@@ -277,14 +277,14 @@ driver_unclosed s n1 e (AtDriver (driver.Held d) ∷ line) h w = driver_unclosed
 driver_unclosed s n1 e (AtDriver (driver.Freed d) ∷ line) h w = driver_unclosed s n1 e line (once_line_before s n1 (AtDriver (driver.Freed d)) line h) w
 
 -- what doesn't end e where it comes doesn't close it, while e is open
-got_unended : (e : ℕ) (past : List station.Act) (f : Frame) → is_open Responder e past ≡ true → ends (standings Responder e past).zero.is_open e (station.Got f) ≡ false → closer e f ≡ false
+got_unended : (e : ℕ) (past : List station.Act) (f : Frame) → is_open Responder e past ≡ true → ends (is_open Responder 0 past) e (station.Got f) ≡ false → closer e f ≡ false
 got_unended e past f o h =
-    let z = (standings Responder e past).zero.is_open in
+    let z = is_open Responder 0 past in
     let own = (or_parts (ends_itself z e (station.Got f)) (not (e == 0) && ends_itself z 0 (station.Got f)) h).0 in
     let a = or_parts (is_on Disc e f) (is_on Dm e f || (is_on Sabm e f || (z && brings_command cld f))) own in
     let b = or_parts (is_on Dm e f) (is_on Sabm e f || (z && brings_command cld f)) a.1 in
     let c = or_parts (is_on Sabm e f) (z && brings_command cld f) b.1 in
-    both (is_on Disc e f) (e == 0) z (brings_command cld f) a.0 c.1 (λ zero_is. zero_same Responder e past ∙ (sym (ap (λ n. is_open Responder n past) (eqb-true e 0 zero_is)) ∙ o))
+    both (is_on Disc e f) (e == 0) z (brings_command cld f) a.0 c.1 (λ zero_is. sym (ap (λ n. is_open Responder n past) (eqb-true e 0 zero_is)) ∙ o)
   where
     both : (a x z c : Bool) → a ≡ false → (z && c) ≡ false → (x ≡ true → z ≡ true) → (a || (x && c)) ≡ false
     both true x z c g k m = cc
@@ -300,7 +300,7 @@ modem_unclosed s n1 e (AtModem (station.Got f) ∷ line) h o = by_opens (opens_n
   where
     by_opens : (b : Bool) → opens_now Responder e (modem_past line) (station.Got f) ≡ b → (is_open Responder e (modem_past line) ≡ true → many (closer e) (frames_got (modem_past line)) ≤ 0) → unit (closer e f) + many (closer e) (frames_got (modem_past line)) ≤ 0
     by_opens true k rest =
-        let sabm = (and_parts (is_on Sabm e f) ((e == 0) || (standings Responder e (modem_past line)).zero.is_open) k).0 in
+        let sabm = (and_parts (is_on Sabm e f) ((e == 0) || is_open Responder 0 (modem_past line)) k).0 in
         let now = came_few (is_on Sabm e) (wire (driver_past line)) (station.Got f ∷ modem_past line) (both_ways (AtModem (station.Got f) ∷ line) h.lawful.one_line).at_modem in
         let once = once_many (is_on Sabm e) (frames_sent (wire (driver_past line))) in
         let one = h.once e in
@@ -311,7 +311,7 @@ modem_unclosed s n1 e (AtModem (station.Got f) ∷ line) h o = by_opens (opens_n
     by_opens false k rest =
         let before = open_before Responder e (modem_past line) (station.Got f) k o in
         let x = rest before in
-        let u : unit (closer e f) ≡ 0 = ap unit (got_unended e (modem_past line) f before (still (opens_now Responder e (modem_past line) (station.Got f)) (is_open Responder e (modem_past line)) (ends (standings Responder e (modem_past line)).zero.is_open e (station.Got f)) k o)) in
+        let u : unit (closer e f) ≡ 0 = ap unit (got_unended e (modem_past line) f before (still (opens_now Responder e (modem_past line) (station.Got f)) (is_open Responder e (modem_past line)) (ends (is_open Responder 0 (modem_past line)) e (station.Got f)) k (sym (is_open_after Responder e (modem_past line) (station.Got f)) ∙ o))) in
         omega (arith, x, u)
       where
         still : (o i e : Bool) → o ≡ false → (o || (i && not e)) ≡ true → e ≡ false

@@ -5,7 +5,9 @@ use Rattle.std.proofs.lemmas.Bool.{and_from, and_parts, or_parts}
 use Rattle.mux_frame.specs.Frames.{Frame}
 use Rattle.mux_frame.specs.declared.frame.Kind.{Kind}
 use Rattle.mux_frame.specs.declared.frame.Kind.TheVariants.{Sabm, Ua, Dm, Disc, Uih}
+use Rattle.mux_station.specs.declared.role.Role.TheVariants.{Initiator}
 use Rattle.mux_station.specs.Acts.{Act, Got, Sent}
+use Rattle.mux_station.proofs.states.OpeningSteps.{is_open_after}
 use Rattle.mux_station.specs.Messages.{Message, cld, brings_command, message_in}
 use Rattle.mux_station.specs.Opening.{ends, is_mode_frame_on}
 use Rattle.mux_station.specs.Written.{is_kind, is_on}
@@ -60,7 +62,7 @@ pub got_step : (d : ℕ) (p q : List Act) (endings endings2 sabms sabms2 sent go
     → unit (is_on Ua d f) + got ≤ sent → (1 ≤ endings2 → (open_at d (Got f ∷ p) ≡ false) × (asked_at d (Got f ∷ p) ≡ false)) → sabms2 ≤ 0 → Follows d (Got f ∷ p) q endings2 sabms2 sent (unit (is_on Ua d f) + got)
 got_step d p q endings endings2 sabms sabms2 sent got f h came shuts none = record {
   opens = λ k.
-      or_elim (is_on Ua d f && asked_at d p) (open_at d p && not (ends (zero_at d p) d (Got f))) k
+      or_elim (is_on Ua d f && asked_at d p) (open_at d p && not (ends (zero_at d p) d (Got f))) (sym (is_open_after Initiator d p (Got f)) ∙ k)
       (λ u. let x = and_parts (is_on Ua d f) (asked_at d p) u in opened_by d q sent got f came x.0 (h.asks x.1))
       (λ o. h.opens (and_parts (open_at d p) (not (ends (zero_at d p) d (Got f))) o).0);
   asks = λ k. later d q sent got (unit (is_on Ua d f) + got) (omega arith) (h.asks (and_parts (asked_at d p) (not (is_mode_frame_on d f || ends (zero_at d p) d (Got f))) k).0);
@@ -77,7 +79,7 @@ off_sum false b e = refl
 -- a frame but a SABM on d that is sent leaves d neither open nor asked for
 pub sent_closed : (d : ℕ) (f : Frame) (p : List Act) → open_at d p ≡ false → asked_at d p ≡ false → is_on Sabm d f ≡ false → (open_at d (Sent f ∷ p) ≡ false) × (asked_at d (Sent f ∷ p) ≡ false)
 sent_closed d f p o a s = (
-  off_sum (open_at d p) (not (ends (zero_at d p) d (Sent f))) o,
+  is_open_after Initiator d p (Sent f) ∙ off_sum (open_at d p) (not (ends (zero_at d p) d (Sent f))) o,
   both (is_on Sabm d f) (asked_at d p) (not (is_mode_frame_on d f || ends (zero_at d p) d (Sent f))) s a,
 )
   where
@@ -99,8 +101,8 @@ sent_open : (d : ℕ) (p q r : List Act) (endings endings2 sabms sabms2 sent got
     → open_at d r ≡ open_at d q → asked_at d r ≡ asked_at d q → Follows d (Sent f ∷ p) (Sent f ∷ r) endings2 sabms2 sent got
 sent_open d p q r endings endings2 sabms sabms2 sent got f h fewer fewer_sabms level same_open same_asked = record {
   opens = λ k.
-      let x = and_parts (open_at d p) (not (ends (zero_at d p) d (Sent f))) k in
-      and_from (open_at d r) (not (ends (zero_at d p) d (Sent f))) (same_open ∙ h.opens x.0) x.1;
+      let x = and_parts (open_at d p) (not (ends (zero_at d p) d (Sent f))) (sym (is_open_after Initiator d p (Sent f)) ∙ k) in
+      is_open_after Initiator d r (Sent f) ∙ and_from (open_at d r) (not (ends (zero_at d p) d (Sent f))) (same_open ∙ h.opens x.0) x.1;
   asks = λ k.
       or_elim (is_on Sabm d f) (asked_at d p && not (is_mode_frame_on d f || ends (zero_at d p) d (Sent f))) k
       (λ s. asked_there (ap (λ (b : Bool). b || (asked_at d r && not (is_mode_frame_on d f || ends (zero_at d r) d (Sent f)))) s) (level s))
@@ -117,7 +119,7 @@ sent_open d p q r endings endings2 sabms sabms2 sent got f h fewer fewer_sabms l
     second false b e = e
 
     goes_on : Ready d q sent got → not (is_mode_frame_on d f || ends (zero_at d p) d (Sent f)) ≡ true → Ready d (Sent f ∷ r) sent got
-    goes_on (there o) n = there (and_from (open_at d r) (not (ends (zero_at d r) d (Sent f))) (same_open ∙ o) (not_second (is_mode_frame_on d f) (ends (zero_at d r) d (Sent f)) n))
+    goes_on (there o) n = there (is_open_after Initiator d r (Sent f) ∙ and_from (open_at d r) (not (ends (zero_at d r) d (Sent f))) (same_open ∙ o) (not_second (is_mode_frame_on d f) (ends (zero_at d r) d (Sent f)) n))
     goes_on (asked_there a l) n =
         asked_there (second (is_on Sabm d f) (asked_at d r && not (is_mode_frame_on d f || ends (zero_at d r) d (Sent f)))
         (and_from (asked_at d r) (not (is_mode_frame_on d f || ends (zero_at d r) d (Sent f))) (same_asked ∙ a) n)) l
@@ -193,7 +195,7 @@ read d p q endings sabms sent got f h mode dm no_cld =
     kept false false e g h = cc
 
     stays : ends (zero_at d q) d (Got f) ≡ false → open_at d q ≡ true → open_at d (Got f ∷ q) ≡ true
-    stays e o = kept (is_on Ua d f && asked_at d q) (open_at d q) (ends (zero_at d q) d (Got f)) o e
+    stays e o = is_open_after Initiator d q (Got f) ∙ kept (is_on Ua d f && asked_at d q) (open_at d q) (ends (zero_at d q) d (Got f)) o e
 
     first : (u k o : Bool) → u ≡ true → k ≡ true → ((u && k) || o) ≡ true
     first true true o e g = refl
@@ -218,7 +220,7 @@ read d p q endings sabms sent got f h mode dm no_cld =
         four false false false e g h i j = j
 
     by_ua : (b : Bool) → is_on Ua d f ≡ b → ends (zero_at d q) d (Got f) ≡ false → asked_at d q ≡ true → sent ≤ got → Ready d (Got f ∷ q) (unit (is_on Ua d f) + sent) got
-    by_ua true u e a l = there (first (is_on Ua d f) (asked_at d q) (open_at d q && not (ends (zero_at d q) d (Got f))) u a)
+    by_ua true u e a l = there (is_open_after Initiator d q (Got f) ∙ first (is_on Ua d f) (asked_at d q) (open_at d q && not (ends (zero_at d q) d (Got f))) u a)
     by_ua false u e a l =
         let x : unit (is_on Ua d f) ≡ 0 = ap unit u in
         asked_there (still (asked_at d q) (is_mode_frame_on d f) (ends (zero_at d q) d (Got f)) a (unmode u) e) (omega (arith, x, l))

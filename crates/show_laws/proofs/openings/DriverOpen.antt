@@ -11,12 +11,11 @@ use Rattle.mux_station.specs.declared.role.Role.{Role}
 use Rattle.mux_station.specs.declared.role.Role.TheVariants.{Initiator, Responder}
 use Rattle.mux_station.specs.Acts as station
 use Rattle.mux_station.specs.Messages.{Message, cld, command_of, test, brings_command, message_in, message_of, octet_is}
-use Rattle.mux_station.specs.Opening.{ends, ends_itself, is_mode_frame_on, is_open}
-use Rattle.mux_station.specs.States.{State, IsShut, IsOpening, IsOpened, IsClosing, IsStopping, is_opened, is_stopping, state_of}
+use Rattle.mux_station.specs.Opening.{ends, is_mode_frame_on, is_open}
+use Rattle.mux_station.specs.States.{ends_itself, State, IsShut, IsOpening, IsOpened, IsClosing, IsStopping, is_opened, is_stopping, state_of}
 use Rattle.mux_station.specs.Tables.{by_frame, by_message, by_table, held_up, is_opening, message_frame, ready}
 use Rattle.mux_station.specs.Written.{is_data_frame, is_kind, is_on}
-use Rattle.mux_station.proofs.states.OpenByPlaces.{zero_same}
-use Rattle.mux_station.proofs.states.OpenedStates.{opened_is_open, opening_is_asked}
+use Rattle.mux_station.proofs.states.OpeningSteps.{is_open_after, opening_asked}
 use Rattle.modem_history.specs.Acts.{Act, Took, Got, Sent, Told, Heard, Tick, Lost, Held, Freed, Given, wire}
 use Rattle.modem_history.specs.Calls.{Setting, asking, at_once, calls_behind, frames_by, seen_behind}
 use Rattle.modem_history.specs.Lawful.{IsNext, Lawful, When, owed, owes_frame, unsent}
@@ -36,7 +35,7 @@ use Rattle.show_laws.proofs.lines.CapturedFrames.{both_ways, came_few}
 use Rattle.show_laws.proofs.lines.EveryFrame.{lawful_before}
 use Rattle.show_laws.proofs.openings.ModeAnswers.{ending_balanced, ending_modes, is_ending, messaged, sabm_never, tabled}
 use Rattle.show_laws.proofs.openings.OpenBelowZero.{below, many_or}
-use Rattle.show_laws.proofs.openings.ResponderCalls.{any_down_called, down_balanced, down_frames, every, is_down, not_cld, table_not_down}
+use Rattle.show_laws.proofs.openings.ResponderCalls.{any_down_called, down_balanced, down_frames, each_frame, is_down, not_cld, table_not_down}
 use Rattle.show_laws.proofs.openings.UaBehindSabm.{ua_behind}
 use Rattle.show_laws.proofs.openings.QuietFrames.{Quiet, asked_at, ender_shuts, is_ender, open_at, quiet_asked, quiet_open, zero_at}
 use Rattle.show_laws.proofs.openings.DriverFollows.{Follows, fewer_step, got_step, passed_step, sent_step}
@@ -233,10 +232,10 @@ down_shuts : (s : Setting) (d : ℕ) (past : List Act) (f : Frame) → s.role �
 down_shuts s d past f is l stands down =
     or_elim (is_opened (state_of s.role 0 p)) (is_stopping (state_of s.role 0 p)) stands
     (λ o.
-    let z = zero_same Initiator d p ∙ (sym (opened_is_open Initiator p 0) ∙ (sym (ap (λ (r : Role). is_opened (state_of r 0 p)) is) ∙ o)) in
+    let z = sym (ap (λ (r : Role). is_opened (state_of r 0 p)) is) ∙ o in
     let e = ended z in
-    (closed (open_at d p) (ends (zero_at d p) d (station.Got f)) e, unasked (asked_at d p) (is_mode_frame_on d f) (ends (zero_at d p) d (station.Got f)) e))
-    (λ o. let t = neither (stopping_state o) in (kept_shut (open_at d p) (ends (zero_at d p) d (station.Got f)) t.0, no_other (asked_at d p) (not (is_mode_frame_on d f || ends (zero_at d p) d (station.Got f))) t.1))
+    (is_open_after Initiator d p (station.Got f) ∙ closed (open_at d p) (ends (zero_at d p) d (station.Got f)) e, unasked (asked_at d p) (is_mode_frame_on d f) (ends (zero_at d p) d (station.Got f)) e))
+    (λ o. let t = neither (stopping_state o) in (is_open_after Initiator d p (station.Got f) ∙ kept_shut (open_at d p) (ends (zero_at d p) d (station.Got f)) t.0, no_other (asked_at d p) (not (is_mode_frame_on d f || ends (zero_at d p) d (station.Got f))) t.1))
   where
     p : List station.Act
     p = wire past
@@ -299,14 +298,14 @@ down_shuts s d past f is l stands down =
     neither o = by_zero (d == 0) refl
       where
         shut_zero : is_open Initiator 0 p ≡ false
-        shut_zero = sym (opened_is_open Initiator p 0) ∙ (not_both (state_of Initiator 0 p) o).0
+        shut_zero = (not_both (state_of Initiator 0 p) o).0
 
         unasked_zero : asked_at 0 p ≡ false
-        unasked_zero = parts (asked_at 0 p) (open_at 0 p) (sym (opening_is_asked 0 p) ∙ (not_both (state_of Initiator 0 p) o).1) shut_zero
+        unasked_zero = parts (asked_at 0 p) (open_at 0 p) (sym (opening_asked 0 p) ∙ (not_both (state_of Initiator 0 p) o).1) shut_zero
 
         by_up : (b : Bool) → (open_at d p || asked_at d p) ≡ b → (d == 0) ≡ false → (open_at d p ≡ false) × (asked_at d p ≡ false)
         by_up false e apart = or_parts (open_at d p) (asked_at d p) e
-        by_up true e apart = absurd (let t : true ≡ false = sym ((below s d past is apart l).up e) ∙ (zero_same Initiator d p ∙ shut_zero) in cc)
+        by_up true e apart = absurd (let t : true ≡ false = sym ((below s d past is apart l).up e) ∙ shut_zero in cc)
 
         by_zero : (b : Bool) → (d == 0) ≡ b → (open_at d p ≡ false) × (asked_at d p ≡ false)
         by_zero false apart = by_up (open_at d p || asked_at d p) refl apart
@@ -364,7 +363,7 @@ ends_few r d state f =
     one true = omega arith
     one false = omega arith
 
-ends_balanced : (most : ℕ) (r : Role) (d : ℕ) → Balanced AnyProbe most r (ends_by d) every
+ends_balanced : (most : ℕ) (r : Role) (d : ℕ) → Balanced AnyProbe most r (ends_by d) each_frame
 ends_balanced most r d = record {
   frame = λ state f. ends_few r d state f;
   plain = λ f is few. or_from (is_ending d f) (is_down f) ((ending_balanced most r d).plain f is few) ((down_balanced most r).plain f is few);
@@ -395,27 +394,27 @@ follows s n1 d stamps (AtDriver (Got f) ∷ line) h = driver_got s n1 d stamps f
 follows s n1 d stamps (AtDriver (Took q) ∷ line) h =
     let past = driver_past line in
     let v = seen_behind s past (owed s past) in
-    let none = driver_calls s d stamps (Took q) line (few_if (ends_by d) 0 (is_none (at_once s v q)) (asking s.role q.ask) [] (asked AnyProbe s.n1 s.role (ends_by d) every (ends_balanced s.n1 s.role d) q.ask (any_asked q.ask)) (omega arith)) h.lawful.driver_lawful.0.prompt in
+    let none = driver_calls s d stamps (Took q) line (few_if (ends_by d) 0 (is_none (at_once s v q)) (asking s.role q.ask) [] (asked AnyProbe s.n1 s.role (ends_by d) each_frame (ends_balanced s.n1 s.role d) q.ask (any_asked q.ask)) (omega arith)) h.lawful.driver_lawful.0.prompt in
     fewer_step d (wire past) (wire past) (seen_by stamps line) (ending_owed s d past) (ending_owed s d (Took q ∷ past)) (sabms_owed s d past) (sabms_owed s d (Took q ∷ past)) (uas_sent d line) (uas_got d past)
     (follows s n1 d stamps line (once_line_before s n1 (AtDriver (Took q)) line h)) (λ k. k) (λ k. k) (λ k. absurd (omega (arith, k, none))) (λ k. absurd (omega (arith, k, none)))
 follows s n1 d stamps (AtDriver Tick ∷ line) h =
     let past = driver_past line in
     let v = seen_behind s past (owed s past) in
-    let none = driver_calls s d stamps Tick line (none_of_tick AnyProbe s.n1 s.role (ends_by d) every (ends_balanced s.n1 s.role d) s.n1 v.state v.queued 0 62) h.lawful.driver_lawful.0.prompt in
+    let none = driver_calls s d stamps Tick line (none_of_tick AnyProbe s.n1 s.role (ends_by d) each_frame (ends_balanced s.n1 s.role d) s.n1 v.state v.queued 0 62) h.lawful.driver_lawful.0.prompt in
     fewer_step d (wire past) (wire (Tick ∷ past)) (seen_by stamps line) (ending_owed s d past) (ending_owed s d (Tick ∷ past)) (sabms_owed s d past) (sabms_owed s d (Tick ∷ past)) (uas_sent d line) (uas_got d past)
     (follows s n1 d stamps line (once_line_before s n1 (AtDriver Tick) line h))
-    (λ k. (and_parts (open_at d (wire past)) (not (ends (zero_at d (wire past)) d station.Tick)) k).0) (λ k. (and_parts (asked_at d (wire past)) (not (ends (zero_at d (wire past)) d station.Tick)) k).0)
+    (λ k. (and_parts (open_at d (wire past)) (not (ends (zero_at d (wire past)) d station.Tick)) (sym (is_open_after Initiator d (wire past) station.Tick) ∙ k)).0) (λ k. (and_parts (asked_at d (wire past)) (not (ends (zero_at d (wire past)) d station.Tick)) k).0)
     (λ k. absurd (omega (arith, k, none))) (λ k. absurd (omega (arith, k, none)))
 follows s n1 d stamps (AtDriver (Held e) ∷ line) h =
     let past = driver_past line in
     let v = seen_behind s past (owed s past) in
-    let none = driver_calls s d stamps (Held e) line (none_of_flow AnyProbe s.n1 s.role (ends_by d) every (ends_balanced s.n1 s.role d) v.state e held_up) h.lawful.driver_lawful.0.prompt in
+    let none = driver_calls s d stamps (Held e) line (none_of_flow AnyProbe s.n1 s.role (ends_by d) each_frame (ends_balanced s.n1 s.role d) v.state e held_up) h.lawful.driver_lawful.0.prompt in
     fewer_step d (wire past) (wire past) (seen_by stamps line) (ending_owed s d past) (ending_owed s d (Held e ∷ past)) (sabms_owed s d past) (sabms_owed s d (Held e ∷ past)) (uas_sent d line) (uas_got d past)
     (follows s n1 d stamps line (once_line_before s n1 (AtDriver (Held e)) line h)) (λ k. k) (λ k. k) (λ k. absurd (omega (arith, k, none))) (λ k. absurd (omega (arith, k, none)))
 follows s n1 d stamps (AtDriver (Freed e) ∷ line) h =
     let past = driver_past line in
     let v = seen_behind s past (owed s past) in
-    let none = driver_calls s d stamps (Freed e) line (none_of_flow AnyProbe s.n1 s.role (ends_by d) every (ends_balanced s.n1 s.role d) v.state e ready) h.lawful.driver_lawful.0.prompt in
+    let none = driver_calls s d stamps (Freed e) line (none_of_flow AnyProbe s.n1 s.role (ends_by d) each_frame (ends_balanced s.n1 s.role d) v.state e ready) h.lawful.driver_lawful.0.prompt in
     fewer_step d (wire past) (wire past) (seen_by stamps line) (ending_owed s d past) (ending_owed s d (Freed e ∷ past)) (sabms_owed s d past) (sabms_owed s d (Freed e ∷ past)) (uas_sent d line) (uas_got d past)
     (follows s n1 d stamps line (once_line_before s n1 (AtDriver (Freed e)) line h)) (λ k. k) (λ k. k) (λ k. absurd (omega (arith, k, none))) (λ k. absurd (omega (arith, k, none)))
 follows s n1 d stamps (AtDriver (Told o) ∷ line) h =
@@ -434,7 +433,7 @@ follows s n1 d stamps (AtDriver Given ∷ line) h =
     let past = driver_past line in
     fewer_step d (wire past) (wire (Given ∷ past)) (seen_by stamps line) (ending_owed s d past) (ending_owed s d (Given ∷ past)) (sabms_owed s d past) (sabms_owed s d (Given ∷ past)) (uas_sent d line) (uas_got d past)
     (follows s n1 d stamps line (once_line_before s n1 (AtDriver Given) line h))
-    (λ k. (and_parts (open_at d (wire past)) (not (ends (zero_at d (wire past)) d station.Given)) k).0) (λ k. (and_parts (asked_at d (wire past)) (not (ends (zero_at d (wire past)) d station.Given)) k).0)
+    (λ k. (and_parts (open_at d (wire past)) (not (ends (zero_at d (wire past)) d station.Given)) (sym (is_open_after Initiator d (wire past) station.Given) ∙ k)).0) (λ k. (and_parts (asked_at d (wire past)) (not (ends (zero_at d (wire past)) d station.Given)) k).0)
     (λ k. k) (λ k. omega arith)
 follows s n1 d stamps (AtDriver Lost ∷ line) h =
     let past = driver_past line in
@@ -443,7 +442,7 @@ follows s n1 d stamps (AtDriver Lost ∷ line) h =
     let none_called = called (ends_by d) 0 s (seen_behind s past (owed s past)) Lost (omega arith) in
     fewer_step d (wire past) (wire (Lost ∷ past)) (seen_by stamps line) (ending_owed s d past) (ending_owed s d (Lost ∷ past)) (sabms_owed s d past) (sabms_owed s d (Lost ∷ past)) (uas_sent d line) (uas_got d past)
     (follows s n1 d stamps line (once_line_before s n1 (AtDriver Lost) line h))
-    (λ k. (and_parts (open_at d (wire past)) (not (ends (zero_at d (wire past)) d station.Lost)) k).0) (λ k. (and_parts (asked_at d (wire past)) (not (ends (zero_at d (wire past)) d station.Lost)) k).0)
+    (λ k. (and_parts (open_at d (wire past)) (not (ends (zero_at d (wire past)) d station.Lost)) (sym (is_open_after Initiator d (wire past) station.Lost) ∙ k)).0) (λ k. (and_parts (asked_at d (wire past)) (not (ends (zero_at d (wire past)) d station.Lost)) k).0)
     (λ k. absurd (omega (arith, k, parts, none, none_called))) (λ k. absurd (omega (arith, k, parts, none, none_called)))
 follows s n1 d stamps (AtModem (station.Sent f) ∷ line) h =
     passed_step d (wire (driver_past line)) (seen_by stamps line) (ending_owed s d (driver_past line)) (sabms_owed s d (driver_past line)) (uas_sent d line) (uas_got d (driver_past line)) f

@@ -7,8 +7,7 @@ use Rattle.mux_frame.specs.declared.frame.Kind.TheVariants.{Sabm, Ua, Dm, Disc, 
 use Rattle.mux_station.specs.declared.role.Role.TheVariants.{Initiator}
 use Rattle.mux_station.specs.Acts.{Act, Called, Got, Sent, Tick, Lost, Given}
 use Rattle.mux_station.specs.Messages.{cld, brings_command, brings_response}
-use Rattle.mux_station.specs.Opening.{ends_itself}
-use Rattle.mux_station.specs.States.{State, IsShut, IsOpening, IsOpened, IsClosing, IsStopping, at_close_down, at_got, at_sent, at_tick, got_by, is_opened, own_after, state_of}
+use Rattle.mux_station.specs.States.{ends_itself, State, IsShut, IsOpening, IsOpened, IsClosing, IsStopping, at_close_down, at_got, at_sent, at_tick, got_by, is_opened, own_after, state_of}
 use Rattle.mux_station.specs.Written.{is_kind, is_on}
 use Rattle.mux_station.proofs.states.StatesAfterActs.{state_next}
 use Rattle.modem_history.specs.TwoEnds.{frames_got, frames_sent}

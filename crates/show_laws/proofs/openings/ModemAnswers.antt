@@ -6,7 +6,8 @@ use Rattle.mux_frame.specs.Frames.{Frame}
 use Rattle.mux_frame.specs.declared.frame.Kind.TheVariants.{Sabm, Ua, Dm}
 use Rattle.mux_station.specs.declared.role.Role.TheVariants.{Responder}
 use Rattle.mux_station.specs.Acts.{Act, Got}
-use Rattle.mux_station.specs.Opening.{ends, is_open, standings}
+use Rattle.mux_station.proofs.states.OpeningSteps.{is_open_after}
+use Rattle.mux_station.specs.Opening.{ends, is_open}
 use Rattle.mux_station.specs.Written.{is_kind, is_on}
 use Rattle.modem_show.specs.Asking.{Ask, is_mode_answer, is_mode_command}
 use Rattle.modem_show.specs.Ends.{handled}
@@ -18,7 +19,7 @@ open_m d past = is_open Responder d past
 
 -- 0 is
 abbrev pub zero_m : ℕ → List Act → Bool
-zero_m d past = (standings Responder d past).zero.is_open
+zero_m d past = is_open Responder 0 past
 
 -- a UA or DM on d; a SABM or DISC on d
 abbrev pub answer_on : ℕ → Frame → Bool
@@ -57,4 +58,4 @@ read_alone o a e new = ap handled e ∙ ap (λ (b : Bool). if b then [] else Got
 
 -- a SABM on d that comes to a responder opens d, if d is 0 or 0 is open
 pub opened_there : (d : ℕ) (f : Frame) (q : List Act) → is_on Sabm d f ≡ true → ((d == 0) || zero_m d q) ≡ true → open_m d (Got f ∷ q) ≡ true
-opened_there d f q is z = ap (λ (b : Bool). b || (open_m d q && not (ends (zero_m d q) d (Got f)))) (and_from (is_on Sabm d f) ((d == 0) || zero_m d q) is z)
+opened_there d f q is z = is_open_after Responder d q (Got f) ∙ ap (λ (b : Bool). b || (open_m d q && not (ends (zero_m d q) d (Got f)))) (and_from (is_on Sabm d f) ((d == 0) || zero_m d q) is z)

@@ -10,13 +10,13 @@ use Rattle.mux_station.specs.declared.role.Role.TheVariants.{Initiator, Responde
 use Rattle.mux_station.specs.declared.error.StationError.{StationError}
 use Rattle.mux_station.specs.declared.error.StationError.TheVariants.{Busy, ControlChannel, NotOpen}
 use Rattle.mux_station.specs.Acts.{Call, Open, Close, Probe, Stop, Flow, Offer, Act, Called, Got, Sent, Tick, Lost, Given}
+use Rattle.mux_station.proofs.states.OpeningSteps.{is_open_after}
 use Rattle.mux_station.specs.Messages.{Message, brings_command, brings_response, cld, is_command, message_in, message_of, msc, nsc, octet_is, response_of, test}
-use Rattle.mux_station.specs.Opening.{ends_itself, is_open, opens_now, standings}
+use Rattle.mux_station.specs.Opening.{is_open, opens_now}
 use Rattle.mux_station.specs.Sending.{Sends, StationLawful, StationView, called_frames, frames_asked, frames_seeing, if_no_room, or_else, owed_frames, refused, station_view}
-use Rattle.mux_station.specs.States.{State, IsShut, IsOpening, IsOpened, IsClosing, IsStopping, at_answered, at_close_down, at_sent, is_opened, is_shut, own_after, state_of}
+use Rattle.mux_station.specs.States.{ends_itself, State, IsShut, IsOpening, IsOpened, IsClosing, IsStopping, at_answered, at_close_down, at_sent, is_opened, is_shut, own_after, state_of}
 use Rattle.mux_station.specs.Tables.{by_frame, by_message, by_table, by_tick, held_up, is_opening, is_supported, message_frame, msc_after_opening, msc_frame, ready, response_to, ua_or_dm}
 use Rattle.mux_station.specs.Written.{is_data_frame, is_kind, is_on, written}
-use Rattle.mux_station.proofs.states.OpenedStates.{opened_is_open}
 use Rattle.mux_station.proofs.states.StatesAfterActs.{state_next}
 use Rattle.modem_history.specs.TwoEnds.{frames_got, frames_sent}
 use Rattle.show_laws.specs.Lines.{responding}
@@ -24,7 +24,7 @@ use Rattle.show_laws.proofs.asks.AnswerShapes.{supported_by}
 use Rattle.show_laws.proofs.asks.AnswersCalled.{IsRead, as_it_is, is_read, unread}
 use Rattle.show_laws.proofs.counts.ManyFrames.{few_if, many, many_both, none_one, unit}
 use Rattle.show_laws.proofs.counts.BalancedTables.{tick_none}
-use Rattle.show_laws.proofs.counts.StationCounts.{called}
+use Rattle.show_laws.proofs.counts.StationCounts.{station_called}
 use Rattle.show_laws.proofs.openings.DiscBehindUa.{disc_never, discs, tick_disc}
 use Rattle.show_laws.proofs.openings.OpenBelowZero.{many_or, none_when}
 use Rattle.show_laws.proofs.openings.UaBehindSabm.{none_of, shut}
@@ -264,7 +264,7 @@ more_owed : (n1 e : ℕ) (past : List Act) (a : Act) → many (closer e) (frames
     → many (closer e) (owed_frames (responding n1) past ++ called_frames (responding n1) past a) ≤ 0
 more_owed n1 e past a none before =
     let both = many_both (closer e) (owed_frames (responding n1) past) (called_frames (responding n1) past a) in
-    let few = called (closer e) 0 (responding n1) past a none in
+    let few = station_called (closer e) 0 (responding n1) past a none in
     omega (arith, both, few, before)
 
 -- data closes nothing
@@ -371,15 +371,15 @@ none_down n1 (Called c ∷ past) l none =
     let h = none_down n1 past l none in
     let st = responding n1 in
     let v = station_view st past in
-    let shut_now = opened_is_open Responder past 0 ∙ (shut n1 0 past l none).open_not in
-    let few = called (brings_command cld) 0 st past (Called c) (call_no_cld n1 v c (is_none (refused st v c)) refl shut_now) in
+    let shut_now = (shut n1 0 past l none).open_not in
+    let few = station_called (brings_command cld) 0 st past (Called c) (call_no_cld n1 v c (is_none (refused st v c)) refl shut_now) in
     let both = many_both (brings_command cld) (owed_frames st past) (called_frames st past (Called c)) in
     let o = h.owed_none in
     record { sent = h.sent; owed_none = omega (arith, few, both, o) }
 none_down n1 (Got f ∷ past) l none =
     let h = none_down n1 past l (omega (arith, none)) in
     let st = responding n1 in
-    let few = called (brings_command cld) 0 st past (Got f) (frame_no_cld Responder (station_view st past).state f) in
+    let few = station_called (brings_command cld) 0 st past (Got f) (frame_no_cld Responder (station_view st past).state f) in
     let both = many_both (brings_command cld) (owed_frames st past) (called_frames st past (Got f)) in
     let o = h.owed_none in
     record { sent = h.sent; owed_none = omega (arith, few, both, o) }
@@ -387,13 +387,13 @@ none_down n1 (Tick ∷ past) l none =
     let h = none_down n1 past l none in
     let st = responding n1 in
     let v = station_view st past in
-    let few = called (brings_command cld) 0 st past Tick (tick_none Responder (brings_command cld) (λ x. refl) (λ x. refl) n1 v.state v.queued 0 62) in
+    let few = station_called (brings_command cld) 0 st past Tick (tick_none Responder (brings_command cld) (λ x. refl) (λ x. refl) n1 v.state v.queued 0 62) in
     let both = many_both (brings_command cld) (owed_frames st past) (called_frames st past Tick) in
     let o = h.owed_none in
     record { sent = h.sent; owed_none = omega (arith, few, both, o) }
 none_down n1 (Given ∷ past) l none =
     let h = none_down n1 past l none in
-    let few = called (brings_command cld) 0 (responding n1) past Given (omega arith) in
+    let few = station_called (brings_command cld) 0 (responding n1) past Given (omega arith) in
     let both = many_both (brings_command cld) (owed_frames (responding n1) past) (called_frames (responding n1) past Given) in
     let o = h.owed_none in
     record { sent = h.sent; owed_none = omega (arith, few, both, o) }
@@ -424,7 +424,7 @@ cld_behind n1 past l none = (none_down n1 past l none).sent
 -- ## While it is open
 
 open_unended : (e : ℕ) (past : List Act) (f : Frame) → is_open Responder e (Sent f ∷ past) ≡ true → closer e f ≡ false
-open_unended e past f o = by_end (is_on Disc e f) (brings_command cld f) (is_open Responder e past) (not (e == 0) && ends_itself (standings Responder e past).zero.is_open 0 (Sent f)) (e == 0) o
+open_unended e past f o = by_end (is_on Disc e f) (brings_command cld f) (is_open Responder e past) (not (e == 0) && ends_itself (is_open Responder 0 past) 0 (Sent f)) (e == 0) (sym (is_open_after Responder e past (Sent f)) ∙ o)
   where
     by_end : (a c i y z : Bool) → (i && not ((a || c) || y)) ≡ true → (a || (z && c)) ≡ false
     by_end a c false y z h = cc
@@ -442,7 +442,7 @@ none_closed n1 e (Got f ∷ past) l once asks o = by_opens (opens_now Responder 
     by_opens : (b : Bool) → opens_now Responder e past (Got f) ≡ b → (is_open Responder e past ≡ true → many (closer e) (frames_sent past) ≤ 0) → many (closer e) (frames_sent past) ≤ 0
     by_opens false k rest = rest (open_before Responder e past (Got f) k o)
     by_opens true k rest =
-        let u : unit (is_on Sabm e f) ≡ 1 = ap unit (and_parts (is_on Sabm e f) ((e == 0) || (standings Responder e past).zero.is_open) k).0 in
+        let u : unit (is_on Sabm e f) ≡ 1 = ap unit (and_parts (is_on Sabm e f) ((e == 0) || is_open Responder 0 past) k).0 in
         (untouched n1 e past l (omega (arith, once, u)) asks).sent_none
 none_closed n1 e (Sent f ∷ past) l once asks o =
     let k = none_closed n1 e past l.1 once (omega (arith, asks)) (open_before Responder e past (Sent f) refl o) in

@@ -11,12 +11,11 @@ use Rattle.mux_station.specs.declared.role.Role.TheVariants.{Initiator, Responde
 use Rattle.mux_station.specs.Acts as station
 use Rattle.mux_station.specs.Messages.{cld, brings_command, message_in}
 use Rattle.mux_station.specs.Opening.{ends, is_mode_frame_on}
+use Rattle.mux_station.proofs.states.OpeningSteps.{is_open_after}
 use Rattle.mux_station.specs.Sending.{Sends, StationLawful, called_frames, is_loss, owed_frames}
-use Rattle.mux_station.specs.States.{is_opened, state_of}
+use Rattle.mux_station.specs.States.{state_of}
 use Rattle.mux_station.specs.Tables.{by_frame}
 use Rattle.mux_station.specs.Written.{is_data_frame, is_kind, is_on}
-use Rattle.mux_station.proofs.states.OpenByPlaces.{zero_same}
-use Rattle.mux_station.proofs.states.OpenedStates.{opened_is_open}
 use Rattle.modem_history.specs.Acts as driver
 use Rattle.modem_history.specs.Acts.{wire}
 use Rattle.modem_history.specs.Calls.{Setting}
@@ -60,7 +59,8 @@ keep false k false false g h = refl
 quiet_open_m : (d : ℕ) (f : Frame) (past : List station.Act) → Quiet d f → open_m d (station.Got f ∷ past) ≡ open_m d past
 quiet_open_m d f past h =
     let n = no_mode d f h.mode in
-    keep (is_on Sabm d f) ((d == 0) || zero_m d past) (open_m d past) (ends (zero_m d past) d (station.Got f)) n.sabm (ends_none (zero_m d past) d f n (no_mode 0 f h.mode_of_zero) h.no_cld)
+    is_open_after Responder d past (station.Got f)
+    ∙ keep (is_on Sabm d f) ((d == 0) || zero_m d past) (open_m d past) (ends (zero_m d past) d (station.Got f)) n.sabm (ends_none (zero_m d past) d f n (no_mode 0 f h.mode_of_zero) h.no_cld)
 
 -- the ask that is found passes
 pub found_passes : (p : Frame → Bool) (asks : List Ask) (a : Ask) → find (λ x. p x.frame) asks ≡ Some a → p a.frame ≡ true
@@ -144,8 +144,9 @@ zero_answered s n1 d line h apart o =
 
 modem_sent : (s : Setting) (n1 d : ℕ) (stamps : ℕ → Stamp) (f : Frame) (line : List LineAct) → IsOnceLine s n1 (AtModem (station.Sent f) ∷ line) → Opens d stamps line → Opens 0 stamps line → Opens d stamps (AtModem (station.Sent f) ∷ line)
 modem_sent s n1 d stamps f line h before before_zero o some few =
-    let p = and_parts (open_m d (modem_past line)) (not (ends (zero_m d (modem_past line)) d (station.Sent f))) o in
-    and_from (open_m d (handled answered ++ q)) (not (ends (zero_m d (modem_past line)) d (station.Sent f))) (by_answer (answer_on d f) refl p.0) p.1
+    let p = and_parts (open_m d (modem_past line)) (not (ends (zero_m d (modem_past line)) d (station.Sent f))) (sym (is_open_after Responder d (modem_past line) (station.Sent f)) ∙ o) in
+    is_open_after Responder d (handled answered ++ q) (station.Sent f)
+    ∙ and_from (open_m d (handled answered ++ q)) (not (ends (zero_m d (modem_past line)) d (station.Sent f))) (by_answer (answer_on d f) refl p.0) p.1
   where
     q : List station.Act
     q = own Responder (captured stamps line)
@@ -165,8 +166,7 @@ modem_sent s n1 d stamps f line h before before_zero o some few =
     zero_there : (b : Bool) → (d == 0) ≡ b → open_m d (modem_past line) ≡ true → (b || zero_m d q) ≡ true
     zero_there true e k = refl
     zero_there false e k =
-        zero_same Responder d q
-        ∙ before_zero (above d (modem_past line) e k) (zero_answered s n1 d line older e k) (at_zero d (frames_sent (modem_past line)) (fewer_answers d f (frames_sent (modem_past line)) few))
+        before_zero (above d (modem_past line) e k) (zero_answered s n1 d line older e k) (at_zero d (frames_sent (modem_past line)) (fewer_answers d f (frames_sent (modem_past line)) few))
 
     not_zero : (b : Bool) → (d == 0) ≡ b → answer_on d f ≡ false → open_m d (modem_past line) ≡ true → answer_on 0 f ≡ false
     not_zero true e a k = ap (λ n. is_mode_answer f && (f.dlci == n)) (sym (eqb-true d 0 e)) ∙ a
@@ -194,7 +194,7 @@ modem_got : (s : Setting) (n1 d : ℕ) (stamps : ℕ → Stamp) (f : Frame) (lin
 modem_got s n1 d stamps f line h before o some few =
     let past = modem_past line in
     let z = zero_m d past in
-    or_elim (is_on Sabm d f && ((d == 0) || z)) (open_m d past && not (ends z d (station.Got f))) o
+    or_elim (is_on Sabm d f && ((d == 0) || z)) (open_m d past && not (ends z d (station.Got f))) (sym (is_open_after Responder d past (station.Got f)) ∙ o)
     (λ k.
     let now = came_few (is_on Sabm d) (wire (driver_past line)) (modem_past (AtModem (station.Got f) ∷ line)) (both_ways (AtModem (station.Got f) ∷ line) h.lawful.one_line).at_modem in
     let once = h.once d in
@@ -230,7 +230,8 @@ come_open d f q o = by_come (is_ask f || is_kind f.kind Dm) refl
     by_come false e =
         let p = or_parts (is_ask f) (is_kind f.kind Dm) e in
         let a = or_parts (is_mode_command f) (message_asks (message_in f)) p.0 in
-        kept (is_on Sabm d f && ((d == 0) || zero_m d q)) (open_m d q) (ends (zero_m d q) d (station.Got f)) o
+        is_open_after Responder d q (station.Got f)
+        ∙ kept (is_on Sabm d f && ((d == 0) || zero_m d q)) (open_m d q) (ends (zero_m d q) d (station.Got f)) o
         (ends_none (zero_m d q) d f (plain d a.0 p.1) (plain 0 a.0 p.1) (cld_asks f a.1))
 
 -- ## The whole line
@@ -243,13 +244,13 @@ modem_line s n1 d stamps (AtModem (station.Sent f) ∷ line) h o some few =
     modem_sent s n1 d stamps f line h (modem_line s n1 d stamps line k) (modem_line s n1 0 stamps line k) o some few
 modem_line s n1 d stamps (AtModem (station.Got f) ∷ line) h o some few = modem_got s n1 d stamps f line h (modem_line s n1 d stamps line (once_line_before s n1 (AtModem (station.Got f)) line h)) o some few
 modem_line s n1 d stamps (AtModem (station.Called c) ∷ line) h o some few =
-    modem_line s n1 d stamps line (once_line_before s n1 (AtModem (station.Called c)) line h) (and_parts (open_m d (modem_past line)) (not (ends (zero_m d (modem_past line)) d (station.Called c))) o).0 some few
+    modem_line s n1 d stamps line (once_line_before s n1 (AtModem (station.Called c)) line h) (and_parts (open_m d (modem_past line)) (not (ends (zero_m d (modem_past line)) d (station.Called c))) (sym (is_open_after Responder d (modem_past line) (station.Called c)) ∙ o)).0 some few
 modem_line s n1 d stamps (AtModem station.Tick ∷ line) h o some few =
-    modem_line s n1 d stamps line (once_line_before s n1 (AtModem station.Tick) line h) (and_parts (open_m d (modem_past line)) (not (ends (zero_m d (modem_past line)) d station.Tick)) o).0 some few
+    modem_line s n1 d stamps line (once_line_before s n1 (AtModem station.Tick) line h) (and_parts (open_m d (modem_past line)) (not (ends (zero_m d (modem_past line)) d station.Tick)) (sym (is_open_after Responder d (modem_past line) station.Tick) ∙ o)).0 some few
 modem_line s n1 d stamps (AtModem station.Lost ∷ line) h o some few =
-    modem_line s n1 d stamps line (once_line_before s n1 (AtModem station.Lost) line h) (and_parts (open_m d (modem_past line)) (not (ends (zero_m d (modem_past line)) d station.Lost)) o).0 some few
+    modem_line s n1 d stamps line (once_line_before s n1 (AtModem station.Lost) line h) (and_parts (open_m d (modem_past line)) (not (ends (zero_m d (modem_past line)) d station.Lost)) (sym (is_open_after Responder d (modem_past line) station.Lost) ∙ o)).0 some few
 modem_line s n1 d stamps (AtModem station.Given ∷ line) h o some few =
-    modem_line s n1 d stamps line (once_line_before s n1 (AtModem station.Given) line h) (and_parts (open_m d (modem_past line)) (not (ends (zero_m d (modem_past line)) d station.Given)) o).0 some few
+    modem_line s n1 d stamps line (once_line_before s n1 (AtModem station.Given) line h) (and_parts (open_m d (modem_past line)) (not (ends (zero_m d (modem_past line)) d station.Given)) (sym (is_open_after Responder d (modem_past line) station.Given) ∙ o)).0 some few
 modem_line s n1 d stamps (AtDriver (driver.Sent f) ∷ line) h o some few =
     come_open d f (own Responder (captured stamps line)) (modem_line s n1 d stamps line (once_line_before s n1 (AtDriver (driver.Sent f)) line h) o some few)
 modem_line s n1 d stamps (AtDriver (driver.Took q) ∷ line) h o some few = modem_line s n1 d stamps line (once_line_before s n1 (AtDriver (driver.Took q)) line h) o some few
@@ -270,7 +271,7 @@ pub ua_called : (n1 d : ℕ) (past : List station.Act) → StationLawful (respon
 unfolding StationLawful Sends
 ua_called n1 d [] l live o = cc
 ua_called n1 d (station.Sent f ∷ past) l live o =
-    let p = and_parts (open_m d past) (not (ends (zero_m d past) d (station.Sent f))) o in
+    let p = and_parts (open_m d past) (not (ends (zero_m d past) d (station.Sent f))) (sym (is_open_after Responder d past (station.Sent f)) ∙ o) in
     by_data (is_data_frame f) refl l.0 (ua_called n1 d past l.1 live p.0)
   where
     by_data : (b : Bool) → is_data_frame f ≡ b → Sends (responding n1) past f b → 1 ≤ many (is_on Ua d) (owed_frames (responding n1) past) + many (is_on Ua d) (frames_sent past)
@@ -284,26 +285,25 @@ ua_called n1 d (station.Got f ∷ past) l live o =
     let st = responding n1 in
     let z = zero_m d past in
     let both = many_both (is_on Ua d) (owed_frames st past) (called_frames st past (station.Got f)) in
-    or_elim (is_on Sabm d f && ((d == 0) || z)) (open_m d past && not (ends z d (station.Got f))) o
+    or_elim (is_on Sabm d f && ((d == 0) || z)) (open_m d past && not (ends z d (station.Got f))) (sym (is_open_after Responder d past (station.Got f)) ∙ o)
     (λ k.
     let p = and_parts (is_on Sabm d f) ((d == 0) || z) k in
-    let zero_is : z ≡ is_opened (state_of Responder 0 past) = zero_same Responder d past ∙ sym (opened_is_open Responder past 0) in
-    let some = opening_answered d (λ e. state_of Responder e past) f p.0 (sym (ap (λ (b : Bool). (d == 0) || b) zero_is) ∙ p.1) in
+    let some = opening_answered d (λ e. state_of Responder e past) f p.0 p.1 in
     let same : many (is_on Ua d) (called_frames st past (station.Got f)) ≡ many (is_on Ua d) (by_frame Responder (λ e. state_of Responder e past) f) =
     ap (λ (b : Bool). many (is_on Ua d) (if b then [] else by_frame Responder (λ e. state_of Responder e past) f)) live in
     omega (arith, both, some, same))
     (λ k. let w = ua_called n1 d past l live (and_parts (open_m d past) (not (ends z d (station.Got f))) k).0 in omega (arith, both, w))
 ua_called n1 d (station.Called c ∷ past) l live o =
     let both = many_both (is_on Ua d) (owed_frames (responding n1) past) (called_frames (responding n1) past (station.Called c)) in
-    let w = ua_called n1 d past l live (and_parts (open_m d past) (not (ends (zero_m d past) d (station.Called c))) o).0 in
+    let w = ua_called n1 d past l live (and_parts (open_m d past) (not (ends (zero_m d past) d (station.Called c))) (sym (is_open_after Responder d past (station.Called c)) ∙ o)).0 in
     omega (arith, both, w)
 ua_called n1 d (station.Tick ∷ past) l live o =
     let both = many_both (is_on Ua d) (owed_frames (responding n1) past) (called_frames (responding n1) past station.Tick) in
-    let w = ua_called n1 d past l live (and_parts (open_m d past) (not (ends (zero_m d past) d station.Tick)) o).0 in
+    let w = ua_called n1 d past l live (and_parts (open_m d past) (not (ends (zero_m d past) d station.Tick)) (sym (is_open_after Responder d past station.Tick) ∙ o)).0 in
     omega (arith, both, w)
 ua_called n1 d (station.Given ∷ past) l live o =
     let both = many_both (is_on Ua d) (owed_frames (responding n1) past) (called_frames (responding n1) past station.Given) in
-    let w = ua_called n1 d past l live (and_parts (open_m d past) (not (ends (zero_m d past) d station.Given)) o).0 in
+    let w = ua_called n1 d past l live (and_parts (open_m d past) (not (ends (zero_m d past) d station.Given)) (sym (is_open_after Responder d past station.Given) ∙ o)).0 in
     omega (arith, both, w)
 ua_called n1 d (station.Lost ∷ past) l live o = absurd (let x : true ≡ false = live in cc)
 

@@ -11,8 +11,8 @@ use Rattle.mux_station.specs.declared.role.Role.TheVariants.{Initiator, Responde
 use Rattle.mux_station.specs.Acts as station
 use Rattle.mux_station.specs.Messages.{cld, message_of, octet_is}
 use Rattle.mux_station.specs.Opening.{ends}
+use Rattle.mux_station.proofs.states.OpeningSteps.{is_open_after}
 use Rattle.mux_station.specs.Written.{is_kind, is_on}
-use Rattle.mux_station.proofs.states.OpenByPlaces.{zero_same}
 use Rattle.modem_history.specs.Acts as driver
 use Rattle.modem_history.specs.Acts.{wire}
 use Rattle.modem_history.specs.Calls.{Setting}
@@ -121,18 +121,18 @@ zero_open : (d : ℕ) (past : List station.Act) → (d == 0) ≡ false → open_
 zero_open d [] apart o = cc
 zero_open d (station.Got f ∷ past) apart o =
     let z = zero_m d past in
-    or_elim (is_on Sabm d f && ((d == 0) || z)) (open_m d past && not (ends z d (station.Got f))) o
+    or_elim (is_on Sabm d f && ((d == 0) || z)) (open_m d past && not (ends z d (station.Got f))) (sym (is_open_after Responder d past (station.Got f)) ∙ o)
     (λ s.
     let p = and_parts (is_on Sabm d f) ((d == 0) || z) s in
     let there : z ≡ true = sym (ap (λ (b : Bool). b || z) apart) ∙ p.1 in
-    kept_zero (is_on Sabm 0 f && true) z (ends z 0 (station.Got f)) there (sabm_elsewhere z d f p.0 apart))
-    (λ s. let p = unended (open_m d past) (ends z d (station.Got f)) s in kept_zero (is_on Sabm 0 f && true) z (ends z 0 (station.Got f)) (zero_open d past apart p.0) (itself_zero z (station.Got f) d apart p.1))
-zero_open d (station.Sent f ∷ past) apart o = let z = zero_m d past in let p = unended (open_m d past) (ends z d (station.Sent f)) o in kept_zero false z (ends z 0 (station.Sent f)) (zero_open d past apart p.0) (itself_zero z (station.Sent f) d apart p.1)
-zero_open d (station.Called c ∷ past) apart o = let z = zero_m d past in let p = unended (open_m d past) (ends z d (station.Called c)) o in kept_zero false z (ends z 0 (station.Called c)) (zero_open d past apart p.0) (itself_zero z (station.Called c) d apart p.1)
-zero_open d (station.Tick ∷ past) apart o = let z = zero_m d past in let p = unended (open_m d past) (ends z d station.Tick) o in kept_zero false z (ends z 0 station.Tick) (zero_open d past apart p.0) (itself_zero z station.Tick d apart p.1)
-zero_open d (station.Lost ∷ past) apart o = let z = zero_m d past in let p = unended (open_m d past) (ends z d station.Lost) o in kept_zero false z (ends z 0 station.Lost) (zero_open d past apart p.0) (itself_zero z station.Lost d apart p.1)
-zero_open d (station.Given ∷ past) apart o = let z = zero_m d past in let p = unended (open_m d past) (ends z d station.Given) o in kept_zero false z (ends z 0 station.Given) (zero_open d past apart p.0) (itself_zero z station.Given d apart p.1)
+    is_open_after Responder 0 past (station.Got f) ∙ kept_zero (is_on Sabm 0 f && true) z (ends z 0 (station.Got f)) there (sabm_elsewhere z d f p.0 apart))
+    (λ s. let p = unended (open_m d past) (ends z d (station.Got f)) s in is_open_after Responder 0 past (station.Got f) ∙ kept_zero (is_on Sabm 0 f && true) z (ends z 0 (station.Got f)) (zero_open d past apart p.0) (itself_zero z (station.Got f) d apart p.1))
+zero_open d (station.Sent f ∷ past) apart o = let z = zero_m d past in let p = unended (open_m d past) (ends z d (station.Sent f)) (sym (is_open_after Responder d past (station.Sent f)) ∙ o) in is_open_after Responder 0 past (station.Sent f) ∙ kept_zero false z (ends z 0 (station.Sent f)) (zero_open d past apart p.0) (itself_zero z (station.Sent f) d apart p.1)
+zero_open d (station.Called c ∷ past) apart o = let z = zero_m d past in let p = unended (open_m d past) (ends z d (station.Called c)) (sym (is_open_after Responder d past (station.Called c)) ∙ o) in is_open_after Responder 0 past (station.Called c) ∙ kept_zero false z (ends z 0 (station.Called c)) (zero_open d past apart p.0) (itself_zero z (station.Called c) d apart p.1)
+zero_open d (station.Tick ∷ past) apart o = let z = zero_m d past in let p = unended (open_m d past) (ends z d station.Tick) (sym (is_open_after Responder d past station.Tick) ∙ o) in is_open_after Responder 0 past station.Tick ∙ kept_zero false z (ends z 0 station.Tick) (zero_open d past apart p.0) (itself_zero z station.Tick d apart p.1)
+zero_open d (station.Lost ∷ past) apart o = let z = zero_m d past in let p = unended (open_m d past) (ends z d station.Lost) (sym (is_open_after Responder d past station.Lost) ∙ o) in is_open_after Responder 0 past station.Lost ∙ kept_zero false z (ends z 0 station.Lost) (zero_open d past apart p.0) (itself_zero z station.Lost d apart p.1)
+zero_open d (station.Given ∷ past) apart o = let z = zero_m d past in let p = unended (open_m d past) (ends z d station.Given) (sym (is_open_after Responder d past station.Given) ∙ o) in is_open_after Responder 0 past station.Given ∙ kept_zero false z (ends z 0 station.Given) (zero_open d past apart p.0) (itself_zero z station.Given d apart p.1)
 
 -- while another connection is open at a responder 0 is
 pub above : (d : ℕ) (past : List station.Act) → (d == 0) ≡ false → open_m d past ≡ true → open_m 0 past ≡ true
-above d past apart o = sym (zero_same Responder d past) ∙ zero_open d past apart o
+above d past apart o = zero_open d past apart o

@@ -18,15 +18,15 @@ use Rattle.show_laws.specs.Lines.{AtDriver, LineAct, captured, driver_past}
 use Rattle.show_laws.proofs.openings.DriverOpen.{IsOnceLine, follows, once_line_before, seen_by}
 
 -- data that a lawful driver sends keeps the laws of data
-pub data_gated : (s : Setting) (past : List Act) (f : Frame) → Lawful s (Sent f ∷ past) → is_data_frame f ≡ true → Gated s past (owed s past) f
+pub driver_gated : (s : Setting) (past : List Act) (f : Frame) → Lawful s (Sent f ∷ past) → is_data_frame f ≡ true → Gated s past (owed s past) f
 unfolding Lawful
-data_gated s past f l is = subst (λ (b : Bool). When b (Gated s past (owed s past) f)) is l.0.gated
+driver_gated s past f l is = subst (λ (b : Bool). When b (Gated s past (owed s past) f)) is l.0.gated
 
 -- the driver's data is on an open connection by what passed, or one in doubt
 pub driver_open : (s : Setting) (n1 : ℕ) (stamps : ℕ → Stamp) (f : Frame) (line : List LineAct) → IsOnceLine s n1 (AtDriver (Sent f) ∷ line) → is_unopened (captured stamps line) (caught (stamps (length (captured stamps line))) ToModem f) ≡ false
 driver_open s n1 stamps f line h =
     by_data (is_data_frame f) (is_open Initiator f.dlci (seen_by stamps line)) (is_in_doubt f.dlci (waiting Responder (captured stamps line))) (λ is.
-    let gated = data_gated s (driver_past line) f h.lawful.driver_lawful is in
+    let gated = driver_gated s (driver_past line) f h.lawful.driver_lawful is in
     let there : is_open Initiator f.dlci (wire (driver_past line)) ≡ true = subst (λ (r : Role). is_open r f.dlci (wire (driver_past line)) ≡ true) h.lawful.is_initiator gated.is_open in
     (follows s n1 f.dlci stamps line (once_line_before s n1 (AtDriver (Sent f)) line h)).opens there)
   where

@@ -9,12 +9,11 @@ use Rattle.mux_station.specs.declared.role.Role.{Role}
 use Rattle.mux_station.specs.declared.role.Role.TheVariants.{Initiator}
 use Rattle.mux_station.specs.Acts as station
 use Rattle.mux_station.specs.Messages.{brings_command, cld, message_of, octet_is}
-use Rattle.mux_station.specs.Opening.{asks, ends, is_mode_frame, is_open, opens, standings}
+use Rattle.mux_station.specs.Opening.{asks, ends, is_mode_frame, is_open, opens, opens_now}
 use Rattle.mux_station.specs.States.{State, IsShut, IsOpening, IsOpened, IsClosing, IsStopping, is_opened, is_shut, state_of}
 use Rattle.mux_station.specs.Tables.{again, held_up, if_room, is_opening, msc_frame, octets_of, ready, ticked}
 use Rattle.mux_station.specs.Written.{is_data_frame, is_kind, is_on, written}
-use Rattle.mux_station.proofs.states.OpenByPlaces.{zero_same}
-use Rattle.mux_station.proofs.states.OpenedStates.{opened_is_open, opening_is_asked}
+use Rattle.mux_station.proofs.states.OpeningSteps.{is_open_after, opening_asked}
 use Rattle.modem_desk.specs.declared.request.Ask.{Ask}
 use Rattle.modem_desk.specs.declared.request.Ask.TheVariants.{OpenChannel, CloseChannel, Command, Probe, Stop}
 use Rattle.modem_desk.specs.declared.request.Answer.{Answer}
@@ -46,7 +45,7 @@ pub record Below (s : Setting) (d : ℕ) (past : List Act) : Type 0 where
 -- ## One act of the station
 
 keeps : (d : ℕ) (p : List station.Act) (a : station.Act) → ends (zero_at d p) 0 a ≡ false → zero_at d p ≡ true → zero_at d (a ∷ p) ≡ true
-keeps d p a e z = kept_zero (opens Initiator (zero_at d p) (standings Initiator d p).zero.is_asked 0 a) (zero_at d p) (ends (zero_at d p) 0 a) z e
+keeps d p a e z = is_open_after Initiator 0 p a ∙ kept_zero (opens_now Initiator 0 p a) (zero_at d p) (ends (zero_at d p) 0 a) z e
 
 up_step : (d : ℕ) (p : List station.Act) (a : station.Act) → (d == 0) ≡ false → ((open_at d p || asked_at d p) ≡ true → zero_at d p ≡ true)
     → (opens Initiator (zero_at d p) (asked_at d p) d a ≡ true → (asked_at d p ≡ true) × (ends (zero_at d p) 0 a ≡ false))
@@ -55,7 +54,7 @@ up_step : (d : ℕ) (p : List station.Act) (a : station.Act) → (d == 0) ≡ fa
 up_step d p a apart h opening asking_it w =
     or_elim (open_at d (a ∷ p)) (asked_at d (a ∷ p)) w
     (λ o.
-    or_elim (opens Initiator (zero_at d p) (asked_at d p) d a) (open_at d p && not (ends (zero_at d p) d a)) o
+    or_elim (opens Initiator (zero_at d p) (asked_at d p) d a) (open_at d p && not (ends (zero_at d p) d a)) (sym (is_open_after Initiator d p a) ∙ o)
     (λ x. let q = opening x in keeps d p a q.1 (h (or_right (open_at d p) (asked_at d p) q.0)))
     (λ x. let q = unended (open_at d p) (ends (zero_at d p) d a) x in keeps d p a (itself_zero (zero_at d p) a d apart q.1) (h (or_left (open_at d p) (asked_at d p) q.0))))
     (λ k.
@@ -127,10 +126,10 @@ no_sabm_owed : {P : Type 0} → (n m : ℕ) → 1 ≤ n → n ≤ m → m ≤ 0 
 no_sabm_owed n m some few none = absurd (omega (arith, some, few, none))
 
 zero_from : (s : Setting) (d : ℕ) (past : List Act) → s.role ≡ Initiator → is_opened (state_of s.role 0 (wire past)) ≡ true → zero_at d (wire past) ≡ true
-zero_from s d past is h = zero_same Initiator d (wire past) ∙ (sym (opened_is_open Initiator (wire past) 0) ∙ (sym (ap (λ (r : Role). is_opened (state_of r 0 (wire past))) is) ∙ h))
+zero_from s d past is h = sym (ap (λ (r : Role). is_opened (state_of r 0 (wire past))) is) ∙ h
 
 zero_opened : (s : Setting) (d : ℕ) (past : List Act) → s.role ≡ Initiator → zero_at d (wire past) ≡ true → is_opened (state_of s.role 0 (wire past)) ≡ true
-zero_opened s d past is h = ap (λ (r : Role). is_opened (state_of r 0 (wire past))) is ∙ (opened_is_open Initiator (wire past) 0 ∙ (sym (zero_same Initiator d (wire past)) ∙ h))
+zero_opened s d past is h = ap (λ (r : Role). is_opened (state_of r 0 (wire past))) is ∙ h
 
 -- ## Requests
 
@@ -308,7 +307,7 @@ below s d (Tick ∷ past) is apart l =
           let first = first_owes s past Tick (is_on Sabm d) l.0.prompt in
           tick_sabm s.role s.n1 d v.state
           (λ o.
-          let asked = and_parts (asked_at d p) (not (open_at d p)) (sym (opening_is_asked d p) ∙ (sym (ap (λ (r : Role). is_opening (state_of r d p)) is) ∙ o)) in
+          let asked = and_parts (asked_at d p) (not (open_at d p)) (sym (opening_asked d p) ∙ (sym (ap (λ (r : Role). is_opening (state_of r d p)) is) ∙ o)) in
           let z = h.up (or_right (open_at d p) (asked_at d p) asked.0) in
           let few = first_owes s past Tick ends_zero l.0.prompt in
           let none = tick_keeps s.role s.n1 v.state v.queued (zero_opened s d past is z) in
@@ -335,14 +334,13 @@ below s d (Freed e ∷ past) is apart l =
 
 -- so where it is open 0 is open
 pub open_below : (s : Setting) (d : ℕ) (past : List Act) → s.role ≡ Initiator → (d == 0) ≡ false → Lawful s past → open_at d (wire past) ≡ true → is_open Initiator 0 (wire past) ≡ true
-open_below s d past is apart l o = sym (zero_same Initiator d (wire past)) ∙ (below s d past is apart l).up (or_left (open_at d (wire past)) (asked_at d (wire past)) o)
+open_below s d past is apart l o = (below s d past is apart l).up (or_left (open_at d (wire past)) (asked_at d (wire past)) o)
 
 -- ## The UA on 0
 
 zero_came : (d : ℕ) (p : List station.Act) → zero_at d p ≡ true → 1 ≤ many (is_on Ua 0) (frames_got p)
 zero_came d p z =
-    from_opened (many (is_on Ua 0) (frames_got p)) (many (is_on Sabm 0) (frames_sent p)) (state_of Initiator 0 p) (state_says 0 p)
-    (opened_is_open Initiator p 0 ∙ (sym (zero_same Initiator d p) ∙ z))
+    from_opened (many (is_on Ua 0) (frames_got p)) (many (is_on Sabm 0) (frames_sent p)) (state_of Initiator 0 p) (state_says 0 p) z
 
 -- a SABM on another connection is sent behind it
 pub sabm_behind : (s : Setting) (d : ℕ) (past : List Act) → s.role ≡ Initiator → (d == 0) ≡ false → Lawful s past → 1 ≤ many (is_on Sabm d) (frames_sent (wire past)) → 1 ≤ many (is_on Ua 0) (frames_got (wire past))

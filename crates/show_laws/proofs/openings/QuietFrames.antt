@@ -7,8 +7,10 @@ use Rattle.mux_frame.specs.declared.frame.Kind.{Kind}
 use Rattle.mux_frame.specs.declared.frame.Kind.TheVariants.{Sabm, Ua, Dm, Disc, Uih}
 use Rattle.mux_station.specs.declared.role.Role.TheVariants.{Initiator}
 use Rattle.mux_station.specs.Acts.{Act, Got}
+use Rattle.mux_station.proofs.states.OpeningSteps.{is_open_after}
 use Rattle.mux_station.specs.Messages.{Message, cld, nsc, brings_command, is_command, message_in, message_of, octet_is}
-use Rattle.mux_station.specs.Opening.{ends, ends_itself, is_mode_frame_on, is_open, standings}
+use Rattle.mux_station.specs.Opening.{ends, is_mode_frame_on, is_open, is_asked}
+use Rattle.mux_station.specs.States.{ends_itself}
 use Rattle.mux_station.specs.Written.{is_kind, is_on}
 use Rattle.modem_show.specs.Asking.{is_mode_command, message_asks}
 use Rattle.show_laws.proofs.counts.BalancedTables.{is_command_octet}
@@ -19,11 +21,11 @@ open_at d past = is_open Initiator d past
 
 -- d is asked for there
 abbrev pub asked_at : ℕ → List Act → Bool
-asked_at d past = (standings Initiator d past).own.is_asked
+asked_at d past = is_asked Initiator d past
 
 -- 0 is open there
 abbrev pub zero_at : ℕ → List Act → Bool
-zero_at d past = (standings Initiator d past).zero.is_open
+zero_at d past = is_open Initiator 0 past
 
 -- ## What ends nothing
 
@@ -72,7 +74,7 @@ quiet_ends z d f h = ends_none z d f (no_mode d f h.mode).0 (no_mode 0 f h.mode_
 
 -- a quiet frame that comes leaves d open or not, as it was
 pub quiet_open : (d : ℕ) (f : Frame) (past : List Act) → Quiet d f → open_at d (Got f ∷ past) ≡ open_at d past
-quiet_open d f past h = keep (is_on Ua d f) (asked_at d past) (open_at d past) (ends (zero_at d past) d (Got f)) (no_mode d f h.mode).1 (quiet_ends (zero_at d past) d f h)
+quiet_open d f past h = is_open_after Initiator d past (Got f) ∙ keep (is_on Ua d f) (asked_at d past) (open_at d past) (ends (zero_at d past) d (Got f)) (no_mode d f h.mode).1 (quiet_ends (zero_at d past) d f h)
   where
     keep : (u k o e : Bool) → u ≡ false → e ≡ false → ((u && k) || (o && not e)) ≡ o
     keep true k o e g h = cc
@@ -136,7 +138,7 @@ pub ender_shuts : (d : ℕ) (f : Frame) (past : List Act) → is_ender d f ≡ t
 ender_shuts d f past h =
     let e = ender_ends (zero_at d past) d f h in
     let u = mode_no_ua f.kind (f.dlci == d) (and_parts (is_mode_command f) ((f.dlci == d) || (f.dlci == 0)) h).0 in
-    (shut (is_on Ua d f) (asked_at d past) (open_at d past) (ends (zero_at d past) d (Got f)) u e, unasked (asked_at d past) (is_mode_frame_on d f) (ends (zero_at d past) d (Got f)) e)
+    (is_open_after Initiator d past (Got f) ∙ shut (is_on Ua d f) (asked_at d past) (open_at d past) (ends (zero_at d past) d (Got f)) u e, unasked (asked_at d past) (is_mode_frame_on d f) (ends (zero_at d past) d (Got f)) e)
   where
     shut : (u k o e : Bool) → u ≡ false → e ≡ true → ((u && k) || (o && not e)) ≡ false
     shut true k o e g h = cc

@@ -253,8 +253,8 @@ not_cld f g s a d = by_cld (brings_command cld f) refl
 -- ## The response to a CLD, by counts
 
 -- each frame passes
-abbrev pub every : Frame → Bool
-every f = true
+abbrev pub each_frame : Frame → Bool
+each_frame f = true
 
 at_most_one : (f : Frame) → many is_down (f ∷ []) ≤ 1
 at_most_one f = by_test (is_down f)
@@ -287,7 +287,7 @@ data_bare f h = off (is_kind f.kind Uih) (f.dlci == 0) (octet_is command_of cld 
     off false z c h = refl
 
 -- no more of them are called for than frames come
-pub down_balanced : (most : ℕ) (r : Role) → Balanced AnyProbe most r is_down every
+pub down_balanced : (most : ℕ) (r : Role) → Balanced AnyProbe most r is_down each_frame
 down_balanced most r = record {
   frame = λ state f.
       few_if is_down 1 (is_on Uih 0 f) (by_message r (state 0) f) (by_table r f.dlci (state 0) (state f.dlci) f.kind) (down_frames r (state 0) f)

@@ -6,12 +6,12 @@ use Rattle.mux_frame.specs.declared.frame.Kind.{Kind}
 use Rattle.mux_frame.specs.declared.frame.Kind.TheVariants.{Sabm, Ua, Dm, Disc, Uih}
 use Rattle.mux_station.specs.declared.role.Role.TheVariants.{Responder}
 use Rattle.mux_station.specs.Acts.{Act, Called, Got, Sent, Tick, Lost, Given}
-use Rattle.mux_station.specs.Opening.{ends, is_open, standings}
+use Rattle.mux_station.proofs.states.OpeningSteps.{is_open_after}
+use Rattle.mux_station.specs.Opening.{ends, is_open}
 use Rattle.mux_station.specs.Sending.{Sends, StationLawful, called_frames, owed_frames, refused, station_view}
 use Rattle.mux_station.specs.States.{State, is_opened}
 use Rattle.mux_station.specs.Tables.{by_frame, by_message, by_table, ua_or_dm}
 use Rattle.mux_station.specs.Written.{is_data_frame, is_kind, is_on}
-use Rattle.mux_station.proofs.states.OpenedStates.{opened_is_open}
 use Rattle.modem_show.specs.Asking.{is_mode_command}
 use Rattle.modem_history.specs.TwoEnds.{frames_got, frames_sent}
 use Rattle.modem_history.proofs.connections.InformationGrowth.{is_got}
@@ -19,7 +19,7 @@ use Rattle.one_modem.proofs.two_ends.ResponderFrames.{not_opening, still_shut}
 use Rattle.show_laws.specs.Lines.{responding}
 use Rattle.show_laws.proofs.counts.ManyFrames.{few_if, many, many_both, unit}
 use Rattle.show_laws.proofs.counts.BalancedTables.{none_of_tick}
-use Rattle.show_laws.proofs.counts.StationCounts.{asked, called}
+use Rattle.show_laws.proofs.counts.StationCounts.{station_asked, station_called}
 use Rattle.show_laws.proofs.asks.AnswersCalled.{AnyProbe}
 use Rattle.show_laws.proofs.openings.ModeAnswers.{messaged, modes_few, ua_balanced, ua_modes}
 
@@ -74,15 +74,14 @@ none_called d state f unasked shut = by_here (f.dlci == d) refl
 
 comes : (n1 d : ℕ) (past : List Act) (f : Frame) → is_on Sabm d f ≡ false → Shut n1 d past → Shut n1 d (Got f ∷ past)
 comes n1 d past f unasked h =
-    let s = standings Responder d past in
     let view = station_view (responding n1) past in
     let closed : (f.dlci == d) ≡ true → is_opened (view.state f.dlci) ≡ false =
-    λ here. opened_is_open Responder past f.dlci ∙ (ap (λ n. is_open Responder n past) (eqb-true f.dlci d here) ∙ h.open_not) in
-    let few = called (is_on Ua d) 0 (responding n1) past (Got f) (none_called d view.state f unasked closed) in
+    λ here. (ap (λ n. is_open Responder n past) (eqb-true f.dlci d here) ∙ h.open_not) in
+    let few = station_called (is_on Ua d) 0 (responding n1) past (Got f) (none_called d view.state f unasked closed) in
     let e = many_both (is_on Ua d) (owed_frames (responding n1) past) (called_frames (responding n1) past (Got f)) in
     let o = h.owed_none in
     record {
-      open_not = still_shut (is_on Sabm d f && ((d == 0) || s.zero.is_open)) (is_open Responder d past) (ends s.zero.is_open d (Got f)) (ap (λ (b : Bool). b && ((d == 0) || s.zero.is_open)) unasked) h.open_not;
+      open_not = is_open_after Responder d past (Got f) ∙ still_shut (is_on Sabm d f && ((d == 0) || is_open Responder 0 past)) (is_open Responder d past) (ends (is_open Responder 0 past) d (Got f)) (ap (λ (b : Bool). b && ((d == 0) || is_open Responder 0 past)) unasked) h.open_not;
       sent_none = h.sent_none;
       owed_none = omega (arith, e, few, o);
     }
@@ -94,19 +93,19 @@ shut n1 d [] l none = record { open_not = refl; sent_none = omega arith; owed_no
 shut n1 d (Called c ∷ past) l none =
     let h = shut n1 d past l none in
     let s = responding n1 in
-    let few = asked AnyProbe s (is_on Ua d) (λ f. is_mode_command f && (f.dlci == d)) (ua_balanced n1 Responder d) (station_view s past) c (is_none (refused s (station_view s past) c)) refl in
-    let p = plain n1 d past (Called c) refl (called (is_on Ua d) 0 s past (Called c) few) h in
+    let few = station_asked AnyProbe s (is_on Ua d) (λ f. is_mode_command f && (f.dlci == d)) (ua_balanced n1 Responder d) (station_view s past) c (is_none (refused s (station_view s past) c)) refl in
+    let p = plain n1 d past (Called c) refl (station_called (is_on Ua d) 0 s past (Called c) few) h in
     record { open_not = p.0; sent_none = h.sent_none; owed_none = p.1 }
 shut n1 d (Tick ∷ past) l none =
     let h = shut n1 d past l none in
     let s = responding n1 in
     let v = station_view s past in
     let few = none_of_tick AnyProbe n1 Responder (is_on Ua d) (λ f. is_mode_command f && (f.dlci == d)) (ua_balanced n1 Responder d) n1 v.state v.queued 0 62 in
-    let p = plain n1 d past Tick refl (called (is_on Ua d) 0 s past Tick few) h in
+    let p = plain n1 d past Tick refl (station_called (is_on Ua d) 0 s past Tick few) h in
     record { open_not = p.0; sent_none = h.sent_none; owed_none = p.1 }
 shut n1 d (Given ∷ past) l none =
     let h = shut n1 d past l none in
-    let p = plain n1 d past Given refl (called (is_on Ua d) 0 (responding n1) past Given (omega arith)) h in
+    let p = plain n1 d past Given refl (station_called (is_on Ua d) 0 (responding n1) past Given (omega arith)) h in
     record { open_not = p.0; sent_none = h.sent_none; owed_none = p.1 }
 shut n1 d (Lost ∷ past) l none =
     let h = shut n1 d past l none in

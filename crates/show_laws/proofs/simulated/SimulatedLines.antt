@@ -40,7 +40,7 @@ use Rattle.show_laws.specs.Lines.{IsOneLine, driver_past, modem_past, responding
 use Rattle.show_laws.specs.Simulated.{FinishesWithModem, Simulates, SoundToModem, TalksToModem, as_line}
 use Rattle.show_laws.specs.Talks.{AnswersCommands, FinishesTalk, TalksInTurn, TellsApart, commands_in, finals_in}
 use Rattle.show_laws.proofs.counts.ManyFrames.{few_if, many, many_both, unit}
-use Rattle.show_laws.proofs.counts.StationCounts.{called}
+use Rattle.show_laws.proofs.counts.StationCounts.{station_called}
 use Rattle.show_laws.proofs.openings.DiscBehindUa.{once_many}
 use Rattle.show_laws.proofs.openings.ModeAnswers.{modes_few}
 use Rattle.show_laws.proofs.openings.UaBehindSabm.{none_of}
@@ -121,7 +121,7 @@ owes_more : (e : End) (past : List modem.Act) (a : station.Act) → many is_sabm
     → many is_sabm (owed_frames (responding e.n1) (modem.wire past) ++ called_frames (responding e.n1) (modem.wire past) a) ≤ 0
 owes_more e past a none h =
     let both = many_both is_sabm (owed_frames (responding e.n1) (modem.wire past)) (called_frames (responding e.n1) (modem.wire past) a) in
-    let few = called is_sabm 0 (responding e.n1) (modem.wire past) a none in
+    let few = station_called is_sabm 0 (responding e.n1) (modem.wire past) a none in
     let o = h.owed in
     omega (arith, both, few, o)
 

@@ -1,12 +1,11 @@
 -- The responses that a driver sends, and those that it owes, say of a stop what the messages said that came to it.
-use Rattle.std.specs.Prelude.{◌≡◌, ℕ, ◌≤◌, not, Bool, true, false, List, [], ◌∷◌, ◌++◌, drop, Option, refl, is_none, unwrap_or, None, if◌then◌else◌}
+use Rattle.std.specs.Prelude.{◌≡◌, ℕ, ◌≤◌, not, Bool, true, false, List, [], ◌∷◌, ◌++◌, drop, Option, refl, is_none, unwrap_or, if◌then◌else◌}
 use Rattle.std.proofs.Common.{ap, arith, sym, ◌∙◌}
 use Rattle.mux_frame.specs.Frames.{Frame}
 use Rattle.mux_station.specs.Messages.{Message}
 use Rattle.mux_station.specs.Stopping.{if_message}
 use Rattle.mux_station.specs.Tables.{held_up, ready}
 use Rattle.mux_station.specs.Written.{is_data_frame}
-use Rattle.mux_station.proofs.states.OpenedStates.{opened_is_open}
 use Rattle.modem_history.specs.Acts.{Act, Took, Got, Sent, Told, Heard, Tick, Lost, Held, Freed, Given, wire}
 use Rattle.modem_history.specs.Calls.{Setting, asking, at_once, calls_behind, frames_by, is_lost, seen_behind}
 use Rattle.modem_history.specs.Lawful.{IsNext, Lawful, When, owed}
@@ -16,8 +15,8 @@ use Rattle.show_laws.proofs.asks.NoneUnasked.{any_asked}
 use Rattle.show_laws.proofs.counts.ManyFrames.{few_if, many}
 use Rattle.show_laws.proofs.counts.BalancedTables.{none_of_flow, none_of_tick}
 use Rattle.show_laws.proofs.counts.DriverCounts.{asked, frames_in, in_both, in_calls}
-use Rattle.show_laws.proofs.openings.ResponderCalls.{every}
-use Rattle.show_laws.proofs.stops.StopWords.{answer_says, back_balanced, says_back, says_on, speaks_back}
+use Rattle.show_laws.proofs.openings.ResponderCalls.{each_frame}
+use Rattle.show_laws.proofs.stops.StopWords.{answer_says, back_balanced, says_back, speaks_back}
 use Rattle.show_laws.proofs.stops.KeptStops.{back_both, frame_back, kept_stop, last_back, quiet_back, then_back}
 
 abbrev sent_back : ℕ → List Act → Bool
@@ -65,21 +64,21 @@ answered s d (Lost ∷ past) l live = let x : true ≡ false = live in cc
 answered s d (Took q ∷ past) l live =
     let v = seen_behind s past (owed s past) in
     more_none s d past (Took q) live (answered s d past l.1)
-    (few_if (speaks_back d) 0 (is_none (at_once s v q)) (asking s.role q.ask) [] (asked AnyProbe s.n1 s.role (speaks_back d) every (back_balanced s.n1 s.role d) q.ask (any_asked q.ask)) (omega arith))
+    (few_if (speaks_back d) 0 (is_none (at_once s v q)) (asking s.role q.ask) [] (asked AnyProbe s.n1 s.role (speaks_back d) each_frame (back_balanced s.n1 s.role d) q.ask (any_asked q.ask)) (omega arith))
 answered s d (Got f ∷ past) l live =
     let v = seen_behind s past (owed s past) in
     let k = kept_stop s.role d (wire past) in
     more s d past (Got f) live (answered s d past l.1)
-    ∙ (frame_back s.role d v.state f k ∙ ap (λ (z : Bool). unwrap_or (if z then says_on d f else None) k) (opened_is_open s.role (wire past) 0))
+    ∙ frame_back s.role d v.state f k
 answered s d (Tick ∷ past) l live =
     let v = seen_behind s past (owed s past) in
-    more_none s d past Tick live (answered s d past l.1) (none_of_tick AnyProbe s.n1 s.role (speaks_back d) every (back_balanced s.n1 s.role d) s.n1 v.state v.queued 0 62)
+    more_none s d past Tick live (answered s d past l.1) (none_of_tick AnyProbe s.n1 s.role (speaks_back d) each_frame (back_balanced s.n1 s.role d) s.n1 v.state v.queued 0 62)
 answered s d (Held e ∷ past) l live =
     let v = seen_behind s past (owed s past) in
-    more_none s d past (Held e) live (answered s d past l.1) (none_of_flow AnyProbe s.n1 s.role (speaks_back d) every (back_balanced s.n1 s.role d) v.state e held_up)
+    more_none s d past (Held e) live (answered s d past l.1) (none_of_flow AnyProbe s.n1 s.role (speaks_back d) each_frame (back_balanced s.n1 s.role d) v.state e held_up)
 answered s d (Freed e ∷ past) l live =
     let v = seen_behind s past (owed s past) in
-    more_none s d past (Freed e) live (answered s d past l.1) (none_of_flow AnyProbe s.n1 s.role (speaks_back d) every (back_balanced s.n1 s.role d) v.state e ready)
+    more_none s d past (Freed e) live (answered s d past l.1) (none_of_flow AnyProbe s.n1 s.role (speaks_back d) each_frame (back_balanced s.n1 s.role d) v.state e ready)
 
 -- where nothing is owed, the responses that were sent say it
 pub driver_kept : (s : Setting) (d : ℕ) (past : List Act) → Lawful s past → is_lost past ≡ false → owed s past ≡ [] → last_back d (frames_sent (wire past)) ≡ kept_stop s.role d (wire past)

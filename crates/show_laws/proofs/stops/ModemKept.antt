@@ -1,5 +1,5 @@
 -- The responses that a responder sends, and those that it owes, say of a stop what the messages said that came to it.
-use Rattle.std.specs.Prelude.{◌≡◌, ℕ, ◌≤◌, Bool, true, false, List, [], ◌∷◌, ◌++◌, drop, Option, refl, is_none, unwrap_or, None, if◌then◌else◌}
+use Rattle.std.specs.Prelude.{◌≡◌, ℕ, ◌≤◌, Bool, true, false, List, [], ◌∷◌, ◌++◌, drop, Option, refl, is_none, unwrap_or, if◌then◌else◌}
 use Rattle.std.specs.List.{list_any}
 use Rattle.std.proofs.Common.{ap, arith, sym, ◌∙◌}
 use Rattle.mux_frame.specs.Frames.{Frame}
@@ -8,14 +8,13 @@ use Rattle.mux_station.specs.Messages.{Message}
 use Rattle.mux_station.specs.Sending.{Sends, StationLawful, StationSetting, called_frames, frames_seeing, is_loss, owed_frames, refused, station_view}
 use Rattle.mux_station.specs.Stopping.{if_message}
 use Rattle.mux_station.specs.Written.{is_data_frame}
-use Rattle.mux_station.proofs.states.OpenedStates.{opened_is_open}
 use Rattle.modem_history.specs.TwoEnds.{frames_sent}
 use Rattle.show_laws.proofs.asks.AnswersCalled.{AnyProbe, data_no_message}
 use Rattle.show_laws.proofs.counts.ManyFrames.{many}
 use Rattle.show_laws.proofs.counts.BalancedTables.{none_of_tick}
-use Rattle.show_laws.proofs.counts.StationCounts.{asked}
-use Rattle.show_laws.proofs.openings.ResponderCalls.{every}
-use Rattle.show_laws.proofs.stops.StopWords.{answer_says, back_balanced, says_back, says_on, speaks_back}
+use Rattle.show_laws.proofs.counts.StationCounts.{station_asked}
+use Rattle.show_laws.proofs.openings.ResponderCalls.{each_frame}
+use Rattle.show_laws.proofs.stops.StopWords.{answer_says, back_balanced, says_back, speaks_back}
 use Rattle.show_laws.proofs.stops.KeptStops.{back_both, frame_back, kept_stop, last_back, quiet_back, then_back}
 
 abbrev Answered : StationSetting → ℕ → List Act → Type 0
@@ -48,15 +47,15 @@ answered s d (Sent f ∷ past) l live = sent_by s d past f (is_data_frame f) (ke
 answered s d (Lost ∷ past) l live = let x : true ≡ false = live in cc
 answered s d (Given ∷ past) l live = more_none s d past Given live (answered s d past l) (omega arith)
 answered s d (Called c ∷ past) l live =
-    more_none s d past (Called c) live (answered s d past l) (asked AnyProbe s (speaks_back d) every (back_balanced s.n1 s.role d) (station_view s past) c (is_none (refused s (station_view s past) c)) refl)
+    more_none s d past (Called c) live (answered s d past l) (station_asked AnyProbe s (speaks_back d) each_frame (back_balanced s.n1 s.role d) (station_view s past) c (is_none (refused s (station_view s past) c)) refl)
 answered s d (Got f ∷ past) l live =
     let v = station_view s past in
     let k = kept_stop s.role d past in
     more s d past (Got f) live (answered s d past l)
-    ∙ (frame_back s.role d v.state f k ∙ ap (λ (z : Bool). unwrap_or (if z then says_on d f else None) k) (opened_is_open s.role past 0))
+    ∙ frame_back s.role d v.state f k
 answered s d (Tick ∷ past) l live =
     let v = station_view s past in
-    more_none s d past Tick live (answered s d past l) (none_of_tick AnyProbe s.n1 s.role (speaks_back d) every (back_balanced s.n1 s.role d) s.n1 v.state v.queued 0 62)
+    more_none s d past Tick live (answered s d past l) (none_of_tick AnyProbe s.n1 s.role (speaks_back d) each_frame (back_balanced s.n1 s.role d) s.n1 v.state v.queued 0 62)
 
 -- where nothing is owed, the responses that were sent say it
 pub modem_kept : (s : StationSetting) (d : ℕ) (past : List Act) → StationLawful s past → list_any is_loss past ≡ false → owed_frames s past ≡ [] → last_back d (frames_sent past) ≡ kept_stop s.role d past

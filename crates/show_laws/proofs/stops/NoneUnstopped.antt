@@ -9,7 +9,7 @@ use Rattle.mux_capture.specs.declared.packet.Stamp.{Stamp}
 use Rattle.mux_station.specs.declared.role.Role.{Role}
 use Rattle.mux_station.specs.declared.role.Role.TheVariants.{Initiator, Responder}
 use Rattle.mux_station.specs.Acts as station
-use Rattle.mux_station.specs.Opening.{is_open, opens_now, since, standings}
+use Rattle.mux_station.specs.Opening.{is_open, opens_now, since}
 use Rattle.mux_station.specs.Stopping.{flow_says, got_says, is_stopped, last_said, msc_says}
 use Rattle.mux_station.specs.Written.{is_data_frame, is_kind, is_on}
 use Rattle.modem_history.specs.Acts as driver
@@ -54,7 +54,7 @@ ua_opens s n1 d f line h o =
 sabm_opens : (s : Setting) (n1 d : ℕ) (f : Frame) (line : List LineAct) → IsOnceLine s n1 (AtModem (station.Got f) ∷ line) → opens_now Responder d (modem_past line) (station.Got f) ≡ true → kept_stop Responder d (modem_past line) ≡ false
 sabm_opens s n1 d f line h o =
     let past = modem_past line in
-    let sabm = (and_parts (is_on Sabm d f) ((d == 0) || (standings Responder d past).zero.is_open) o).0 in
+    let sabm = (and_parts (is_on Sabm d f) ((d == 0) || is_open Responder 0 past) o).0 in
     let all = came_few (is_on Sabm d) (wire (driver_past line)) (station.Got f ∷ past) (both_ways (AtModem (station.Got f) ∷ line) h.lawful.one_line).at_modem in
     let few = once_many (is_on Sabm d) (frames_sent (wire (driver_past line))) in
     let one = h.once d in
@@ -155,7 +155,7 @@ driver_goes s n1 stamps f line h =
     let p = wire past in
     let d = f.dlci in
     let k = once_line_before s n1 (AtDriver (driver.Sent f)) line h in
-    let gated = driver_data.data_gated s past f h.lawful.driver_lawful is in
+    let gated = driver_data.driver_gated s past f h.lawful.driver_lawful is in
     let apart = apart_is f is in
     let below = λ (older : List driver.Act) (l : Lawful s older) (o : is_open Initiator d (wire older) ≡ true). open_below s d older k.lawful.is_initiator (turned_not (d == 0) apart) l o in
     let o : is_open Initiator d p ≡ true = subst (λ (r : Role). is_open r d p ≡ true) k.lawful.is_initiator gated.is_open in

@@ -8,8 +8,9 @@ use Rattle.mux_frame.specs.declared.frame.Kind.TheVariants.{Sabm, Ua, Dm, Disc, 
 use Rattle.mux_station.specs.declared.role.Role.{Role}
 use Rattle.mux_station.specs.declared.role.Role.TheVariants.{Initiator, Responder}
 use Rattle.mux_station.specs.Acts.{Act, Called, Got, Sent, Tick, Lost, Given}
+use Rattle.mux_station.proofs.states.OpeningSteps.{is_open_after}
 use Rattle.mux_station.specs.Messages.{message_of}
-use Rattle.mux_station.specs.Opening.{ends, is_open, opens, opens_now, since, standings}
+use Rattle.mux_station.specs.Opening.{ends, is_open, opens, opens_now, since, is_asked}
 use Rattle.mux_station.specs.Stopping.{got_says, if_message, last_said}
 use Rattle.mux_station.specs.Written.{is_kind, is_on}
 use Rattle.mux_station.proofs.states.StatesAfterActs.{since_goes_on, since_opens}
@@ -22,7 +23,7 @@ use Rattle.show_laws.proofs.stops.StopWords.{says_on}
 
 -- d was open before an act that doesn't open it, where it is so behind it
 pub open_before : (r : Role) (d : ℕ) (past : List Act) (a : Act) → opens_now r d past a ≡ false → is_open r d (a ∷ past) ≡ true → is_open r d past ≡ true
-open_before r d past a o h = was_open (opens_now r d past a) (is_open r d past) (ends (standings r d past).zero.is_open d a) o h
+open_before r d past a o h = was_open (opens_now r d past a) (is_open r d past) (ends (is_open r 0 past) d a) o (sym (is_open_after r d past a) ∙ h)
 
 -- what was said since it opened was said
 pub since_said : (say : Act → Option Bool) (r : Role) (d : ℕ) (past : List Act) → is_open r d past ≡ true → last_said say (since r d past) ≡ true → last_said say past ≡ true
@@ -64,11 +65,11 @@ opening_bare Initiator z k d f h = mode_bare f.kind (f.dlci == d) (f.dlci == 0) 
 opening_bare Responder z k d f h = sabm_bare f.kind (f.dlci == d) (f.dlci == 0) (and_parts (is_on Sabm d f) ((d == 0) || z) h).0
 
 never_opens : {P : Type 0} → (r : Role) (d : ℕ) (past : List Act) (a : Act) → is_got a ≡ false → opens_now r d past a ≡ true → P
-never_opens r d past a other o = let t : true ≡ false = sym o ∙ opens_none r (standings r d past).zero.is_open (standings r d past).own.is_asked d a other in cc
+never_opens r d past a other o = let t : true ≡ false = sym o ∙ opens_none r (is_open r 0 past) (is_asked r d past) d a other in cc
 
 opened_kept : (r : Role) (d : ℕ) (past : List Act) (a : Act) → opens_now r d past a ≡ true → kept_stop r d past ≡ false → kept_stop r d (a ∷ past) ≡ false
 opened_kept r d past (Got f) o k =
-    let bare = opening_bare r (standings r d past).zero.is_open (standings r d past).own.is_asked d f o in
+    let bare = opening_bare r (is_open r 0 past) (is_asked r d past) d f o in
     by_zero (is_open r 0 past) (ap (λ (b : Bool). if_message (says_at d) (if b then message_of f.info else None)) bare) ∙ k
   where
     by_zero : (z : Bool) → says_on d f ≡ None → unwrap_or (if z then says_on d f else None) (kept_stop r d past) ≡ kept_stop r d past

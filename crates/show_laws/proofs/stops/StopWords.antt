@@ -17,7 +17,7 @@ use Rattle.show_laws.proofs.asks.AnswerShapes.{supported_by}
 use Rattle.show_laws.proofs.asks.AnswersCalled.{AnyProbe, IsRead, as_it_is, data_no_message, is_read, unread}
 use Rattle.show_laws.proofs.counts.ManyFrames.{few_if, many, none_one, unit}
 use Rattle.show_laws.proofs.counts.BalancedTables.{Balanced, is_command_octet}
-use Rattle.show_laws.proofs.openings.ResponderCalls.{every}
+use Rattle.show_laws.proofs.openings.ResponderCalls.{each_frame}
 
 -- what a frame says of the stop that is kept at d
 abbrev pub says_on : ℕ → Frame → Option Bool
@@ -224,7 +224,7 @@ table_back Responder d e channel own Dm = omega arith
 table_back Responder d e channel own Uih = omega arith
 
 -- responses that say something are called for by what comes alone
-pub back_balanced : (most : ℕ) (r : Role) (d : ℕ) → Balanced AnyProbe most r (speaks_back d) every
+pub back_balanced : (most : ℕ) (r : Role) (d : ℕ) → Balanced AnyProbe most r (speaks_back d) each_frame
 back_balanced most r d = record {
   frame = λ state f.
       few_if (speaks_back d) 1 (is_on Uih 0 f) (by_message r (state 0) f) (by_table r f.dlci (state 0) (state f.dlci) f.kind) (answers_back r d (state 0) f)

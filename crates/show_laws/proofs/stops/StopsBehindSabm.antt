@@ -13,7 +13,7 @@ use Rattle.mux_station.specs.States.{is_opened, state_of}
 use Rattle.mux_station.specs.Stopping.{if_message}
 use Rattle.mux_station.specs.Tables.{by_frame, held_up, is_opening, message_frame, ready}
 use Rattle.mux_station.specs.Written.{is_data_frame, is_on, written}
-use Rattle.mux_station.proofs.states.OpenedStates.{opened_is_open, opening_is_asked}
+use Rattle.mux_station.proofs.states.OpeningSteps.{is_open_after, opening_asked}
 use Rattle.modem_desk.specs.declared.request.Ask.{Ask}
 use Rattle.modem_desk.specs.declared.request.Ask.TheVariants.{OpenChannel, CloseChannel, Command, Probe, Stop}
 use Rattle.modem_show.specs.Ends.{says_at}
@@ -54,12 +54,12 @@ calls_none s d past a none before =
 
 -- where d isn't open at an initiator its state isn't Opened
 pub opened_state : (s : Setting) (d : ℕ) (past : List Act) → s.role ≡ Initiator → open_at d (wire past) ≡ false → is_opened (state_of s.role d (wire past)) ≡ false
-opened_state s d past is h = ap (λ (r : Role). is_opened (state_of r d (wire past))) is ∙ (opened_is_open Initiator (wire past) d ∙ h)
+opened_state s d past is h = ap (λ (r : Role). is_opened (state_of r d (wire past))) is ∙ h
 
 -- and where it isn't asked for its state isn't Opening
 pub opening_state : (s : Setting) (d : ℕ) (past : List Act) → s.role ≡ Initiator → asked_at d (wire past) ≡ false → is_opening (state_of s.role d (wire past)) ≡ false
 opening_state s d past is h =
-    ap (λ (r : Role). is_opening (state_of r d (wire past))) is ∙ (opening_is_asked d (wire past) ∙ and_left (asked_at d (wire past)) (not (open_at d (wire past))) h)
+    ap (λ (r : Role). is_opening (state_of r d (wire past))) is ∙ (opening_asked d (wire past) ∙ and_left (asked_at d (wire past)) (not (open_at d (wire past))) h)
 
 frame_none : (s : Setting) (d : ℕ) (past : List Act) (f : Frame) → s.role ≡ Initiator → asked_at d (wire past) ≡ false → many (speaks d) (by_frame s.role (seen_behind s past (owed s past)).state f) ≤ 0
 frame_none s d past f is h =
@@ -104,7 +104,7 @@ unasked_yet s d (Heard u e line ∷ past) is l none =
 unasked_yet s d (Given ∷ past) is l none =
     let h = unasked_yet s d past is l.1 none in
     record {
-      shut = and_left (open_at d (wire past)) (not (ends (zero_at d (wire past)) d station.Given)) h.shut;
+      shut = is_open_after Initiator d (wire past) station.Given ∙ and_left (open_at d (wire past)) (not (ends (zero_at d (wire past)) d station.Given)) h.shut;
       unasked = and_left (asked_at d (wire past)) (not (ends (zero_at d (wire past)) d station.Given)) h.unasked;
       sent_none = h.sent_none;
       owed_none = h.owed_none;
@@ -115,7 +115,7 @@ unasked_yet s d (Lost ∷ past) is l none =
     let x = unsent_none (speaks d) (owed s past) in
     let y = called (speaks d) 0 s (seen_behind s past (owed s past)) Lost (omega arith) in
     record {
-      shut = and_left (open_at d (wire past)) (not (ends (zero_at d (wire past)) d station.Lost)) h.shut;
+      shut = is_open_after Initiator d (wire past) station.Lost ∙ and_left (open_at d (wire past)) (not (ends (zero_at d (wire past)) d station.Lost)) h.shut;
       unasked = and_left (asked_at d (wire past)) (not (ends (zero_at d (wire past)) d station.Lost)) h.unasked;
       sent_none = h.sent_none;
       owed_none = omega (arith, parts, x, y);
@@ -134,7 +134,8 @@ unasked_yet s d (Got f ∷ past) is l none =
     let p = wire past in
     record {
       shut =
-          or_from (is_on Ua d f && asked_at d p) (open_at d p && not (ends (zero_at d p) d (station.Got f)))
+          is_open_after Initiator d p (station.Got f)
+          ∙ or_from (is_on Ua d f && asked_at d p) (open_at d p && not (ends (zero_at d p) d (station.Got f)))
           (off_second (is_on Ua d f) (asked_at d p) h.unasked) (and_left (open_at d p) (not (ends (zero_at d p) d (station.Got f))) h.shut);
       unasked = and_left (asked_at d p) (not (is_mode_frame_on d f || ends (zero_at d p) d (station.Got f))) h.unasked;
       sent_none = h.sent_none;
@@ -148,7 +149,7 @@ unasked_yet s d (Tick ∷ past) is l none =
     let h = unasked_yet s d past is l.1 none in
     let v = seen_behind s past (owed s past) in
     record {
-      shut = and_left (open_at d (wire past)) (not (ends (zero_at d (wire past)) d station.Tick)) h.shut;
+      shut = is_open_after Initiator d (wire past) station.Tick ∙ and_left (open_at d (wire past)) (not (ends (zero_at d (wire past)) d station.Tick)) h.shut;
       unasked = and_left (asked_at d (wire past)) (not (ends (zero_at d (wire past)) d station.Tick)) h.unasked;
       sent_none = h.sent_none;
       owed_none = calls_none s d past Tick (tick_none s.role (speaks d) (λ e. refl) (λ e. refl) s.n1 v.state v.queued 0 62) h.owed_none;

@@ -10,15 +10,14 @@ use Rattle.mux_station.specs.declared.role.Role.TheVariants.{Responder}
 use Rattle.mux_station.specs.declared.error.StationError.{StationError}
 use Rattle.mux_station.specs.declared.error.StationError.TheVariants.{NotOpen}
 use Rattle.mux_station.specs.Acts.{Call, Open, Close, Probe, Stop, Flow, Offer, Act, Called, Got, Sent, Tick, Lost, Given}
+use Rattle.mux_station.proofs.states.OpeningSteps.{is_open_after}
 use Rattle.mux_station.specs.Messages.{Message, cld, test}
-use Rattle.mux_station.specs.Opening.{ends, is_open, standings}
+use Rattle.mux_station.specs.Opening.{ends, is_open}
 use Rattle.mux_station.specs.Sending.{Sends, StationLawful, StationView, called_frames, frames_asked, frames_seeing, if_no_room, is_loss, or_else, owed_frames, refused, station_view}
 use Rattle.mux_station.specs.States.{State, is_opened}
 use Rattle.mux_station.specs.Stopping.{if_message}
 use Rattle.mux_station.specs.Tables.{by_frame, by_message, by_table, held_up, message_frame, msc_after_opening, msc_frame, ready, ua_or_dm}
 use Rattle.mux_station.specs.Written.{is_data_frame, is_kind, is_on, written}
-use Rattle.mux_station.proofs.states.OpenByPlaces.{zero_same}
-use Rattle.mux_station.proofs.states.OpenedStates.{opened_is_open}
 use Rattle.modem_show.specs.Ends.{says_at}
 use Rattle.modem_history.specs.TwoEnds.{frames_sent}
 use Rattle.modem_history.proofs.connections.InformationGrowth.{is_got}
@@ -55,7 +54,7 @@ led_both d (f ∷ xs) ys h k = by_ua (is_on Ua d f) refl h (λ l m. led_both d x
         and_from (not (speaks d f)) (led d (xs ++ ys)) p.0 (rest p.1 (λ none. k (let x : unit (is_on Ua d f) ≡ 0 = ap unit e in omega (arith, x, none))))
 
 -- While no UA on d was sent, no message about its stop was, and none is owed before that UA. It is owed where d is open.
-pub record Behind (n1 d : ℕ) (past : List Act) : Type 0 where
+pub record BehindUa (n1 d : ℕ) (past : List Act) : Type 0 where
   pub sent_none : many (speaks d) (frames_sent past) ≤ 0
   pub owed_led : led d (owed_frames (responding n1) past) ≡ true
   pub open_owes : list_any is_loss past ≡ false → is_open Responder d past ≡ true → 1 ≤ many (is_on Ua d) (owed_frames (responding n1) past)
@@ -106,14 +105,14 @@ opened_before d past a other o = by_test (is_open Responder d past) refl
     by_test false e = let t : true ≡ false = sym o ∙ not_opening d past a other e in cc
 
 -- while no UA is owed d is shut
-shut_there : (n1 d : ℕ) (past : List Act) → Behind n1 d past → list_any is_loss past ≡ false → many (is_on Ua d) (owed_frames (responding n1) past) ≤ 0 → is_open Responder d past ≡ false
+shut_there : (n1 d : ℕ) (past : List Act) → BehindUa n1 d past → list_any is_loss past ≡ false → many (is_on Ua d) (owed_frames (responding n1) past) ≤ 0 → is_open Responder d past ≡ false
 shut_there n1 d past h live none = by_test (is_open Responder d past) refl
   where
     by_test : (b : Bool) → is_open Responder d past ≡ b → b ≡ false
     by_test false e = refl
     by_test true e = let x = h.open_owes live e in absurd (omega (arith, x, none))
 
-led_more : (n1 d : ℕ) (past : List Act) (a : Act) → Behind n1 d past → (list_any is_loss past ≡ false → is_open Responder d past ≡ false → led d (frames_seeing (responding n1) (station_view (responding n1) past) a) ≡ true)
+led_more : (n1 d : ℕ) (past : List Act) (a : Act) → BehindUa n1 d past → (list_any is_loss past ≡ false → is_open Responder d past ≡ false → led d (frames_seeing (responding n1) (station_view (responding n1) past) a) ≡ true)
     → led d (owed_frames (responding n1) past ++ called_frames (responding n1) past a) ≡ true
 led_more n1 d past a h calls = led_both d (owed_frames (responding n1) past) (called_frames (responding n1) past a) h.owed_led (λ none. by_loss (list_any is_loss past) refl none)
   where
@@ -125,7 +124,7 @@ still_owed : (n1 d : ℕ) (past : List Act) (a : Act) → 1 ≤ many (is_on Ua d
 still_owed n1 d past a some = let e = many_both (is_on Ua d) (owed_frames (responding n1) past) (called_frames (responding n1) past a) in omega (arith, some, e)
 
 shut_state : (n1 d : ℕ) (past : List Act) → is_open Responder d past ≡ false → is_opened ((station_view (responding n1) past).state d) ≡ false
-shut_state n1 d past h = opened_is_open Responder past d ∙ h
+shut_state n1 d past h = h
 
 -- what comes calls for a UA first, where it opens d
 table_led : (d e : ℕ) (channel own : State) (k : Kind) → (is_kind k Sabm && (e == d)) ≡ true → led d (by_table Responder e channel own k) ≡ true
@@ -148,22 +147,21 @@ frame_led d state f = by_sabm (is_on Sabm d f) refl
         ap (λ (b : Bool). led d (if b then by_message Responder (state 0) f else by_table Responder f.dlci (state 0) (state f.dlci) f.kind)) (sabm_bare f.kind (f.dlci == d) (f.dlci == 0) e)
         ∙ table_led d f.dlci (state 0) (state f.dlci) f.kind e
 
-opening_owes : (n1 d : ℕ) (past : List Act) (f : Frame) → Behind n1 d past → list_any is_loss past ≡ false → is_open Responder d (Got f ∷ past) ≡ true
+opening_owes : (n1 d : ℕ) (past : List Act) (f : Frame) → BehindUa n1 d past → list_any is_loss past ≡ false → is_open Responder d (Got f ∷ past) ≡ true
     → 1 ≤ many (is_on Ua d) (owed_frames (responding n1) past ++ called_frames (responding n1) past (Got f))
 opening_owes n1 d past f h live o =
-    let z = (standings Responder d past).zero.is_open in
+    let z = is_open Responder 0 past in
     let v = station_view (responding n1) past in
-    or_elim (is_on Sabm d f && ((d == 0) || z)) (is_open Responder d past && not (ends z d (Got f))) o
+    or_elim (is_on Sabm d f && ((d == 0) || z)) (is_open Responder d past && not (ends z d (Got f))) (sym (is_open_after Responder d past (Got f)) ∙ o)
     (λ s.
     let p = and_parts (is_on Sabm d f) ((d == 0) || z) s in
-    let there : ((d == 0) || is_opened (v.state 0)) ≡ true = ap (λ (b : Bool). (d == 0) || b) (opened_is_open Responder past 0 ∙ sym (zero_same Responder d past)) ∙ p.1 in
-    let some = opening_answered d v.state f p.0 there in
+    let some = opening_answered d v.state f p.0 p.1 in
     let all : many (is_on Ua d) (called_frames (responding n1) past (Got f)) ≡ many (is_on Ua d) (by_frame Responder v.state f) = ap (λ (b : Bool). many (is_on Ua d) (if b then [] else by_frame Responder v.state f)) live in
     let e = many_both (is_on Ua d) (owed_frames (responding n1) past) (called_frames (responding n1) past (Got f)) in
     omega (arith, some, all, e))
     (λ b. still_owed n1 d past (Got f) (h.open_owes live (and_parts (is_open Responder d past) (not (ends z d (Got f))) b).0))
 
-sent_behind : (n1 d : ℕ) (past : List Act) (f : Frame) (b : Bool) → is_data_frame f ≡ b → Sends (responding n1) past f b → unit (is_on Ua d f) + many (is_on Ua d) (frames_sent past) ≤ 0 → Behind n1 d past → Behind n1 d (Sent f ∷ past)
+sent_behind : (n1 d : ℕ) (past : List Act) (f : Frame) (b : Bool) → is_data_frame f ≡ b → Sends (responding n1) past f b → unit (is_on Ua d f) + many (is_on Ua d) (frames_sent past) ≤ 0 → BehindUa n1 d past → BehindUa n1 d (Sent f ∷ past)
 unfolding Sends
 sent_behind n1 d past f true is g none h =
     let quiet : unit (speaks d f) ≡ 0 = ap (λ (o : Option Message). unit (is_some (if_message (says_at d) o))) (data_no_message f is) in
@@ -197,7 +195,7 @@ sent_behind n1 d past f false is g none h =
     unspoken true e = cc
 
 -- so it is of a lawful responder that sent no UA on d
-pub behind : (n1 d : ℕ) (past : List Act) → StationLawful (responding n1) past → many (is_on Ua d) (frames_sent past) ≤ 0 → Behind n1 d past
+pub behind : (n1 d : ℕ) (past : List Act) → StationLawful (responding n1) past → many (is_on Ua d) (frames_sent past) ≤ 0 → BehindUa n1 d past
 unfolding StationLawful
 behind n1 d [] l none = record { sent_none = omega arith; owed_led = refl; open_owes = λ live o. cc }
 behind n1 d (Sent f ∷ past) l none = sent_behind n1 d past f (is_data_frame f) refl l.0 none (behind n1 d past l.1 (omega (arith, none)))
@@ -237,27 +235,27 @@ behind n1 d (Given ∷ past) l none =
 
 -- ## The frames that were sent first
 
-pub record Older (n1 : ℕ) (fs : List Frame) : Type 0 where
+pub record OlderFrames (n1 : ℕ) (fs : List Frame) : Type 0 where
   pub past : List Act
   pub lawful : StationLawful (responding n1) past
   pub sent_are : frames_sent past ≡ fs
 
 -- the frames that it sent first are all of an earlier past
-pub older : (n1 : ℕ) (past : List Act) (later fs : List Frame) → StationLawful (responding n1) past → frames_sent past ≡ later ++ fs → Older n1 fs
+pub older_frames : (n1 : ℕ) (past : List Act) (later fs : List Frame) → StationLawful (responding n1) past → frames_sent past ≡ later ++ fs → OlderFrames n1 fs
 unfolding StationLawful
-older n1 past [] fs l e = record { past = past; lawful = l; sent_are = e }
-older n1 [] (g ∷ later) fs l e = cc
-older n1 (Sent f ∷ past) (g ∷ later) fs l e = older n1 past later fs l.1 (ap (λ (xs : List Frame). drop 1 xs) e)
-older n1 (Called c ∷ past) (g ∷ later) fs l e = older n1 past (g ∷ later) fs l e
-older n1 (Got f ∷ past) (g ∷ later) fs l e = older n1 past (g ∷ later) fs l e
-older n1 (Tick ∷ past) (g ∷ later) fs l e = older n1 past (g ∷ later) fs l e
-older n1 (Lost ∷ past) (g ∷ later) fs l e = older n1 past (g ∷ later) fs l e
-older n1 (Given ∷ past) (g ∷ later) fs l e = older n1 past (g ∷ later) fs l e
+older_frames n1 past [] fs l e = record { past = past; lawful = l; sent_are = e }
+older_frames n1 [] (g ∷ later) fs l e = cc
+older_frames n1 (Sent f ∷ past) (g ∷ later) fs l e = older_frames n1 past later fs l.1 (ap (λ (xs : List Frame). drop 1 xs) e)
+older_frames n1 (Called c ∷ past) (g ∷ later) fs l e = older_frames n1 past (g ∷ later) fs l e
+older_frames n1 (Got f ∷ past) (g ∷ later) fs l e = older_frames n1 past (g ∷ later) fs l e
+older_frames n1 (Tick ∷ past) (g ∷ later) fs l e = older_frames n1 past (g ∷ later) fs l e
+older_frames n1 (Lost ∷ past) (g ∷ later) fs l e = older_frames n1 past (g ∷ later) fs l e
+older_frames n1 (Given ∷ past) (g ∷ later) fs l e = older_frames n1 past (g ∷ later) fs l e
 
 -- of the frames that it sent first, those without a UA on d have no message about its stop
 pub stops_behind_ua : (n1 d : ℕ) (past : List Act) (later fs : List Frame) → StationLawful (responding n1) past → frames_sent past ≡ later ++ fs → many (is_on Ua d) fs ≤ 0 → many (speaks d) fs ≤ 0
 stops_behind_ua n1 d past later fs l e none =
-    let o = older n1 past later fs l e in
+    let o = older_frames n1 past later fs l e in
     let ua : many (is_on Ua d) (frames_sent o.past) ≡ many (is_on Ua d) fs = ap (many (is_on Ua d)) o.sent_are in
     let b = (behind n1 d o.past o.lawful (omega (arith, ua, none))).sent_none in
     let same : many (speaks d) (frames_sent o.past) ≡ many (speaks d) fs = ap (many (speaks d)) o.sent_are in

@@ -6,9 +6,11 @@ use Rattle.std.proofs.lemmas.Bool.{and_left, and_parts, or_from, or_parts}
 use Rattle.mux_frame.specs.Frames.{Frame}
 use Rattle.mux_frame.specs.declared.frame.Kind.TheVariants.{Sabm, Ua, Uih}
 use Rattle.mux_capture.specs.declared.packet.Stamp.{Stamp}
+use Rattle.mux_station.specs.declared.role.Role.TheVariants.{Initiator}
 use Rattle.mux_station.specs.Acts as station
 use Rattle.mux_station.specs.Messages.{cld, command_of, message_of, octet_is}
 use Rattle.mux_station.specs.Opening.{ends, is_mode_frame_on}
+use Rattle.mux_station.proofs.states.OpeningSteps.{is_open_after}
 use Rattle.mux_station.specs.Written.{is_data_frame, is_kind, is_on}
 use Rattle.modem_history.specs.Acts as driver
 use Rattle.modem_history.specs.Acts.{wire}
@@ -64,18 +66,19 @@ driver_stays e (driver.Sent f) past once some n = sent_closed e f (wire past) n.
     by_sabm true k = let x = none_filtered (is_on Sabm e) (frames_sent (wire past)) (asked_first e f (frames_sent (wire past)) (once e) k) in absurd (omega (arith, x, some))
 driver_stays e (driver.Got f) past once some n =
     let p = wire past in (
-      or_from (is_on Ua e f && asked_at e p) (open_at e p && not (ends (zero_at e p) e (station.Got f))) (second_off (is_on Ua e f) (asked_at e p) n.1) (off (open_at e p) (not (ends (zero_at e p) e (station.Got f))) n.0),
+      is_open_after Initiator e p (station.Got f)
+          ∙ or_from (is_on Ua e f && asked_at e p) (open_at e p && not (ends (zero_at e p) e (station.Got f))) (second_off (is_on Ua e f) (asked_at e p) n.1) (off (open_at e p) (not (ends (zero_at e p) e (station.Got f))) n.0),
       off (asked_at e p) (not (is_mode_frame_on e f || ends (zero_at e p) e (station.Got f))) n.1,
     )
 driver_stays e driver.Tick past once some n =
     let p = wire past in
-    (off (open_at e p) (not (ends (zero_at e p) e station.Tick)) n.0, off (asked_at e p) (not (ends (zero_at e p) e station.Tick)) n.1)
+    (is_open_after Initiator e p station.Tick ∙ off (open_at e p) (not (ends (zero_at e p) e station.Tick)) n.0, off (asked_at e p) (not (ends (zero_at e p) e station.Tick)) n.1)
 driver_stays e driver.Lost past once some n =
     let p = wire past in
-    (off (open_at e p) (not (ends (zero_at e p) e station.Lost)) n.0, off (asked_at e p) (not (ends (zero_at e p) e station.Lost)) n.1)
+    (is_open_after Initiator e p station.Lost ∙ off (open_at e p) (not (ends (zero_at e p) e station.Lost)) n.0, off (asked_at e p) (not (ends (zero_at e p) e station.Lost)) n.1)
 driver_stays e driver.Given past once some n =
     let p = wire past in
-    (off (open_at e p) (not (ends (zero_at e p) e station.Given)) n.0, off (asked_at e p) (not (ends (zero_at e p) e station.Given)) n.1)
+    (is_open_after Initiator e p station.Given ∙ off (open_at e p) (not (ends (zero_at e p) e station.Given)) n.0, off (asked_at e p) (not (ends (zero_at e p) e station.Given)) n.1)
 driver_stays e (driver.Took q) past once some n = n
 driver_stays e (driver.Told o) past once some n = n
 driver_stays e (driver.Heard u d l) past once some n = n

@@ -6,7 +6,7 @@ use Rattle.mux_frame.specs.Frames.{Frame}
 use Rattle.mux_frame.specs.declared.frame.Kind.TheVariants.{Sabm, Ua}
 use Rattle.mux_station.specs.declared.role.Role.TheVariants.{Initiator, Responder}
 use Rattle.mux_station.specs.Acts as station
-use Rattle.mux_station.specs.Opening.{is_open, opens_now, standings}
+use Rattle.mux_station.specs.Opening.{is_open, opens_now, is_asked}
 use Rattle.mux_station.specs.Sending.{StationLawful}
 use Rattle.mux_station.specs.Written.{is_on}
 use Rattle.modem_history.specs.Acts as driver
@@ -41,7 +41,7 @@ modem_sent_all n1 d (station.Got f ∷ past) l once o = by_opens (opens_now Resp
   where
     by_opens : (b : Bool) → opens_now Responder d past (station.Got f) ≡ b → (is_open Responder d past ≡ true → information_sent Responder d past ≡ info_in d (frames_sent past)) → information_sent Responder d (station.Got f ∷ past) ≡ info_in d (frames_sent past)
     by_opens true e rest =
-        let sabm = (and_parts (is_on Sabm d f) ((d == 0) || (standings Responder d past).zero.is_open) e).0 in
+        let sabm = (and_parts (is_on Sabm d f) ((d == 0) || is_open Responder 0 past) e).0 in
         let u : unit (is_on Sabm d f) ≡ 1 = ap unit sabm in
         sent_same Responder d past (station.Got f) refl ∙ (ap (λ (b : Bool). if b then [] else information_sent Responder d past) e ∙ sym (before_sabm_m n1 d d past (λ p k. k) l (omega (arith, once, u))))
     by_opens false e rest =
@@ -83,7 +83,7 @@ driver_got_all s n1 d (AtDriver (driver.Got f) ∷ line) h o = by_opens (opens_n
         let came = (both_ways line older.lawful.one_line).at_driver in
         let none = waits_for_ua s n1 d line older (and_parts (is_on Ua d f) (asked_at d p) e).1 in
         let silent = first_before_ua n1 d d (modem_past line) came.later (frames_got p) (λ q k. k) older.lawful.modem_lawful came.sent_are none in
-        let bare = opens_bare Initiator (standings Initiator d p).zero.is_open (standings Initiator d p).own.is_asked d f e in
+        let bare = opens_bare Initiator (is_open Initiator 0 p) (is_asked Initiator d p) d f e in
         got_grows Initiator d p f ∙ (ap (λ (b : Bool). if b then [] else (if carries d f && is_open Initiator d p then information_got Initiator d p ++ f.info else information_got Initiator d p)) e
         ∙ sym (nothing_more d f (frames_got p) bare ∙ silent))
     by_opens false e rest =

@@ -11,7 +11,6 @@ use Rattle.mux_station.specs.Opening.{is_open}
 use Rattle.mux_station.specs.Sending.{StationGated, StationLawful, is_loss, owed_frames}
 use Rattle.mux_station.specs.States.{state_of}
 use Rattle.mux_station.specs.Written.{is_data_frame, is_kind, is_on}
-use Rattle.mux_station.proofs.states.OpenedStates.{opened_is_open}
 use Rattle.modem_history.specs.Acts as driver
 use Rattle.modem_history.specs.Acts.{wire}
 use Rattle.modem_history.specs.Calls.{Setting}
@@ -27,7 +26,7 @@ use Rattle.show_laws.proofs.openings.DiscBehindUa.{from_opened}
 use Rattle.show_laws.proofs.openings.DriverStates.{state_says}
 use Rattle.show_laws.proofs.openings.UaBehindSabm.{shut}
 use Rattle.show_laws.proofs.stops.StopsBehindSabm.{unasked_yet}
-use Rattle.show_laws.proofs.stops.StopsBehindUa.{behind, older}
+use Rattle.show_laws.proofs.stops.StopsBehindUa.{behind, older_frames}
 
 -- a frame that carries octets of d is data, and on d
 pub carried_data : (d : ℕ) (f : Frame) → carries d f ≡ true → (is_data_frame f ≡ true) × (f.dlci ≡ d)
@@ -116,7 +115,7 @@ before_ua s d e past is up l none =
         by_test : (b : Bool) → is_open Initiator e (wire p) ≡ b → b ≡ false
         by_test false k = refl
         by_test true k =
-            let x = from_opened (many (is_on Ua e) (frames_got (wire p))) (many (is_on Sabm e) (frames_sent (wire p))) (state_of Initiator e (wire p)) (state_says e (wire p)) (opened_is_open Initiator (wire p) e ∙ k) in
+            let x = from_opened (many (is_on Ua e) (frames_got (wire p))) (many (is_on Sabm e) (frames_sent (wire p))) (state_of Initiator e (wire p)) (state_says e (wire p)) (k) in
             absurd (omega (arith, x, c))
 
 -- ## The modem
@@ -182,6 +181,6 @@ before_ua_m n1 d e past up l none =
 -- of the frames that it sent first, those without a UA on e have none
 pub first_before_ua : (n1 d e : ℕ) (past : List station.Act) (later fs : List Frame) → UnderM d e → StationLawful (responding n1) past → frames_sent past ≡ later ++ fs → many (is_on Ua e) fs ≤ 0 → info_in d fs ≡ []
 first_before_ua n1 d e past later fs up l is none =
-    let o = older n1 past later fs l is in
+    let o = older_frames n1 past later fs l is in
     let ua : many (is_on Ua e) (frames_sent o.past) ≡ many (is_on Ua e) fs = ap (many (is_on Ua e)) o.sent_are in
     sym (ap (info_in d) o.sent_are) ∙ before_ua_m n1 d e o.past up o.lawful (omega (arith, ua, none))

@@ -1,14 +1,13 @@
 -- Each end has sent, or owes, as many answers as asks came to it.
 use Rattle.std.specs.Prelude.{◌≡◌, ℕ, ◌+◌, ◌≤◌, not, Bool, true, false, List, [], ◌∷◌, ◌++◌, drop, map, refl, if◌then◌else◌}
 use Rattle.std.specs.List.{list_any}
-use Rattle.std.proofs.Common.{ap, arith, ◌∙◌}
+use Rattle.std.proofs.Common.{ap, arith}
 use Rattle.mux_frame.specs.Frames.{Frame}
 use Rattle.mux_station.specs.Acts as station
 use Rattle.mux_station.specs.Sending as sending
 use Rattle.mux_station.specs.Sending.{Sends, StationLawful, StationSetting, called_frames, owed_frames, station_view}
 use Rattle.mux_station.specs.Tables.{by_frame}
 use Rattle.mux_station.specs.Written.{is_data_frame}
-use Rattle.mux_station.proofs.states.OpenedStates.{opened_is_open}
 use Rattle.modem_history.specs.Acts.{Act, Took, Got, Sent, Told, Heard, Tick, Lost, Held, Freed, Given, wire}
 use Rattle.modem_history.specs.Calls.{Setting, HistoryView, calls_behind, calls_seeing, frames, frames_by, is_lost, lines_said, said_at_once, seen_behind, states_now, tolds}
 use Rattle.modem_history.specs.Lawful.{IsNext, Lawful, When, owed}
@@ -53,23 +52,23 @@ told_on s past a n none k =
     omega (arith, e, parts, none, d, k)
 
 -- a driver whose line isn't lost has sent or owes an answer for each ask, where control commands came while 0 was open
-pub driver_enough : (s : Setting) (past : List Act) → Lawful s past → is_lost past ≡ false → ReadsWhileOpen s.role (wire past) → Enough s past
+pub driver_enough_while_open : (s : Setting) (past : List Act) → Lawful s past → is_lost past ≡ false → ReadsWhileOpen s.role (wire past) → Enough s past
 unfolding Lawful
-driver_enough s [] l live reads = omega arith
-driver_enough s (Sent f ∷ past) l live reads = sent_on s past f (is_data_frame f) refl l.0.controlled (driver_enough s past l.1 live reads)
-driver_enough s (Told o ∷ past) l live reads = told_on s past (Told o) l.0.answered (omega arith) (driver_enough s past l.1 live reads)
-driver_enough s (Heard u d line ∷ past) l live reads = told_on s past (Heard u d line) l.0.heard (omega arith) (driver_enough s past l.1 live reads)
-driver_enough s (Given ∷ past) l live reads = driver_enough s past l.1 live reads
-driver_enough s (Lost ∷ past) l live reads = absurd (let x : true ≡ false = live in cc)
-driver_enough s (Took q ∷ past) l live reads = more s past (Took q) (driver_enough s past l.1 live reads)
-driver_enough s (Tick ∷ past) l live reads = more s past Tick (driver_enough s past l.1 live reads)
-driver_enough s (Held d ∷ past) l live reads = more s past (Held d) (driver_enough s past l.1 live reads)
-driver_enough s (Freed d ∷ past) l live reads = more s past (Freed d) (driver_enough s past l.1 live reads)
-driver_enough s (Got f ∷ past) l live reads =
+driver_enough_while_open s [] l live reads = omega arith
+driver_enough_while_open s (Sent f ∷ past) l live reads = sent_on s past f (is_data_frame f) refl l.0.controlled (driver_enough_while_open s past l.1 live reads)
+driver_enough_while_open s (Told o ∷ past) l live reads = told_on s past (Told o) l.0.answered (omega arith) (driver_enough_while_open s past l.1 live reads)
+driver_enough_while_open s (Heard u d line ∷ past) l live reads = told_on s past (Heard u d line) l.0.heard (omega arith) (driver_enough_while_open s past l.1 live reads)
+driver_enough_while_open s (Given ∷ past) l live reads = driver_enough_while_open s past l.1 live reads
+driver_enough_while_open s (Lost ∷ past) l live reads = absurd (let x : true ≡ false = live in cc)
+driver_enough_while_open s (Took q ∷ past) l live reads = more s past (Took q) (driver_enough_while_open s past l.1 live reads)
+driver_enough_while_open s (Tick ∷ past) l live reads = more s past Tick (driver_enough_while_open s past l.1 live reads)
+driver_enough_while_open s (Held d ∷ past) l live reads = more s past (Held d) (driver_enough_while_open s past l.1 live reads)
+driver_enough_while_open s (Freed d ∷ past) l live reads = more s past (Freed d) (driver_enough_while_open s past l.1 live reads)
+driver_enough_while_open s (Got f ∷ past) l live reads =
     let v = seen_behind s past (owed s past) in
-    let k = driver_enough s past l.1 live reads.1 in
+    let k = driver_enough_while_open s past l.1 live reads.1 in
     let parts = sends_both is_answer (owed s past) (calls_behind s past (owed s past) (Got f)) in
-    let one = at_least s v (Got f) (unit (is_ask f)) live (frame_enough s.role v.state f (λ asks. opened_is_open s.role (wire past) 0 ∙ reads.0 asks)) in
+    let one = at_least s v (Got f) (unit (is_ask f)) live (frame_enough s.role v.state f (λ asks. reads.0 asks)) in
     omega (arith, k, parts, one)
 
 -- ## The modem
@@ -90,18 +89,18 @@ station_sent s past f false n k =
     omega (arith, e, d, k)
 
 -- so has a station whose line isn't lost, for each that came to it
-pub station_enough : (s : StationSetting) (past : List station.Act) → StationLawful s past → list_any sending.is_loss past ≡ false → ReadsWhileOpen s.role past → StationEnough s past
+pub station_enough_while_open : (s : StationSetting) (past : List station.Act) → StationLawful s past → list_any sending.is_loss past ≡ false → ReadsWhileOpen s.role past → StationEnough s past
 unfolding StationLawful
-station_enough s [] l live reads = omega arith
-station_enough s (station.Sent f ∷ past) l live reads = station_sent s past f (is_data_frame f) l.0 (station_enough s past l.1 live reads)
-station_enough s (station.Called c ∷ past) l live reads = station_more s past (station.Called c) (station_enough s past l live reads)
-station_enough s (station.Tick ∷ past) l live reads = station_more s past station.Tick (station_enough s past l live reads)
-station_enough s (station.Given ∷ past) l live reads = station_more s past station.Given (station_enough s past l live reads)
-station_enough s (station.Lost ∷ past) l live reads = absurd (let x : true ≡ false = live in cc)
-station_enough s (station.Got f ∷ past) l live reads =
-    let k = station_enough s past l live reads.1 in
+station_enough_while_open s [] l live reads = omega arith
+station_enough_while_open s (station.Sent f ∷ past) l live reads = station_sent s past f (is_data_frame f) l.0 (station_enough_while_open s past l.1 live reads)
+station_enough_while_open s (station.Called c ∷ past) l live reads = station_more s past (station.Called c) (station_enough_while_open s past l live reads)
+station_enough_while_open s (station.Tick ∷ past) l live reads = station_more s past station.Tick (station_enough_while_open s past l live reads)
+station_enough_while_open s (station.Given ∷ past) l live reads = station_more s past station.Given (station_enough_while_open s past l live reads)
+station_enough_while_open s (station.Lost ∷ past) l live reads = absurd (let x : true ≡ false = live in cc)
+station_enough_while_open s (station.Got f ∷ past) l live reads =
+    let k = station_enough_while_open s past l live reads.1 in
     let parts = many_both is_answer (owed_frames s past) (called_frames s past (station.Got f)) in
     let v = station_view s past in
     let e : many is_answer (called_frames s past (station.Got f)) ≡ many is_answer (by_frame s.role v.state f) = ap (λ (b : Bool). many is_answer (if b then [] else by_frame s.role v.state f)) live in
-    let one = frame_enough s.role v.state f (λ asks. opened_is_open s.role past 0 ∙ reads.0 asks) in
+    let one = frame_enough s.role v.state f (λ asks. reads.0 asks) in
     omega (arith, k, parts, e, one)

@@ -21,15 +21,33 @@ fn push_all(reader: &mut LineReader, octets: &[u8]) -> usize {
 fn readers<R: Abort + Print>(rt: &R, long: &[u8]) {
     begin(
         rt,
-        "LineReader::new, LineReader::push, LineReader::reset, LineReader::copy, LineReader::copy_from",
+        "LineReader::new, LineReader::push, LineReader::reset, LineReader::copy",
     );
     let mut reader = LineReader::new();
     assert!(rt; push_all(&mut reader, long) == 0);
     let mut copy = reader.copy();
-    copy.copy_from(&reader);
     reader.reset();
     assert!(rt; push_all(&mut reader, b"\rOK\r\nRING\r\n") == 2);
     assert!(rt; push_all(&mut copy, b"\n") == 1);
+    end(rt);
+}
+
+// The calls of a line that is read by runs of octets.
+fn runs<R: Abort + Print>(rt: &R, long: &[u8]) {
+    begin(
+        rt,
+        "run_len, LineRun::new, LineRun::keep, LineRun::mark, LineRun::end, LineRun::go_back, LineRun::reset, LineRun::skips",
+    );
+    let run = &long[..run_len(long)];
+    let mut line = LineRun::new();
+    assert!(rt; line.skips(b"\r"));
+    line.keep(run);
+    let mark = line.mark();
+    assert!(rt; line.end(run).is_some());
+    line.go_back(mark);
+    assert!(rt; !line.skips(b"\r"));
+    line.reset();
+    assert!(rt; line.skips(b"\r"));
     end(rt);
 }
 
@@ -66,6 +84,7 @@ fn calls_that_take_no_memory(rt: HostRuntime) -> Result<(), Fail> {
     let long = vec![in alloc; b'x'; 1000]?;
     let line = CommandLine::new(alloc, b"AT+CSQ")?;
     readers(&rt, long.as_slice());
+    runs(&rt, long.as_slice());
     lines(&rt, long.as_slice());
     windows(&rt, alloc, &line);
     Ok(())

@@ -5,7 +5,7 @@ use Rattle.file_threads.specs.DataPaths.{opened_files}
 use Rattle.ctl_drive.specs.Entry.{entry_for, given_text}
 use Rattle.ctl_drive.specs.OnDevice.{capture_path}
 use Rattle.ctl_drive.specs.declared.fault.DriveFault.TheVariants.{NoMemory}
-use Rattle.ctl_drive.proofs.DataDevice.{by_capture, capture_of, files_badly, files_refused, ran_files}
+use Rattle.ctl_drive.proofs.DataDevice.{files_by_capture, capture_of, files_badly, files_refused, ran_files}
 use Rattle.ctl_drive.proofs.data_device.drive_data_run.Goals as goal
 
 pub returns-in_default-clause-fault : goal.returns-in_default-clause-fault
@@ -14,7 +14,7 @@ returns-in_default-clause-fault g c one =
 
 pub returns-in-Err-clause-fault : goal.returns-in-Err-clause-fault
 returns-in-Err-clause-fault g c one =
-    by_capture c.args.path.now _ c.unwrap_or.result.now c.args.data_paths.now (g.E.Write.contents c.args.faults.now) (g.E.Write.contents c.say_fault-in-Err.new.faults) (capture_of c.args.settings.capture _ c.unwrap_or.result c.unwrap_or.ensures refl)
+    files_by_capture c.args.path.now _ c.unwrap_or.result.now c.args.data_paths.now (g.E.Write.contents c.args.faults.now) (g.E.Write.contents c.say_fault-in-Err.new.faults) (capture_of c.args.settings.capture _ c.unwrap_or.result c.unwrap_or.ensures refl)
     (files_refused c.args.path.now c.unwrap_or.result.now c.in-Err.unopened.path.now c.args.data_paths.now (g.E.Write.contents c.args.faults.now) (g.E.Write.contents c.say_fault-in-Err.new.faults) c.from.result (inr c.in-Err.ensures.refused)
     c.say_fault-in-Err.ensures.said)
 
@@ -26,6 +26,6 @@ returns-clause-drove g c other =
 
 pub returns-clause-fault : goal.returns-clause-fault
 returns-clause-fault g c one =
-    by_capture c.args.path.now _ c.unwrap_or.result.now c.args.data_paths.now (g.E.Write.contents c.args.faults.now) (g.E.Write.contents c.say_end.new.faults) (capture_of c.args.settings.capture _ c.unwrap_or.result c.unwrap_or.ensures refl)
+    files_by_capture c.args.path.now _ c.unwrap_or.result.now c.args.data_paths.now (g.E.Write.contents c.args.faults.now) (g.E.Write.contents c.say_end.new.faults) (capture_of c.args.settings.capture _ c.unwrap_or.result c.unwrap_or.ensures refl)
     (files_badly c.args.path.now c.unwrap_or.result.now c.args.data_paths.now (g.E.Write.contents c.args.faults.now) (g.E.Write.contents c.drive_data_path-ended.new.faults) (g.E.Write.contents c.say_full-is_written.new.faults) (g.E.Write.contents c.say_end.new.faults) c.end_by.result c.say_full-is_written.result c.say_end.result
     c.drive_data_path-ended.ensures.names c.say_full-is_written.ensures c.say_end.ensures.said c.say_end.ensures.status one)

@@ -1,5 +1,5 @@
 use Rattle.std.proofs.Common.{sym}
-use Rattle.ctl_run.proofs.inputs.AnswerLines.{no_blank, no_count, no_text}
+use Rattle.ctl_run.proofs.inputs.AnswerLines.{no_blank, no_count, no_answer_text}
 use Rattle.ctl_run.proofs.own_answers.last_of.Goals as goal
 
 pub returns-in_default : goal.returns-in_default
@@ -11,4 +11,4 @@ returns-in_default-count_of c =
 
 pub returns-then-not-is_line : goal.returns-then-not-is_line
 returns-then-not-is_line c =
-    no_text c.args.text.now c.in-Some.word.now c.in-Some.line.now c.in-Some.ensures.0 c.in-Some.ensures.1 (sym c.if-not-is_line.ensures)
+    no_answer_text c.args.text.now c.in-Some.word.now c.in-Some.line.now c.in-Some.ensures.0 c.in-Some.ensures.1 (sym c.if-not-is_line.ensures)

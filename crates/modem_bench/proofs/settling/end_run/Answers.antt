@@ -14,8 +14,8 @@ pub settle-requires-clause-listeners : goal.settle-requires-clause-listeners
 settle-requires-clause-listeners g c =
     subst (λ (d : DeskId). AreSubscribed d (map subscription_of c.args.listeners.items)) (ap (λ (v : DriverView). v.desk) (sym c.finish-finished.ensures.same.1)) c.requires.listeners
 
-pub returns-in-Ok : goal.returns-in-Ok
-returns-in-Ok g c =
+pub returns-in-Ok-clause-over : goal.returns-in-Ok-clause-over
+returns-in-Ok-clause-over g c =
     let look = g.L.SerialLine.seen in
     let f = c.finish-finished.result in
     record {

@@ -1,16 +1,15 @@
--- What is given later was to be given before.
-use Rattle.std.specs.Prelude.{Ok}
-use Rattle.modem_sim.specs.declared.sim.SimTurn.TheVariants.{Ended}
-use Rattle.modem_sim.proofs.sims.PollSteps.{gives_before}
-use Rattle.modem_bench.proofs.Simulations.{gives_if_ended}
+-- Polls that gave nothing, and one that gave an end.
+use Rattle.std.proofs.Common.{◌∙◌}
+use Rattle.modem_bench.proofs.Simulations.{ends_if_told, waited_then}
 use Rattle.modem_bench.proofs.simulating.simulate_on.Goals as goal
 
-pub returns-in-Some-advance : goal.returns-in-Some-advance
-returns-in-Some-advance g c =
-    gives_if_ended g.L.SerialLine.seen
-    c.args.sim.now c.loop.sim c.advance.new.self c.in-Some-advance.given c.ended.result c.loop.invariant c.in-Some-advance.ensures.polls c.ended.ensures.ended
+pub returns-in-Some-advance-clause-ended : goal.returns-in-Some-advance-clause-ended
+returns-in-Some-advance-clause-ended g c =
+    ends_if_told g.L.SerialLine.seen c.args.sim.now c.loop.sim c.advance.new.self c.in-Some-advance.given c.ended.result
+    c.loop.invariant.waited c.in-Some-advance.ensures.polls c.in-Some-advance.ensures.goes c.ended.ensures.ended
 
 pub loop-preserved : goal.loop-preserved
-loop-preserved g c later =
-    c.loop.invariant (gives_before g.L.SerialLine.seen
-    c.loop.sim c.advance.new.self (Ok Ended) c.in-None-advance.ensures.polls later)
+loop-preserved g c = record {
+  waited = waited_then g.L.SerialLine.seen c.args.sim.now c.loop.sim c.advance.new.self c.loop.invariant.waited c.in-None-advance.ensures.polls c.in-None-advance.ensures.goes;
+  beyond = c.in-None-advance.ensures.beyond ∙ c.loop.invariant.beyond;
+}

@@ -1,10 +1,12 @@
--- What it gives from here on, it gave from the beginning on.
-use Rattle.std.specs.Prelude.{Ok}
-use Rattle.modem_sim.specs.Polls.{Gives}
-use Rattle.modem_sim.specs.declared.sim.SimTurn.TheVariants.{Ended}
+-- All polls so far gave nothing. Its line is the same.
+use Rattle.std.specs.Prelude.{◌≡◌}
+use Rattle.modem_bench.proofs.Simulations.{Waited}
 use Rattle.modem_bench.proofs.simulating.simulate_on.Given as goal
 
 abbrev pub invariant-loop : goal.invariant-loop
 invariant-loop g l =
-    let see = g.L.SerialLine.seen in
-    Gives see l.sim (Ok Ended) → Gives see l.initial.sim (Ok Ended)
+    let side = g.L.SerialLine.other_side in
+    record {
+      waited : Waited g.L.SerialLine.seen l.initial.sim l.sim;
+      beyond : side l.sim.line ≡ side l.initial.sim.line;
+    }

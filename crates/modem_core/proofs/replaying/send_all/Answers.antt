@@ -8,11 +8,11 @@ use Rattle.modem_history.specs.declared.act.Act.TheVariants as act
 use Rattle.modem_core.specs.Cores.{Core}
 use Rattle.modem_core.specs.CoreGoing.{left_to_go}
 use Rattle.modem_core.specs.Running.{CoreIsIdle}
-use Rattle.modem_core.proofs.outgoing.FramesAfterCall.{sends_none, sends_mark, sends_data, sends_all, n1_stays, idle_stays}
+use Rattle.modem_core.proofs.outgoing.FramesAfterCall.{nothing_gone_out, sends_mark, sends_data, sends_all, n1_stays, idle_stays}
 use Rattle.modem_core.proofs.replaying.send_all.Goals as goal
 
 pub loop-outgoing-init : goal.loop-outgoing-init
-loop-outgoing-init c = record { sends = sends_none c.args.core.now (map act_of c.args.acts.now.items); n1 = refl }
+loop-outgoing-init c = record { sends = nothing_gone_out c.args.core.now (map act_of c.args.acts.now.items); n1 = refl }
 
 pub loop-outgoing-smaller-in_ok-push : goal.loop-outgoing-smaller-in_ok-push
 loop-outgoing-smaller-in_ok-push c = subst (λ (v : Core). left_to_go v < left_to_go c.loop-outgoing.core) (sym c.outgoing.follows.holds-at-none) c.in-Some.ensures.less

@@ -10,9 +10,10 @@ use Rattle.std.specs.List.{list_all}
 use Rattle.modem_history.specs.Sessions.{at_place}
 use Rattle.modem_history.specs.EveryTurn.{count_at}
 use Rattle.modem_history.specs.Turns.{amount, counted}
-use Rattle.modem_core.specs.Placing.{Rings, of_key, Gave, Stay, Placed, Placing, OneFewer, OffersFirst, one_if}
+use Rattle.modem_core.specs.Placing.{Rings, Gave, Stay, Placed, Placing, OneFewer, OffersFirst, one_if}
+use Rattle.modem_queues.specs.LineQueues.{of_key}
 use Rattle.modem_core.proofs.sessions.steps.Amounts.{amount_more}
-use Rattle.modem_core.proofs.sessions.steps.RemainingItems.{own, other_of, stay_all, stay_without}
+use Rattle.modem_core.proofs.sessions.steps.RemainingItems.{own_first, other_of, stay_all, stay_without}
 
 false_true : false ≡ true → ⊥
 false_true h = cc
@@ -40,7 +41,7 @@ first_of : {X : Type 0} (key : X → ℕ) (n : ℕ) (stay rest : List X) (x : X)
 first_of {X} key n stay rest x e none =
     filter-append (λ y. key y == n) stay (x ∷ rest)
     ∙ (ap (λ (ys : List X). ys ++ of_key key n (x ∷ rest)) none
-    ∙ (own key n x rest e
+    ∙ (own_first key n x rest e
     ∙ ap (λ (ys : List X). x ∷ ys) (sym (filter-append (λ y. key y == n) stay rest ∙ ap (λ (ys : List X). ys ++ of_key key n rest) none))))
 
 all_without : {X : Type 0} (p : X → Bool) (stay rest : List X) (x : X) → list_all p (stay ++ x ∷ rest) ≡ true → list_all p (stay ++ rest) ≡ true
@@ -148,7 +149,7 @@ stay_more {X} key n stay x some none = some (front_none (of_key key n stay) (of_
 
 stay_own : {X : Type 0} (key : X → ℕ) (n : ℕ) (stay : List X) (x : X) → (key x == n) ≡ true → of_key key n (stay ++ x ∷ []) ≢ []
 stay_own {X} key n stay x e none =
-    let whole : of_key key n stay ++ x ∷ [] ≡ [] = ap (λ (ys : List X). of_key key n stay ++ ys) (sym (own key n x [] e)) ∙ (sym (filter-append (λ y. key y == n) stay (x ∷ [])) ∙ none) in
+    let whole : of_key key n stay ++ x ∷ [] ≡ [] = ap (λ (ys : List X). of_key key n stay ++ ys) (sym (own_first key n x [] e)) ∙ (sym (filter-append (λ y. key y == n) stay (x ∷ [])) ∙ none) in
     let long = ap length whole ∙ refl in
     let all = length-append (of_key key n stay) (x ∷ []) in
     omega (arith, long, all)

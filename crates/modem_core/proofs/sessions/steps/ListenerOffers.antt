@@ -9,7 +9,8 @@ use Rattle.at_text.specs.declared.unsolicited.UrcKind.{UrcKind}
 use Rattle.modem_desk.specs.declared.request.Urc.{Urc}
 use Rattle.modem_desk.specs.Ends.{DriverView, DeskId, Announces, Changes, FallsByOne, RunsOut, RisesByOne, Hears}
 use Rattle.at_text.specs.Kinds.{kind_place}
-use Rattle.modem_core.specs.Placing.{LeavesAll, Placed, OneFewer, of_key, OffersFirst, AnnouncesAlone, place_of, IsListenerOf, IsHeard, listener_rings}
+use Rattle.modem_core.specs.Placing.{LeavesAll, Placed, OneFewer, OffersFirst, AnnouncesAlone, IsListenerOf, IsHeard, listener_rings}
+use Rattle.modem_queues.specs.LineQueues.{of_key, place_of}
 use Rattle.at_text.proofs.SameKinds.{same_place}
 use Rattle.modem_core.proofs.sessions.steps.FirstOffers.{either, none_held, AreApart, GivesOne, FillsUp, placing_first, placed_early, placed_last}
 

@@ -31,9 +31,9 @@ lawful_front s (a ∷ acts) past l = (lawful_front s acts (a ∷ past) l).1
 -- ## How many are in hand
 
 -- where no element is left by a test, none passes it
-pub none_of : {A : Type 0} (t : A → Bool) (xs : List A) → length (filter t xs) ≡ 0 → list_any t xs ≡ false
-none_of t [] h = refl
-none_of t (x ∷ xs) h = by_test (t x) refl (none_of t xs)
+pub none_passes : {A : Type 0} (t : A → Bool) (xs : List A) → length (filter t xs) ≡ 0 → list_any t xs ≡ false
+none_passes t [] h = refl
+none_passes t (x ∷ xs) h = by_test (t x) refl (none_passes t xs)
   where
     by_test : (c : Bool) → t x ≡ c → (length (filter t xs) ≡ 0 → list_any t xs ≡ false) → (c || list_any t xs) ≡ false
     by_test false e go = go (sym (ap (λ (y : Bool). length (if y then x ∷ filter t xs else filter t xs)) e) ∙ h)
@@ -80,7 +80,7 @@ told_takes s o past l distinct =
     ap length (filter-append (λ o. is_for r o) (outcomes past) (o ∷ []) ∙ ap (λ (os : List Outcome). filter (λ o. is_for r o) (outcomes past) ++ os) last)
     ∙ length-append (filter (λ o. is_for r o) (outcomes past)) (o ∷ []) in
     let few = answers.once (uses_once (taken_requests past) distinct) r in
-    ap not (none_of (λ o. is_for r o) (outcomes past) (omega arith)) in
+    ap not (none_passes (λ o. is_for r o) (outcomes past) (omega arith)) in
     let among : list_any (λ r. is_for r o) (untold past) ≡ true = any_left (λ r. is_for r o) (λ r. not (list_any (λ o. is_for r o) (outcomes past))) waits_yet (taken_requests past) asked in
     let hand = hand_is s past l.1 distinct in
     one_fewer (λ r. is_for r o) (in_hand past) (subst (λ (rs : List Request). list_any (λ r. is_for r o) rs ≡ true) (sym hand) among)

@@ -5,7 +5,8 @@ use Rattle.std.proofs.lemmas.Bool.Decides.{eqb_tells}
 use Rattle.std.proofs.lemmas.List.{append-nil, append_cancel_right, length-append}
 use Rattle.std.proofs.lemmas.List.Elements.{filter-append}
 use Rattle.std.specs.Prelude.{◌≡◌, ◌≢◌, ℕ, ◌≤◌, ◌==◌, ◌⊎◌, Bool, true, false, List, [], ◌∷◌, ◌++◌, length, refl, if◌then◌else◌}
-use Rattle.modem_core.specs.Placing.{of_key, Stay, stays_none, goes_first, stays_first}
+use Rattle.modem_core.specs.Placing.{Stay, stays_none, goes_first, stays_first}
+use Rattle.modem_queues.specs.LineQueues.{of_key}
 
 -- ## Those of a key
 
@@ -14,8 +15,8 @@ pub swapped : (a b : ℕ) → (a == b) ≡ (b == a)
 swapped a b = ⊎_elim (λ (y : (a == b) ≡ true × a ≡ b). y.0 ∙ sym (eq-eqb b a (sym y.1))) (λ (y : (a == b) ≡ false × a ≢ b). y.0 ∙ sym (ne_eqb b a (λ e. y.1 (sym e)))) (eqb_tells a b)
 
 -- an element of the key comes before the others of it
-pub own : {X : Type 0} (key : X → ℕ) (n : ℕ) (x : X) (xs : List X) → (key x == n) ≡ true → of_key key n (x ∷ xs) ≡ x ∷ of_key key n xs
-own key n x xs e = ap (λ (c : Bool). if c then x ∷ of_key key n xs else of_key key n xs) e
+pub own_first : {X : Type 0} (key : X → ℕ) (n : ℕ) (x : X) (xs : List X) → (key x == n) ≡ true → of_key key n (x ∷ xs) ≡ x ∷ of_key key n xs
+own_first key n x xs e = ap (λ (c : Bool). if c then x ∷ of_key key n xs else of_key key n xs) e
 
 -- one of another key is none of it
 pub other : {X : Type 0} (key : X → ℕ) (n : ℕ) (x : X) (xs : List X) → (key x == n) ≡ false → of_key key n (x ∷ xs) ≡ of_key key n xs
@@ -70,7 +71,7 @@ pub record LastGoes {X : Type 0} (key : X → ℕ) (xs ys : List X) (x : X) : Ty
   pub none : of_key key (key x) ys ≡ []
 
 last_of : {X : Type 0} (key : X → ℕ) (n : ℕ) (xs : List X) (x : X) → (key x == n) ≡ true → of_key key n (xs ++ x ∷ []) ≡ of_key key n xs ++ x ∷ []
-last_of {X} key n xs x e = filter-append (λ y. key y == n) xs (x ∷ []) ∙ ap (λ (ys : List X). of_key key n xs ++ ys) (own key n x [] e)
+last_of {X} key n xs x e = filter-append (λ y. key y == n) xs (x ∷ []) ∙ ap (λ (ys : List X). of_key key n xs ++ ys) (own_first key n x [] e)
 
 -- the same stays of two lists where the last of both is taken away
 both_without : {X : Type 0} (key : X → ℕ) (n : ℕ) (xs ys : List X) (x : X) → of_key key n (xs ++ x ∷ []) ≡ of_key key n (ys ++ x ∷ []) → of_key key n xs ≡ of_key key n ys

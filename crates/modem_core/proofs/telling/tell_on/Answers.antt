@@ -3,8 +3,8 @@ use Rattle.std.proofs.Common.{◌≡◌, ◌<◌, ◌||◌, Bool, List, [], ◌�
 use Rattle.std.specs.Prelude.{slice_index_or, Option, option_map, find}
 use Rattle.modem_desk.specs.declared.request.Request.{Request}
 use Rattle.modem_history.specs.Acts.{Told}
-use Rattle.modem_core.specs.declared.asker.Asker.{Asker}
-use Rattle.modem_core.specs.Stops.{asker_of, is_answered, is_stop}
+use Rattle.modem_queues.specs.declared.asker.Asker.{Asker}
+use Rattle.modem_queues.specs.Stops.{asker_of, is_answered, is_stop}
 use Rattle.modem_core.specs.Telling.{told_by}
 use Rattle.modem_core.specs.Cores.{state_shown}
 use Rattle.modem_core.proofs.requests.ToldOutcomes.{told_further}

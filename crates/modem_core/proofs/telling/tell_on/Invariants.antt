@@ -3,7 +3,7 @@ use Rattle.std.specs.VecDeque.{deque_capacity}
 use Rattle.modem_core.specs.Telling.{told_by}
 use Rattle.modem_core.specs.Cores.{state_shown}
 use Rattle.modem_core.specs.Doing.{TellingOn}
-use Rattle.modem_core.specs.Stops.{asker_of, is_stop}
+use Rattle.modem_queues.specs.Stops.{asker_of, is_stop}
 use Rattle.modem_core.proofs.telling.tell_on.Given as goal
 
 abbrev pub invariant-loop-place : goal.invariant-loop-place

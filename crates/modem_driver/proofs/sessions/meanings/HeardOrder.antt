@@ -11,7 +11,8 @@ use Rattle.at_text.specs.Kinds.{kind_place, is_same_kind}
 use Rattle.modem_history.specs.Kinds.{of_kind}
 use Rattle.modem_history.specs.Sessions.{SessionView, announced_of, heard_as, heard_behind, heards}
 use Rattle.modem_history.specs.Turns.{lines_heard}
-use Rattle.modem_core.specs.Placing.{of_key, Stay, stays_none, place_of}
+use Rattle.modem_core.specs.Placing.{Stay, stays_none}
+use Rattle.modem_queues.specs.LineQueues.{of_key, place_of}
 use Rattle.modem_core.proofs.sessions.steps.LongerHistories.{heard_of, heards_after, is_heard_as, kind_heard}
 use Rattle.at_text.proofs.SameKinds.{same_place}
 use Rattle.modem_core.proofs.sessions.steps.RemainingItems.{LastGoes, LastStays, stay_count, stay_last, swapped}

@@ -44,12 +44,12 @@ use Rattle.modem_core.proofs.requests.TakenRequests.{asked_frames, distinct_with
 use Rattle.modem_core.proofs.sessions.steps.CollectedActs.{told_both}
 use Rattle.modem_core.specs.Cores as cores
 use Rattle.modem_core.specs.Cores.{Core, MayCome, Runs, RunsUnless, may_wait, state_shown}
-use Rattle.modem_core.specs.Stops.{asker_of, asks_stop, ends_stop, has_stopped, is_answered, is_end_of, is_stop, is_stopped_by}
+use Rattle.modem_queues.specs.Stops.{asker_of, asks_stop, ends_stop, has_stopped, is_answered, is_end_of, is_stop, is_stopped_by}
 use Rattle.modem_history.proofs.law_proofs.SessionLaws.{distinct_taken}
 use Rattle.modem_driver.specs.SessionStates.{Machine, seen_by, end_of}
 use Rattle.modem_core.proofs.sessions.steps.LongerHistories.{outcomes_after, taken_after}
 use Rattle.modem_driver.proofs.sessions.steps.CoreCalls.{FitsMachine}
-use Rattle.modem_core.proofs.sessions.steps.OutcomeCounts.{any_left, none_of}
+use Rattle.modem_core.proofs.sessions.steps.OutcomeCounts.{any_left, none_passes}
 use Rattle.modem_driver.proofs.sessions.polls.StopProgress.{NoneEnds}
 use Rattle.modem_driver.proofs.sessions.polls.StopsInHand.{any_same, ends, ends_by, later_ends, still_stopped, stopped_both, stops_left, unless_ends}
 use Rattle.modem_history.proofs.rules.MadeLaws.{laws_of}
@@ -95,7 +95,7 @@ ended_in_hand s past acts before l distinct same none some =
     let one = counted (λ (o : Outcome). is_for q o) ps its in
     let few = (answers_once s (after past acts) l).once (uses_once (taken_requests (after past acts)) (ap are_distinct same ∙ distinct)) q in
     let all = ap (λ (xs : List Outcome). length (filter (λ (o : Outcome). is_for q o) xs)) (outcomes_after acts past) ∙ (ap length (filter-append (λ (o : Outcome). is_for q o) os ps) ∙ length-append (filter (λ (o : Outcome). is_for q o) os) (filter (λ (o : Outcome). is_for q o) ps)) in
-    ap not (none_of (λ (o : Outcome). is_for q o) os (omega (arith, one, few, all))) in
+    ap not (none_passes (λ (o : Outcome). is_for q o) os (omega (arith, one, few, all))) in
     ap (list_any (is_stopped_by ps)) (hand_is s past before distinct) ∙ any_left (is_stopped_by ps) (λ (q : Request). not (list_any (λ (o : Outcome). is_for q o) os)) untold_yet (taken_requests past) now
 
 -- ## And it was the only one
@@ -335,8 +335,8 @@ new_goes_on s past q l distinct = by_any (is_stopped_by (outcomes past) q) refl
         absurd (let both : true ≡ false = sym its ∙ no_outcome q (taken_requests past) (outcomes past) (distinct_ends (taken_requests past) q distinct).1 (all_answer s past l) in cc)
 
 -- a request that is taken ends no Stop
-pub took_none : (s : Setting) (v : Core) (past : List Act) (q : Request) → v.station.role ≡ Initiator → MayCome s v past (Took q) → Lawful s past → Saids (calls s past (Took q)) → are_distinct (taken_requests past ++ q ∷ []) ≡ true → NoneEnds past (Took q ∷ calls s past (Took q))
-took_none s v past q role m l said distinct none =
+pub took_ends_none : (s : Setting) (v : Core) (past : List Act) (q : Request) → v.station.role ≡ Initiator → MayCome s v past (Took q) → Lawful s past → Saids (calls s past (Took q)) → are_distinct (taken_requests past ++ q ∷ []) ≡ true → NoneEnds past (Took q ∷ calls s past (Took q))
+took_ends_none s v past q role m l said distinct none =
     let acts = Took q ∷ calls s past (Took q) in
     ap (list_any (is_stopped_by (outcomes (after past acts)))) (taken_after (calls s past (Took q)) (Took q ∷ past) said)
     ∙ (still_stopped acts past (taken_requests past ++ q ∷ []) (took_ends s v past q role m)

@@ -17,7 +17,8 @@ use Rattle.modem_history.specs.Kinds.{of_kind}
 use Rattle.modem_history.specs.Sessions.{at_place, caller_outcomes}
 use Rattle.modem_history.specs.Turns.{amount, counted}
 use Rattle.modem_driver.specs.declared.session.turn.Turn.{Turn}
-use Rattle.modem_core.specs.Placing.{Placed, TellsAlone, AnnouncesAlone, caller_of, place_of, IsRingOf, IsCaller, IsListenerOf, IsHeard, caller_rings, listener_rings}
+use Rattle.modem_core.specs.Placing.{Placed, TellsAlone, AnnouncesAlone, caller_of, IsRingOf, IsCaller, IsListenerOf, IsHeard, caller_rings, listener_rings}
+use Rattle.modem_queues.specs.LineQueues.{place_of}
 use Rattle.modem_driver.specs.SessionStates.{Machine, new_machine}
 use Rattle.modem_driver.specs.TurnSteps.{Places, turn_state}
 use Rattle.modem_driver.specs.TurningAway.{TurnsOn, RefusesOne, PassesAway, PassSays, line_lost, moves}

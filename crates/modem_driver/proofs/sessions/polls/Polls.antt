@@ -20,7 +20,7 @@ use Rattle.modem_driver.specs.declared.session.ending.Ended.TheVariants.{Stopped
 use Rattle.modem_driver.specs.declared.session.error.SessionFault.{SessionFault}
 use Rattle.modem_driver.specs.declared.session.error.SessionFault.TheVariants as fault
 use Rattle.modem_driver.specs.Endings.{HasCome, HasEnded, IsEnd}
-use Rattle.modem_core.specs.Stops.{has_stopped}
+use Rattle.modem_queues.specs.Stops.{has_stopped}
 use Rattle.modem_driver.specs.Polls.{Gives, Polls, PollsFrom, PollsOn, SaysEnd, SessionGoesOn, PollSays, end_given, end_in, has_ended, is_stopped, waits_none, waits_once, with_end}
 use Rattle.modem_driver.specs.SessionStates.{SessionState, FitsAll, FitsInside, session_view}
 use Rattle.modem_driver.specs.SessionTurns.{Faults, HasTurned, LeavesLost, TakesTurn, standing_of}

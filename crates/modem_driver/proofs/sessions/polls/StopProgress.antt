@@ -15,13 +15,13 @@ use Rattle.modem_history.specs.Sessions.{Beginning, SessionView, at_place}
 use Rattle.modem_history.specs.Turns.{outcomes_told}
 use Rattle.modem_history.proofs.calls.StatesAfterActs.{after_both}
 use Rattle.modem_history.proofs.requests.RequestsInHand.{found_tests}
-use Rattle.modem_core.specs.declared.asker.Asker.{Asker}
+use Rattle.modem_queues.specs.declared.asker.Asker.{Asker}
 use Rattle.modem_driver.specs.declared.machine.course.Course.{Course}
 use Rattle.modem_driver.specs.declared.machine.course.Course.TheVariants.{GoesOn, Stopped, Ended}
 use Rattle.modem_driver.specs.declared.session.ending.Ended.TheVariants as ended
 use Rattle.modem_driver.specs.declared.session.error.SessionFault.TheVariants as fault
 use Rattle.modem_driver.specs.Endings.{HasCome, HasEnded, KeepsEnd, course_after}
-use Rattle.modem_core.specs.Stops.{asker_of, ends_stop, has_stopped, is_answered, is_end_of, is_stop, is_stopped_by}
+use Rattle.modem_queues.specs.Stops.{asker_of, ends_stop, has_stopped, is_answered, is_end_of, is_stop, is_stopped_by}
 use Rattle.modem_core.proofs.sessions.steps.LongerHistories.{outcomes_after}
 
 -- an act of the program tells that a Stop has ended just where the act of the history does

@@ -13,7 +13,7 @@ use Rattle.modem_history.specs.Calls.{HistoryView, later, told_later}
 use Rattle.modem_history.specs.Wholes.{is_said, outcomes, taken_requests}
 use Rattle.modem_history.specs.Turns.{outcomes_told}
 use Rattle.modem_history.proofs.calls.CalledActs.{Saids}
-use Rattle.modem_core.specs.Stops.{ends_stop, is_stop, is_stopped_by}
+use Rattle.modem_queues.specs.Stops.{ends_stop, is_stop, is_stopped_by}
 use Rattle.modem_core.proofs.sessions.steps.LongerHistories.{outcomes_after}
 use Rattle.modem_driver.proofs.sessions.polls.StopProgress.{NoneEnds}
 

@@ -22,7 +22,7 @@ use Rattle.modem_history.specs.Turns.{HoldsByBacklog, HoldsWhereRoom, LacksMscRo
 use Rattle.modem_history.proofs.calls.StatesAfterActs.{after_both}
 use Rattle.modem_core.specs.Holding.{CallsForNothing, due_by, flow_due}
 use Rattle.modem_driver.specs.BacklogChecks.{ChecksOne, SettlesOne}
-use Rattle.modem_core.specs.LineQueues.{AreFewOnEach}
+use Rattle.modem_queues.specs.LineQueues.{AreFewOnEach}
 use Rattle.modem_history.specs.EveryTurn.{is_check}
 use Rattle.modem_driver.specs.SessionStates.{Machine, MachineGoes, seen_by, end_of}
 use Rattle.modem_driver.specs.TurnSteps.{Leads, AddsAll, Checks, turn_state, is_more}

@@ -21,7 +21,7 @@ use Rattle.modem_driver.proofs.sessions.steps.WaitedTicks.{delays_after}
 use Rattle.modem_core.specs.Cores.{MayCome, GoesOn, IsRun}
 use Rattle.modem_core.specs.Holding.{HoldsFit}
 use Rattle.modem_driver.specs.Endings.{HasCome}
-use Rattle.modem_core.specs.Stops.{is_stop}
+use Rattle.modem_queues.specs.Stops.{is_stop}
 use Rattle.modem_driver.specs.SessionStates.{Machine, MachineFits, seen_by, end_of}
 use Rattle.modem_core.proofs.sessions.steps.LongerHistories.{taken_after, given_after, room_after, turn_after, has_listener}
 use Rattle.modem_core.proofs.sessions.steps.OutcomeCounts.{is_caller, hand_counts, callers_told}

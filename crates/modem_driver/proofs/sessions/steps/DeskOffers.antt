@@ -20,7 +20,8 @@ use Rattle.modem_history.specs.Sessions.{Beginning, LineView, SessionView, FitsT
 use Rattle.modem_history.specs.EveryTurn.{count_at}
 use Rattle.modem_history.specs.Turns.{amount, counted}
 use Rattle.modem_history.specs.Wholes.{IsPrefixOf}
-use Rattle.modem_core.specs.Placing.{of_key, Gave, Stay, Placed, TellsAlone, AnnouncesAlone, caller_of, place_of, IsRingOf, IsCaller, IsListenerOf, IsHeard, Rings, caller_rings, listener_rings}
+use Rattle.modem_core.specs.Placing.{Gave, Stay, Placed, TellsAlone, AnnouncesAlone, caller_of, IsRingOf, IsCaller, IsListenerOf, IsHeard, Rings, caller_rings, listener_rings}
+use Rattle.modem_queues.specs.LineQueues.{of_key, place_of}
 use Rattle.modem_driver.specs.SessionStates.{Machine, seen_by, end_of}
 use Rattle.modem_driver.specs.TurnSteps.{Leads, Places, turn_state}
 use Rattle.modem_core.proofs.sessions.steps.OutcomeCounts.{is_callers, is_caller}

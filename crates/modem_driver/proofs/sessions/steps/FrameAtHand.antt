@@ -19,7 +19,7 @@ use Rattle.modem_history.proofs.calls.CalledActs.{calls_said}
 use Rattle.modem_core.specs.Cores.{Core, Handles, GoesOn}
 use Rattle.modem_core.specs.Holding.{HoldsFit, KeepsHeld}
 use Rattle.modem_driver.specs.Endings.{HasCome, course_after}
-use Rattle.modem_core.specs.Stops.{asker_of, is_answered, is_stop}
+use Rattle.modem_queues.specs.Stops.{asker_of, is_answered, is_stop}
 use Rattle.modem_core.specs.Receiving.{HasRoom, brings_data}
 use Rattle.modem_core.specs.Running.{CoreIsIdle}
 use Rattle.modem_driver.specs.SessionStates.{Machine, seen_by, end_of}

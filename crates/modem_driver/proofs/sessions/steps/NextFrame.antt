@@ -40,7 +40,7 @@ use Rattle.modem_driver.proofs.sessions.steps.WaitingDeliveries.{told_part, hear
 use Rattle.modem_driver.proofs.sessions.steps.QueuedInformation.{queue_plain}
 use Rattle.mux_station.proofs.law_proofs.ControlFrames.{is_plain}
 use Rattle.modem_driver.proofs.sessions.polls.StopsInHand.{ends, none_ends}
-use Rattle.modem_core.specs.Stops.{is_stop}
+use Rattle.modem_queues.specs.Stops.{is_stop}
 use Rattle.modem_history.specs.Rules.{goes_out}
 
 -- ## What goes out of a history

@@ -48,6 +48,12 @@ pub gives : (d e : DriverView) (o : Option Request) → e.desk ≡ d.desk → e.
 gives d e None desk told announced places backs found once h formed = record { desk = desk; told = told; announced = announced; places = places; backs = backs; found = found; once = taken_once e.taken once; more = h ∙ sym (append-nil d.taken); callers = refl; formed = formed }
 gives d e (Some q) desk told announced places backs found once h formed = record { desk = desk; told = told; announced = announced; places = places; backs = backs; found = found; once = taken_once e.taken once; more = h.0; callers = caller_of d q h.1; formed = formed }
 
+-- it has none, and counts that
+pub finding_gives_none : (d e : DriverView) → e ≡ record d { found_none = e.found_none } → RisesByOne d.found_none e.found_none → AreNumbered e.taken → Gives d e None
+finding_gives_none d e same found once =
+    gives d e None (ap (λ (v : DriverView). v.desk) same) (ap (λ (v : DriverView). v.told) same) (ap (λ (v : DriverView). v.announced) same) (ap (λ (v : DriverView). v.free) same, ap (λ (v : DriverView). v.free_lines) same)
+    (ap (λ (v : DriverView). v.told_back) same, ap (λ (v : DriverView). v.announced_back) same) found once (ap (λ (v : DriverView). v.taken) same) tt
+
 -- there is room for one more
 pub not_full : (n : ℕ) → nat_le 128 n ≡ false → n < 128
 not_full n h = grind (arith, nat_tests)
@@ -106,8 +112,8 @@ none_adds l d e k waiting b past f = record {
 }
 
 -- the desk gave none
-pub takes_none : (l : LineView) (d e : DriverView) (k : Machine) → Gives d e None → TakesOne (turn_state l d k) (turn_state l e k) false
-takes_none l d e k g = record {
+pub none_to_take : (l : LineView) (d e : DriverView) (k : Machine) → Gives d e None → TakesOne (turn_state l d k) (turn_state l e k) false
+none_to_take l d e k g = record {
   next = Some None;
   acts = [];
   leads = leads_without l d e k g.desk g.told g.announced (g.more ∙ append-nil d.taken);
@@ -127,8 +133,8 @@ takes_none l d e k g = record {
 }
 
 -- the desk wasn't asked, since requests in hand and outcomes that wait are 128
-pub asks_none : (l : LineView) (d : DriverView) (k : Machine) → 128 ≤ length k.core.hand + length k.unplaced → TakesOne (turn_state l d k) (turn_state l d k) false
-asks_none l d k full = record {
+pub full_asks_none : (l : LineView) (d : DriverView) (k : Machine) → 128 ≤ length k.core.hand + length k.unplaced → TakesOne (turn_state l d k) (turn_state l d k) false
+full_asks_none l d k full = record {
   next = None;
   acts = [];
   leads = leads_without l d d k refl refl refl refl;

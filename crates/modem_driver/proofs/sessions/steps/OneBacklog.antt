@@ -30,7 +30,9 @@ use Rattle.modem_driver.specs.Endings.{HasCome}
 use Rattle.modem_driver.specs.BacklogChecks.{ChecksOne, SettlesOne}
 use Rattle.modem_history.specs.EveryTurn.{is_check}
 use Rattle.modem_history.specs.Holding.{is_held, last_held}
+use Rattle.mux_station.specs.Acts as station
 use Rattle.mux_station.specs.Opening.{is_open}
+use Rattle.mux_station.proofs.states.OpeningSteps.{is_open_after}
 use Rattle.mux_station.specs.Messages.{msc}
 use Rattle.mux_station.proofs.user_calls.ProbeStopFlowOffer.{no_close_down}
 use Rattle.modem_driver.specs.TurnSteps.{is_more}
@@ -209,10 +211,12 @@ still_open false zero = refl
 
 open_now : (n m : ℕ) (go : Bool) (past : List Act) → is_open Initiator m (wire (after past (acts_due n (Some go)))) ≡ is_open Initiator m (wire past)
 open_now n m true past =
-    ap (λ (b : Bool). is_open Initiator m (wire past) && not (b || (not (m == 0) && b))) (no_close_down Initiator msc ((4 * n + 3) ∷ ready ∷ []) refl)
+    is_open_after Initiator m (wire past) (station.Sent (msc_frame Initiator n ready))
+    ∙ ap (λ (b : Bool). is_open Initiator m (wire past) && not (b || (not (m == 0) && b))) (no_close_down Initiator msc ((4 * n + 3) ∷ ready ∷ []) refl)
     ∙ still_open (is_open Initiator m (wire past)) (m == 0)
 open_now n m false past =
-    ap (λ (b : Bool). is_open Initiator m (wire past) && not (b || (not (m == 0) && b))) (no_close_down Initiator msc ((4 * n + 3) ∷ held_up ∷ []) refl)
+    is_open_after Initiator m (wire past) (station.Sent (msc_frame Initiator n held_up))
+    ∙ ap (λ (b : Bool). is_open Initiator m (wire past) && not (b || (not (m == 0) && b))) (no_close_down Initiator msc ((4 * n + 3) ∷ held_up ∷ []) refl)
     ∙ still_open (is_open Initiator m (wire past)) (m == 0)
 
 lost_now : (n : ℕ) (go : Bool) (past : List Act) → is_lost (after past (acts_due n (Some go))) ≡ is_lost past

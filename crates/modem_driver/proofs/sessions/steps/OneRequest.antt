@@ -32,7 +32,7 @@ use Rattle.modem_driver.proofs.sessions.steps.OneBacklog.{said_may}
 use Rattle.modem_core.proofs.sessions.steps.ListenedLines.{calls_hear, lines_of_call, all_listened}
 use Rattle.modem_driver.proofs.sessions.steps.WaitingDeliveries.{told_part, heard_part, sent_part, received_part}
 use Rattle.modem_driver.proofs.sessions.steps.OneFrame.{said_few}
-use Rattle.modem_driver.proofs.sessions.polls.EndedStops.{took_none, took_stops}
+use Rattle.modem_driver.proofs.sessions.polls.EndedStops.{took_ends_none, took_stops}
 use Rattle.mux_station.specs.declared.role.Role.TheVariants.{Initiator}
 use Rattle.modem_history.proofs.rules.MadeLaws.{laws_of}
 use Rattle.modem_history.specs.Rules.{call}
@@ -127,7 +127,7 @@ takes_all old core room q w acts role handles held keeps b l d later past f next
           by_fault = f.inside.by_fault;
           one_stop = took_stops s old.core past q role may f.inside.one_stop;
           delays_are = delays_after old.delays more (Took q ∷ past) said f.inside.delays_are;
-          come = come_on b v u past (Took q ∷ more) old.course (took_none s old.core past q role may (laws_of f.session.history).lawful said distinct) (grows_none v u refl next.told_stays) f.inside.come;
+          come = come_on b v u past (Took q ∷ more) old.course (took_ends_none s old.core past q role may (laws_of f.session.history).lawful said distinct) (grows_none v u refl next.told_stays) f.inside.come;
         };
       };
       adds = λ waiting. record { outcomes = unplaced; lines = lines; may = said_may waiting more said; few_got = said_few more 0 said };

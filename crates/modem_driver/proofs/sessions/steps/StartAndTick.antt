@@ -16,7 +16,7 @@ use Rattle.modem_history.proofs.law_proofs.SessionLaws.{begins_fitting}
 use Rattle.modem_core.specs.Cores.{dialect_in, Core, Fits, Handles, GoesOn}
 use Rattle.modem_core.specs.Holding.{HoldsFit, KeepsHeld}
 use Rattle.modem_driver.specs.Endings.{HasCome, course_after}
-use Rattle.modem_core.specs.Stops.{asker_of, is_answered, is_stop}
+use Rattle.modem_queues.specs.Stops.{asker_of, is_answered, is_stop}
 use Rattle.modem_driver.specs.SessionStates.{SessionState, Machine, MachineFits, MachineGoes, MachineTicks, Ticks, machine_by, beginning_by, seen_by, end_of}
 use Rattle.modem_driver.specs.declared.session.error.SessionError.{SessionError}
 use Rattle.modem_core.specs.WaitingLists.{WaitingLists, Keeps}

@@ -1,5 +1,5 @@
 use Rattle.std.proofs.Common.{◌≡◌, ℕ, List, [], ◌∷◌, ◌++◌, is_ok, ap, ◌∙◌}
-use Rattle.at_text.proofs.AnswerTexts.{when_ok, pushed_fills, pushed_shows}
+use Rattle.at_text.proofs.AnswerTexts.{when_well, pushed_fills, pushed_shows}
 use Rattle.at_text.proofs.answer_lines.AnswerLines.push.Goals as goal
 
 pub invariant_of-self-2 : goal.invariant_of-self-2
@@ -9,7 +9,7 @@ invariant_of-self-2 c =
     let room = c.in_ok-make_room.ensures.room in
     let line = c.args.line.now in
     let octets_are : c.extend_from_slice.new.self.items ≡ octets ++ line =
-    when_ok (is_ok c.extend_from_slice.result) c.extend_from_slice.new.self.items (c.make_room.new.octets.items ++ line) c.make_room.new.octets.items
+    when_well (is_ok c.extend_from_slice.result) c.extend_from_slice.new.self.items (c.make_room.new.octets.items ++ line) c.make_room.new.octets.items
     (c.extend_from_slice.ensures.succeeds room) c.extend_from_slice.ensures.items
     ∙ ap (λ (xs : List ℕ). xs ++ line) c.make_room.ensures.items in
     let end_is = c.len.ensures ∙ c.extend_from_slice.new.self.ok.0 in
@@ -24,7 +24,7 @@ returns-clause-ok c =
     let room = c.in_ok-make_room.ensures.room in
     let line = c.args.line.now in
     let octets_are : c.extend_from_slice.new.self.items ≡ octets ++ line =
-    when_ok (is_ok c.extend_from_slice.result) c.extend_from_slice.new.self.items (c.make_room.new.octets.items ++ line) c.make_room.new.octets.items
+    when_well (is_ok c.extend_from_slice.result) c.extend_from_slice.new.self.items (c.make_room.new.octets.items ++ line) c.make_room.new.octets.items
     (c.extend_from_slice.ensures.succeeds room) c.extend_from_slice.ensures.items
     ∙ ap (λ (xs : List ℕ). xs ++ line) c.make_room.ensures.items in
     let end_is = c.len.ensures ∙ c.extend_from_slice.new.self.ok.0 in

@@ -2,7 +2,7 @@ use Rattle.ctl_run.specs.Bench.{IsNoSubmission}
 use Rattle.ctl_run.specs.LineFaults.{SubmissionFault}
 use Rattle.ctl_run.proofs.inputs.ReadLines.{refused}
 use Rattle.ctl_run.proofs.inputs.Scripts.{no_line, some_line}
-use Rattle.ctl_run.proofs.inputs.Submissions.{all_read, passed_over, submitted_next}
+use Rattle.ctl_run.proofs.inputs.Submissions.{all_submitted, passed_over, submitted_next}
 use Rattle.ctl_run.proofs.bench.submissions.read_submissions.Goals as goal
 
 pub loop-line-preserved-then-is_empty : goal.loop-line-preserved-then-is_empty
@@ -24,5 +24,5 @@ returns-in-Err c =
 
 pub returns : goal.returns
 returns c =
-    all_read c.args.callers c.args.input.now c.loop-line.left.now c.loop-line.all.items c.loop-line.place c.loop-line.invariant
+    all_submitted c.args.callers c.args.input.now c.loop-line.left.now c.loop-line.all.items c.loop-line.place c.loop-line.invariant
     c.in_default.ensures.cut

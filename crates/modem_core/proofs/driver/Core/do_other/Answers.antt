@@ -11,7 +11,7 @@ use Rattle.modem_desk.specs.declared.request.Request.{Request}
 use Rattle.modem_core.specs.declared.telling.Happened.TheVariants as happened
 use Rattle.modem_history.specs.Acts.{Act, Got, Sent, act_of}
 use Rattle.modem_core.specs.Doing.{Adds, Does, QueuesAtMost, outcomes_to, stop_in}
-use Rattle.modem_core.specs.Stops.{is_answered}
+use Rattle.modem_queues.specs.Stops.{is_answered}
 use Rattle.modem_core.proofs.cores.DoneCalls.{does_telling, lost_does, none_queued}
 use Rattle.modem_core.specs.Cores as cores
 use Rattle.modem_core.specs.Cores.{Core, Handles, state_shown}

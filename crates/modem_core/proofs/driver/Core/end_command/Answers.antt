@@ -1,5 +1,6 @@
 -- The first command is in hand no more, and the next one is offered.
-use Rattle.std.proofs.Common.{◌≡◌, ℕ, List, ◌∙◌, ap, subst, refl}
+use Rattle.std.proofs.Common.{◌≡◌, ℕ, List, ◌∙◌, ap, sym, subst, refl}
+use Rattle.std.specs.Option.{option_copied}
 use Rattle.std.specs.Prelude.{None, Some, Option, option_map}
 use Rattle.modem_desk.specs.declared.request.Request.{Request}
 use Rattle.modem_history.specs.Information.{line_of}
@@ -16,7 +17,7 @@ returns-in-Some c =
     let station = c.offer_next.new.station in
     let new : Core = record old { station = station; hand = c.remove_command.new.hand } in
     let next : Some c.in-Some.line.now ≡ option_map line_of (first_on d (without_first (commands_on d) old.hand))
-    = c.in-Some.ensures ∙ (ap (option_map line_of) c.from_first.ensures.first ∙ ap (λ (q : List Request). option_map line_of (first_on d q)) c.remove_command.ensures) in
+    = ap option_copied (sym c.in-Some.is) ∙ (c.first_command.ensures.line ∙ (ap (option_map line_of) c.from_first.ensures.first ∙ ap (λ (q : List Request). option_map line_of (first_on d q)) c.remove_command.ensures)) in
     let ends : EndsCommand old new d = record {
       station = station;
       new_is = ap (λ (q : List Request). let v : Core = record old { station = station; hand = q } in v) c.remove_command.ensures;
@@ -30,7 +31,7 @@ returns-in_default c =
     let d = c.args.dlci.number in
     let new : Core = record old { hand = c.remove_command.new.hand } in
     let next : None ≡ option_map line_of (first_on d (without_first (commands_on d) old.hand))
-    = c.in_default.ensures ∙ (ap (option_map line_of) c.from_first.ensures.first ∙ ap (λ (q : List Request). option_map line_of (first_on d q)) c.remove_command.ensures) in
+    = ap option_copied (sym c.in_default.is) ∙ (c.first_command.ensures.line ∙ (ap (option_map line_of) c.from_first.ensures.first ∙ ap (λ (q : List Request). option_map line_of (first_on d q)) c.remove_command.ensures)) in
     let ends : EndsCommand old new d = record {
       station = old.station;
       new_is = ap (λ (q : List Request). let v : Core = record old { hand = q } in v) c.remove_command.ensures;

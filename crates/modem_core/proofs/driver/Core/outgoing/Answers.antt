@@ -9,7 +9,7 @@ use Rattle.modem_core.specs.CoreGoing.{begun_next, gone_on, SendsTruly}
 use Rattle.modem_core.proofs.outgoing.CoreAfterFrame.{IsSound, sound, goes_on, goes_out, goes_none, goes_on_lost, gone_lost, station_stays, gone, kept_on}
 use Rattle.modem_core.specs.Running.{CoreIsIdle}
 use Rattle.modem_core.proofs.holds.HoldsAndFrames.{out_holds}
-use Rattle.modem_core.proofs.outgoing.EndOfSending.{leaves_less, idle_lost, idle_none, still_none, none_of, none_given, sends_none}
+use Rattle.modem_core.proofs.outgoing.EndOfSending.{leaves_less, idle_lost, idle_none, still_none, none_without, none_given, sends_none}
 use Rattle.modem_core.proofs.driver.Core.outgoing.Goals as goal
 
 pub returns-then-self : goal.returns-then-self
@@ -66,8 +66,8 @@ returns c =
         holds = out_holds old;
         less = leaves_less old (option_map outgoing_of c.next_frame.result) (let l = is_sound.least in omega (arith, l)) live frame;
         short = c.next_frame.ensures.short;
-        still = none_of outgoing_of (gone_on old ≡ old) c.next_frame.result (still_none old (option_map outgoing_of c.next_frame.result) frame);
-        idle = none_of outgoing_of (CoreIsIdle old) c.next_frame.result (idle_none old (option_map outgoing_of c.next_frame.result) frame);
+        still = none_without outgoing_of (gone_on old ≡ old) c.next_frame.result (still_none old (option_map outgoing_of c.next_frame.result) frame);
+        idle = none_without outgoing_of (CoreIsIdle old) c.next_frame.result (idle_none old (option_map outgoing_of c.next_frame.result) frame);
         after = tt;
       },
     )

@@ -1,17 +1,14 @@
 -- A frame of data that was read is handled.
-use Rattle.std.proofs.Common.{◌≡◌, ◌∙◌, ap, refl, subst, true, List, ◌++◌}
-use Rattle.std.specs.Prelude.{option_map, map}
+use Rattle.std.proofs.Common.{◌≡◌, ◌∙◌, ap, subst, true, List, ◌++◌}
+use Rattle.std.specs.Prelude.{map}
 use Rattle.std.proofs.lemmas.Bool.{and_parts}
 use Rattle.mux_frame.specs.Frames.{frame_of}
 use Rattle.modem_history.specs.Acts.{Got, act_of}
-use Rattle.modem_core.specs.declared.reports.Reading.{Reading}
 use Rattle.modem_core.specs.Cores.{Core, Handles, lane_at}
-use Rattle.modem_core.specs.Stops.{asker_of}
 use Rattle.modem_core.specs.Handing.{ReadsFrame}
 use Rattle.modem_core.specs.Holding.{KeepsHeld}
 use Rattle.modem_core.specs.Lanes.{Lane}
 use Rattle.modem_core.specs.Receiving.{HasRoom, brings_data}
-use Rattle.modem_core.specs.Reports.{Read}
 use Rattle.modem_core.proofs.outgoing.CoreAfterFrame.{sound}
 use Rattle.modem_core.proofs.frames.OtherFrames.{live_in, read_in}
 use Rattle.modem_core.proofs.frames.DataStays.{data_stays, noted_in, noted_truly, data_room}
@@ -29,13 +26,10 @@ returns-clause-past g c = λ lead is_first.
     let mid : Core = record v { lanes = c.read.new.self } in
     let new = c.go_on.new.self in
     let lane = lane_at mid f.dlci in
-    let more = map act_of c.read.new.draft.said.acts.items in
+    let more = map act_of c.read.new.said.acts.items in
     let acts = lead ++ more in
     let is_data : brings_data v f ≡ true = ap (λ (x : Core). brings_data x f) c.self.view_is ∙ c.requires.is_data in
-    let r : Reading = record { alloc = k.alloc; dlci = c.args.frame.dlci; owner = c.first_asker.result } in
-    let last : Read = record { kept = lane.kept; window = lane.window; acts = more } in
-    let reads : ReadsFrame v f lane acts
-    = reads_frame v f c.as_slice.result.now r (map act_of c.args.draft.now.said.acts.items) lead last lane.held c.as_slice.ensures.value refl (c.first_asker.ensures ∙ ap (option_map asker_of) c.from_first.ensures.first) c.in_ok-done.ensures.read is_first in
+    let reads : ReadsFrame v f lane acts = reads_frame v f c.as_slice.result.now c.echo_text.result.now (map act_of c.args.said.now.acts.items) lead lane more c.as_slice.ensures.value c.echo_text.ensures c.in_ok-done.ensures.read is_first in
     let quiet = (and_parts _ _ (read_in v f is_data)).1 in
     let m : HasLane v mid f.dlci lane = ap (λ (ls : List Lane). let x : Core = record v { lanes = ls } in x) c.read.ensures.lanes in
     let came : DataCame v new f (noted_in k.station f) lane k.station acts
@@ -51,13 +45,10 @@ returns-clause-holds g c = λ lead is_first.
     let mid : Core = record v { lanes = c.read.new.self } in
     let new = c.go_on.new.self in
     let lane = lane_at mid f.dlci in
-    let more = map act_of c.read.new.draft.said.acts.items in
+    let more = map act_of c.read.new.said.acts.items in
     let acts = lead ++ more in
     let is_data : brings_data v f ≡ true = ap (λ (x : Core). brings_data x f) c.self.view_is ∙ c.requires.is_data in
-    let r : Reading = record { alloc = k.alloc; dlci = c.args.frame.dlci; owner = c.first_asker.result } in
-    let last : Read = record { kept = lane.kept; window = lane.window; acts = more } in
-    let reads : ReadsFrame v f lane acts
-    = reads_frame v f c.as_slice.result.now r (map act_of c.args.draft.now.said.acts.items) lead last lane.held c.as_slice.ensures.value refl (c.first_asker.ensures ∙ ap (option_map asker_of) c.from_first.ensures.first) c.in_ok-done.ensures.read is_first in
+    let reads : ReadsFrame v f lane acts = reads_frame v f c.as_slice.result.now c.echo_text.result.now (map act_of c.args.said.now.acts.items) lead lane more c.as_slice.ensures.value c.echo_text.ensures c.in_ok-done.ensures.read is_first in
     let quiet = (and_parts _ _ (read_in v f is_data)).1 in
     let m : HasLane v mid f.dlci lane = ap (λ (ls : List Lane). let x : Core = record v { lanes = ls } in x) c.read.ensures.lanes in
     let came : DataCame v new f (noted_in k.station f) lane k.station acts

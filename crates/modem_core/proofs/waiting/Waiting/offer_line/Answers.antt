@@ -3,7 +3,8 @@ use Rattle.std.proofs.Common.{◌≡◌, ap, sym, ◌∙◌, subst, arith, true,
 use Rattle.std.specs.Prelude.{slice_index_or, slice_set, [], ◌++◌}
 use Rattle.modem_desk.specs.declared.request.Urc.{Urc}
 use Rattle.at_text.specs.Kinds.{kind_place}
-use Rattle.modem_core.specs.Placing.{OffersFirst, place_of, Rings, IsListenerOf, IsHeard, listener_rings}
+use Rattle.modem_core.specs.Placing.{OffersFirst, Rings, IsListenerOf, IsHeard, listener_rings}
+use Rattle.modem_queues.specs.LineQueues.{place_of}
 use Rattle.modem_core.specs.WaitingLists.{WaitingLists}
 use Rattle.modem_core.proofs.sessions.steps.FirstOffers.{offers_given, offers_back, offers_passed, offers_none}
 use Rattle.modem_core.proofs.sessions.steps.ListenerOffers.{listeners_apart, listener_given, listener_full, not_heard}

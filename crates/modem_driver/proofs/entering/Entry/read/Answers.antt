@@ -1,6 +1,6 @@
 -- An octet comes, or none.
 use Rattle.std.specs.Prelude.{refl}
-use Rattle.modem_driver.proofs.Entries.{failed, none_came, one_came, on_err}
+use Rattle.modem_driver.proofs.Entries.{failed, none_came_in, one_came, on_err}
 use Rattle.modem_driver.proofs.entering.Entry.read.Goals as goal
 
 pub returns-in_err-octet-clause-fails : goal.returns-in_err-octet-clause-fails
@@ -9,7 +9,7 @@ returns-in_err-octet-clause-fails g c = on_err c.from_residual.result
 
 pub returns-in-None-clause-goes : goal.returns-in-None-clause-goes
 returns-in-None-clause-goes g c =
-    none_came _ _ c.args.self.now c.in_ok-octet.field-0 c.in-None.is c.in_ok-octet.ensures.came
+    none_came_in _ _ c.args.self.now c.in_ok-octet.field-0 c.in-None.is c.in_ok-octet.ensures.came
 
 pub returns-in-Some-clause-goes : goal.returns-in-Some-clause-goes
 returns-in-Some-clause-goes g c =

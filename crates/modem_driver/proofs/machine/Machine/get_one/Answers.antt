@@ -7,7 +7,7 @@ use Rattle.line_end.specs.LineEnds.{LineEnd}
 use Rattle.modem_history.specs.Acts.{Got, act_of}
 use Rattle.modem_history.specs.Turns.{lines_heard}
 use Rattle.modem_driver.specs.declared.machine.course.Course.{Course}
-use Rattle.modem_core.specs.Stops.{asker_of, is_answered, is_stop}
+use Rattle.modem_queues.specs.Stops.{asker_of, is_answered, is_stop}
 use Rattle.modem_driver.specs.Endings.{course_after}
 use Rattle.modem_driver.specs.SessionStates.{Machine}
 use Rattle.modem_desk.specs.declared.request.Urc.{Urc}
@@ -41,7 +41,7 @@ returns-clause-gets c =
     let same = c.peek.follows.holds-at-none in
     let passed = c.advance-2.ensures.rest ∙ ap (λ (l : LineEnd). record l { deframer = fed }) same in
     let stop = option_map asker_of (find is_stop k.core.hand) in
-    let said = c.follow.new.draft.said.acts.items in
+    let said = c.follow.new.said.acts.items in
     let more = map act_of said in
     let acts = Got f ∷ more in
     let course : c.note.new.self ≡ course_after k.course (is_answered stop acts) = noted k.course c.note.new.self c.stop-stop.result stop c.as_slice.result.now said c.note.ensures c.stop-stop.ensures c.as_slice.ensures.value ∙ ap (course_after k.course) (sym (came_answers stop f more)) in

@@ -2,7 +2,7 @@
 use Rattle.std.proofs.Common.{subst, arith}
 use Rattle.std.specs.Prelude.{false, refl}
 use Rattle.modem_core.specs.Holding.{CallsForNothing}
-use Rattle.modem_core.specs.LineQueues.{AreFewOnEach}
+use Rattle.modem_queues.specs.LineQueues.{AreFewOnEach}
 use Rattle.modem_driver.specs.SessionStates.{Machine}
 use Rattle.modem_driver.proofs.sessions.steps.Backlogs.{checks_few, checks_all}
 use Rattle.modem_driver.proofs.machine.Machine.is_quiet.Goals as goal

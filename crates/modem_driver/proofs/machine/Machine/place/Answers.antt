@@ -3,7 +3,8 @@ use Rattle.std.proofs.Common.{sym, subst, List, ◌||◌}
 use Rattle.modem_desk.specs.declared.request.Outcome.{Outcome}
 use Rattle.modem_desk.specs.declared.request.Urc.{Urc}
 use Rattle.modem_history.specs.Sessions.{LineView}
-use Rattle.modem_core.specs.Placing.{Placed, caller_of, place_of, IsRingOf, IsCaller, IsListenerOf, IsHeard, caller_rings, listener_rings}
+use Rattle.modem_core.specs.Placing.{Placed, caller_of, IsRingOf, IsCaller, IsListenerOf, IsHeard, caller_rings, listener_rings}
+use Rattle.modem_queues.specs.LineQueues.{place_of}
 use Rattle.modem_driver.specs.SessionStates.{Machine}
 use Rattle.modem_driver.specs.TurnSteps.{Places, turn_state}
 use Rattle.modem_driver.proofs.sessions.steps.DeskOffers.{places}

@@ -1,13 +1,10 @@
--- What goes out is written, or nothing goes out.
-use Rattle.std.proofs.Common.{◌≡◌, sym, ◌∙◌, subst, [], false}
+-- Octets wait, or nothing goes out, or the next frame does.
+use Rattle.std.proofs.Common.{◌≡◌, sym, ◌∙◌, subst, refl, [], false}
 use Rattle.std.specs.Prelude.{◌≢◌}
-use Rattle.line_end.specs.LineEnds.{LineEnd}
-use Rattle.mux_station.specs.GivenFrames.{outgoing_of}
-use Rattle.modem_core.specs.Cores.{Core}
 use Rattle.modem_driver.specs.SessionStates.{Machine}
 use Rattle.modem_driver.specs.SendingSteps.{MachineSends}
-use Rattle.modem_driver.proofs.sessions.steps.NextFrame.{send_goes, send_busy, send_none, some_wait, none_wait}
-use Rattle.modem_driver.proofs.sessions.steps.MachineParts.{at_end, machine_of}
+use Rattle.modem_driver.proofs.sessions.steps.NextFrame.{send_busy, send_none, some_wait, none_wait}
+use Rattle.modem_driver.proofs.sessions.steps.MachineParts.{machine_of}
 use Rattle.modem_driver.proofs.machine.Machine.send_on.Goals as goal
 
 pub returns-then-not-is_written-clause-sends : goal.returns-then-not-is_written-clause-sends
@@ -17,25 +14,13 @@ returns-then-not-is_written-clause-sends c =
     let some : old.unwritten ≢ [] = some_wait k.line_end.unwritten (sym c.is_written.ensures ∙ c.if-not-is_written.true) in
     subst (λ (v : Machine). MachineSends v v false) c.self.view_is (send_busy old some)
 
-pub returns-in_default-clause-sends : goal.returns-in_default-clause-sends
-returns-in_default-clause-sends c =
+pub returns-then-not-has_outgoing-clause-sends : goal.returns-then-not-has_outgoing-clause-sends
+returns-then-not-has_outgoing-clause-sends c =
     let k = c.self.inside in
     let old : Machine = machine_of k in
     let none : old.unwritten ≡ [] = none_wait k.line_end.unwritten (sym c.is_written.ensures ∙ c.if-not-is_written.false) in
-    let e = c.in_default.ensures in
-    subst (λ (v : Machine). MachineSends v (record old { core = c.outgoing.follows.lender-at-none }) false) c.self.view_is
-    (send_none old c.outgoing.follows.lender-at-none (c.outgoing.follows.holds-at-none ∙ e.still) e.frame e.idle none)
+    subst (λ (v : Machine). MachineSends v v false) c.self.view_is
+    (send_none old old.core refl (c.has_outgoing.ensures.none c.if-not-has_outgoing.true) (c.has_outgoing.ensures.idle c.if-not-has_outgoing.true) none)
 
-pub returns-clause-sends : goal.returns-clause-sends
-returns-clause-sends c =
-    let k = c.self.inside in
-    let old : Machine = machine_of k in
-    let none : old.unwritten ≡ [] = none_wait k.line_end.unwritten (sym c.is_written.ensures ∙ c.if-not-is_written.false) in
-    let e = c.in-Some.ensures in
-    let out = c.put.new.self.unwritten in
-    let lent = c.outgoing.follows.lender-at-none in
-    let new : LineEnd → Machine = λ l. at_end (record old { core = lent }) l in
-    subst (λ (v : Machine). MachineSends v (new c.put.new.self) c.in-Some.outgoing.fresh) c.self.view_is
-    (subst (λ (l : LineEnd). MachineSends old (new l) c.in-Some.outgoing.fresh) (sym c.put.ensures.rest)
-    (subst (λ (v : Core). MachineSends old (record old { core = v; unwritten = out }) c.in-Some.outgoing.fresh) (sym c.outgoing.follows.holds-at-none)
-    (send_goes old (outgoing_of c.in-Some.outgoing) out none e.short e.frame e.past e.holds c.put.ensures.some c.put.ensures.octets)))
+pub send_next-requires : goal.send_next-requires
+send_next-requires c = subst (λ (v : Machine). v.unwritten ≡ []) c.self.view_is (none_wait c.self.inside.line_end.unwritten (sym c.is_written.ensures ∙ c.if-not-is_written.false))

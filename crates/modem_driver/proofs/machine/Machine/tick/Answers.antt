@@ -6,7 +6,7 @@ use Rattle.modem_history.specs.Acts.{Tick}
 use Rattle.modem_driver.specs.declared.machine.course.Course.{Course}
 use Rattle.modem_core.specs.Doing.{acts_since, stop_in}
 use Rattle.modem_driver.specs.Endings.{course_after}
-use Rattle.modem_core.specs.Stops.{is_answered}
+use Rattle.modem_queues.specs.Stops.{is_answered}
 use Rattle.modem_driver.specs.SessionStates.{Machine, MachineTicks}
 use Rattle.modem_driver.specs.WaitingTicks.{CountsTick}
 use Rattle.modem_core.proofs.cores.DoneCalls.{keeps_since}

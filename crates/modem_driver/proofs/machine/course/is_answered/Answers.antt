@@ -2,8 +2,8 @@
 use Rattle.std.proofs.Common.{ap, sym, ◌∙◌, map}
 use Rattle.std.specs.Prelude.{Option}
 use Rattle.modem_history.specs.Acts.{act_of}
-use Rattle.modem_core.specs.declared.asker.Asker.{Asker}
-use Rattle.modem_core.specs.Stops.{is_answered}
+use Rattle.modem_queues.specs.declared.asker.Asker.{Asker}
+use Rattle.modem_queues.specs.Stops.{is_answered}
 use Rattle.modem_driver.proofs.sessions.polls.StopProgress.{any_of}
 use Rattle.modem_driver.proofs.machine.course.is_answered.Goals as goal
 

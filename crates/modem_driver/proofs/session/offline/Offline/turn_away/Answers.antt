@@ -2,7 +2,8 @@
 use Rattle.std.proofs.Common.{sym, subst, List}
 use Rattle.modem_desk.specs.declared.request.Outcome.{Outcome}
 use Rattle.modem_desk.specs.declared.request.Urc.{Urc}
-use Rattle.modem_core.specs.Placing.{Placed, caller_of, place_of, IsRingOf, IsCaller, IsListenerOf, IsHeard, caller_rings, listener_rings}
+use Rattle.modem_core.specs.Placing.{Placed, caller_of, IsRingOf, IsCaller, IsListenerOf, IsHeard, caller_rings, listener_rings}
+use Rattle.modem_queues.specs.LineQueues.{place_of}
 use Rattle.modem_driver.specs.TurningAway.{Offline, PassesAway}
 use Rattle.modem_driver.proofs.sessions.polls.OfflinePasses.{passes}
 use Rattle.modem_driver.proofs.session.offline.Offline.turn_away.Goals as goal

@@ -1,9 +1,0 @@
--- The first is counted no more.
-use Rattle.std.proofs.Common.{◌∙◌}
-use Rattle.modem_core.proofs.sessions.steps.LineCounts.{counted_rest}
-use Rattle.modem_core.proofs.line_queue.LineQueue.pop_front.Goals as goal
-
-pub invariant_of-self-2 : goal.invariant_of-self-2
-invariant_of-self-2 c =
-    counted_rest c.self.inside.channels c.self.inside.kinds c.lower.new.counts c.lower-2.new.counts c.self.inside.lines.items c.pop_front.new.self.items c.in_ok-line.line c.from.result c.place.result c.self.invariant
-    c.in_ok-line.ensures.items (c.from.ensures ∙ c.number.ensures.number) c.place.ensures.place c.lower.ensures c.lower-2.ensures

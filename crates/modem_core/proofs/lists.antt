@@ -1,4 +1,0 @@
--- Lemmas on lists.
-pub mod FirstLeftOut
-pub mod FirstPlaces
-pub mod CommandPlaces

@@ -1,0 +1,5 @@
+-- Lemmas on lists.
+pub mod FirstLeftOut
+pub mod FirstPlaces
+pub mod CommandPlaces
+pub mod LineCounts
