@@ -4,6 +4,7 @@ pub mod RowFacts
 pub mod ShortNumbers
 pub mod Commas
 pub mod SameKinds
+pub mod FinalLines
 pub mod NoRules
 pub mod lines
 pub mod windows

@@ -1,14 +1,14 @@
 -- With no rules of one's own the codes are the standard's.
-use Rattle.std.specs.Prelude.{◌≡◌, ℕ, Bool, true, List, Option, Some, None, is_some, refl}
+use Rattle.std.specs.Prelude.{◌≡◌, ℕ, Bool, true, false, ◌||◌, List, Option, Some, None, refl}
 use Rattle.std.specs.Option.{option_or}
 use Rattle.std.proofs.Common.{ap, ◌∙◌, subst}
-use Rattle.std.proofs.Math.Bool.{Bool-set}
+use Rattle.std.proofs.Math.Bool.{Bool-set, or-false}
 use mathlib.Core.Path.{fun_ext}
 use Rattle.at_text.specs.declared.unsolicited.UrcKind.{UrcKind}
-use Rattle.at_text.specs.Finals.{final_of, is_final}
+use Rattle.at_text.specs.Finals.{is_final}
 use Rattle.at_text.specs.Unsolicited.{unsolicited_of}
 use Rattle.at_text.specs.Dialects.{Dialect, standard, is_called}
-use Rattle.at_text.specs.Rules.{no_rules, dialect_of, final_by, kind_by}
+use Rattle.at_text.specs.Rules.{no_rules, dialect_of, kind_by}
 
 or_none : {T : Type 0} (o : Option T) → option_or o None ≡ o
 or_none None = refl
@@ -31,7 +31,7 @@ same_kinds finals kinds other c e =
 -- a dialect without rules of its own is the standard's
 pub no_rules_standard : dialect_of no_rules ≡ standard
 no_rules_standard =
-    let finals : (λ (line : List ℕ). is_some (final_by no_rules line)) ≡ is_final = fun_ext (λ line. ap is_some (or_none (final_of line))) in
+    let finals : (λ (line : List ℕ). is_final line || false) ≡ is_final = fun_ext (λ line. or-false (is_final line)) in
     let kinds : kind_by no_rules ≡ unsolicited_of = fun_ext (λ line. or_none (unsolicited_of line)) in
     ap (λ (f : List ℕ → Bool). made f (kind_by no_rules) (dialect_of no_rules).never_other) finals
     ∙ same_kinds is_final (kind_by no_rules) unsolicited_of (dialect_of no_rules).never_other kinds standard.never_other

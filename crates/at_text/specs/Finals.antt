@@ -1,5 +1,5 @@
 -- Final codes (V.250, 5.7.1; 27.007, 9.2).
-use Rattle.std.specs.Prelude.{ℕ, nat_eq, Bool, List, drop, Option, Some, None, is_some, if◌then◌else◌, codes}
+use Rattle.std.specs.Prelude.{◌||◌, ℕ, nat_eq, Bool, List, drop, Option, Some, None, if◌then◌else◌, codes}
 use Rattle.std.specs.List.{starts_with}
 use Rattle.std.specs.Str.{bytes_eq}
 use Rattle.at_text.specs.declared.finals.Final.{Final}
@@ -16,4 +16,4 @@ final_of line =
 
 -- a line is a final code, the last of an answer
 abbrev pub is_final : List ℕ → Bool
-is_final line = is_some (final_of line)
+is_final line = bytes_eq line (codes "OK") || (bytes_eq line (codes "ERROR") || starts_with nat_eq line (codes "+CME ERROR:"))

@@ -1,6 +1,6 @@
 -- Rules of lines, as data, and the dialect that they make beside the standard's.
-use Rattle.std.specs.Prelude.{◌≡◌, refl, ℕ, nat_eq, Bool, true, ◌&&◌, ◌==◌, List, [], ◌∷◌, ◌++◌, length, drop, Option, Some, None, is_some, not, option_map}
-use Rattle.std.specs.List.{starts_with, find, position, position_or_len, slice_get}
+use Rattle.std.specs.Prelude.{◌≡◌, refl, ℕ, nat_eq, Bool, true, ◌&&◌, ◌||◌, ◌==◌, List, [], ◌∷◌, ◌++◌, length, drop, Option, Some, None, is_some, not, option_map}
+use Rattle.std.specs.List.{starts_with, list_any, find, position, position_or_len, slice_get}
 use Rattle.std.specs.Option.{option_or, option_map_or}
 use Rattle.std.specs.Str.{bytes_eq}
 use Rattle.at_text.specs.declared.finals.Final.{Final}
@@ -12,7 +12,7 @@ use Rattle.at_text.specs.declared.rules.Form.TheVariants.{Line, Prefix, Quoted, 
 use Rattle.at_text.specs.declared.rules.Pattern.{Pattern}
 use Rattle.at_text.specs.declared.rules.Urc.{Urc}
 use Rattle.at_text.specs.Octets.{is_digit, is_quote, skip_blanks, begins, after_comma}
-use Rattle.at_text.specs.Finals.{final_of}
+use Rattle.at_text.specs.Finals.{final_of, is_final}
 use Rattle.at_text.specs.Unsolicited.{unsolicited_of, is_without_second}
 use Rattle.at_text.specs.Dialects.{Dialect, is_called, standard}
 
@@ -79,7 +79,7 @@ kind_by_called rules line =
 -- the dialect of the standard and these rules
 abbrev pub dialect_of : Rules → Dialect
 dialect_of rules = record {
-  is_final = λ line. is_some (final_by rules line);
+  is_final = λ line. is_final line || list_any (λ p. takes p line) rules.finals;
   kind_of = kind_by rules;
   never_other = kind_by_called rules;
 }

@@ -153,6 +153,7 @@ impl Dialect {
     }
 
     /// Whether a line is a final code, the last of an answer.
+    #[tactic(auto, using(crate::proofs::dialects::Choosing::some_final))]
     pub fn is_final(&self, line: &[u8]) -> bool
         ensures { result ≡ (dialect_of self.now).is_final line.now }
     {

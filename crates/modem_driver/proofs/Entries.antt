@@ -14,6 +14,7 @@ use Rattle.at_text.specs.Lines.{lines}
 use Rattle.at_text.specs.Reading.{HasRead}
 use Rattle.at_text.specs.declared.finals.Final.{Final}
 use Rattle.at_text.specs.declared.finals.Final.TheVariants.{Good, Error, Cme, Named}
+use Rattle.at_text.proofs.FinalLines.{final_is}
 use Rattle.at_text.proofs.lines.KeptOctets.{has_read-push}
 use Rattle.serial_line.specs.Counts.{one_more, counted_if_none}
 use Rattle.serial_line.specs.LineViews.{after_fault, after_read, after_write}
@@ -273,23 +274,23 @@ over old new was now octet line says k means sound final made first h turns few 
 comes_by : (old new : LineView) (was now : Entry) (octet : ℕ) (line : List ℕ) (code : Option Final) → final_of line ≡ code
     → OneCame old new was now octet (line ∷ []) → (made : ℕ) (first : LineView) → IsUnderWay made first old was → Comes made first new now code
 comes_by old new was now octet line None e k made first h =
-    on_from old new was now octet (line ∷ []) k (ap (λ (o : Option Final). is_some o || false) e) made first h
+    on_from old new was now octet (line ∷ []) k (ap (λ (b : Bool). b || false) (sym (final_is line) ∙ ap is_some e)) made first h
 comes_by old new was now octet line (Some Good) e k made first h =
     over old new was now octet line Entered k
     (λ read q turns f. record { whole = refl; ok = subst (EndsWithFinal read) ((bytes_eq-Decides line (codes "OK")).0 (sym (good_is line) ∙ ap is_good e)) q })
-    (λ f q. q) (ap is_some e) made first h
+    (λ f q. q) (sym (final_is line) ∙ ap is_some e) made first h
 comes_by old new was now octet line (Some Error) e k made first h =
     over old new was now octet line Refused k
     (λ read q turns f. record { whole = refl; line = line; other = λ ok. true≢false (ap (λ (l : List ℕ). is_good (final_of l)) (sym ok) ∙ ap is_good e); ended = q })
-    (λ f q. q) (ap is_some e) made first h
+    (λ f q. q) (sym (final_is line) ∙ ap is_some e) made first h
 comes_by old new was now octet line (Some (Cme n)) e k made first h =
     over old new was now octet line Refused k
     (λ read q turns f. record { whole = refl; line = line; other = λ ok. true≢false (ap (λ (l : List ℕ). is_good (final_of l)) (sym ok) ∙ ap is_good e); ended = q })
-    (λ f q. q) (ap is_some e) made first h
+    (λ f q. q) (sym (final_is line) ∙ ap is_some e) made first h
 comes_by old new was now octet line (Some (Named n)) e k made first h =
     over old new was now octet line Refused k
     (λ read q turns f. record { whole = refl; line = line; other = λ ok. true≢false (ap (λ (l : List ℕ). is_good (final_of l)) (sym ok) ∙ ap is_good e); ended = q })
-    (λ f q. q) (ap is_some e) made first h
+    (λ f q. q) (sym (final_is line) ∙ ap is_some e) made first h
 
 -- an octet that ends a line ends the entry where that is a final code
 pub one_line : (old new : LineView) (was now : Entry) (octet : ℕ) (line : List ℕ) → OneCame old new was now octet (line ∷ []) → EntryGoesOn old new was now (final_of line)

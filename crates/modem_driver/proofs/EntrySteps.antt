@@ -9,6 +9,7 @@ use Rattle.at_text.specs.Finals.{is_final, final_of}
 use Rattle.at_text.specs.Lines.{lines}
 use Rattle.at_text.specs.Reading.{HasRead}
 use Rattle.at_text.specs.declared.finals.Final.{Final}
+use Rattle.at_text.proofs.FinalLines.{final_is}
 use Rattle.at_text.proofs.lines.KeptOctets.{has_read-push}
 use Rattle.serial_line.specs.LineViews.{after_read, after_write}
 use Rattle.modem_history.specs.Sessions.{LineView}
@@ -107,7 +108,7 @@ over first old new was now octet line code k is h = record {
     octets_are = refl;
     ended = k.past h.read h.kept;
     none_before = h.none;
-    final = ap is_some is;
+    final = sym (final_is line) ∙ ap is_some is;
   };
   code_is = is;
 }
@@ -115,7 +116,7 @@ over first old new was now octet line code k is h = record {
 line_by_code : (first old new : LineView) (was now : EntryView) (octet : ℕ) (line : List ℕ) (code : Option Final) → final_of line ≡ code
     → Comes old new was now octet (line ∷ []) → IsAsked first old was → StepsTo first new now (step_by code)
 line_by_code first old new was now octet line None is k h =
-    on_from first old new was now octet (line ∷ []) k (ap (λ (o : Option Final). is_some o || false) is) h
+    on_from first old new was now octet (line ∷ []) k (ap (λ (b : Bool). b || false) (sym (final_is line) ∙ ap is_some is)) h
 line_by_code first old new was now octet line (Some code) is k h = over first old new was now octet line code k is h
 
 given_by : (first old new : LineView) (was now : EntryView) (octet : ℕ) (given : List (List ℕ)) → (given ≡ []) ⊎ ((line : List ℕ) × (given ≡ line ∷ []))

@@ -2,15 +2,16 @@
 use Rattle.std.specs.Prelude.{◌≡◌, ℕ, suc, ◌+◌, ◌<◌, nat_lt, Bool, true, false, ◌||◌, List, [], ◌∷◌, length, Option, Some, None, option_map, is_some, refl, if◌then◌else◌}
 use Rattle.std.specs.List.{list_any, find, position, position_or_len}
 use Rattle.std.specs.Option.{option_or}
-use Rattle.std.proofs.Common.{arith, ◌∙◌, ap}
+use Rattle.std.proofs.Common.{arith, sym, ◌∙◌, ap}
 use Rattle.std.proofs.lemmas.Bool.{ltb-true, lt-ltb}
 use Rattle.std.proofs.lemmas.Bool.Decides.{same_from_decides, Decides-ltb}
 use Rattle.at_text.specs.declared.finals.Final.TheVariants.{Named}
 use Rattle.at_text.specs.declared.unsolicited.UrcKind.TheVariants.{Own}
-use Rattle.at_text.specs.Finals.{final_of}
+use Rattle.at_text.specs.Finals.{final_of, is_final}
 use Rattle.at_text.specs.Unsolicited.{unsolicited_of}
 use Rattle.at_text.specs.Rules.{Rules, takes, final_by, kind_by}
 use Rattle.at_text.specs.StandardRules.{standard_finals, standard_urcs}
+use Rattle.at_text.proofs.FinalLines.{final_is}
 use Rattle.at_text.proofs.dialects.Standard.{final_rules, kind_rules}
 
 some_or : {T : Type 0} (a b : Option T) → is_some (option_or a b) ≡ (is_some a || is_some b)
@@ -54,18 +55,19 @@ some_placed test f xs = some_if f (nat_lt (position_or_len test xs) (length xs))
 -- ## Which lines end an answer, and which are unsolicited
 
 -- a line is a final code of the standard just where one of its rules takes it
-pub standard_final : (line : List ℕ) → is_some (final_of line) ≡ list_any (λ r. takes r.0 line) standard_finals
-standard_final line = ap is_some (final_rules line) ∙ some_found (λ r. takes r.0 line) (λ r. r.1 line) standard_finals
+pub standard_final : (line : List ℕ) → is_final line ≡ list_any (λ r. takes r.0 line) standard_finals
+standard_final line = sym (final_is line) ∙ ap is_some (final_rules line) ∙ some_found (λ r. takes r.0 line) (λ r. r.1 line) standard_finals
 
 -- and unsolicited by the standard just where one of those takes it
 pub standard_urc : (line : List ℕ) → is_some (unsolicited_of line) ≡ list_any (λ r. takes r.0 line) standard_urcs
 standard_urc line = ap is_some (kind_rules line) ∙ some_found (λ r. takes r.0 line) (λ r. r.1) standard_urcs
 
 -- a line ends an answer by the standard, or by a rule of one's own
-pub some_final : (rules : Rules) (line : List ℕ) → is_some (final_by rules line) ≡ (is_some (final_of line) || list_any (λ p. takes p line) rules.finals)
+pub some_final : (rules : Rules) (line : List ℕ) → is_some (final_by rules line) ≡ (is_final line || list_any (λ p. takes p line) rules.finals)
 some_final rules line =
     some_or (final_of line) (option_map Named (position (λ p. takes p line) rules.finals))
     ∙ ap (λ b. is_some (final_of line) || b) (some_placed (λ p. takes p line) Named rules.finals)
+    ∙ ap (λ b. b || list_any (λ p. takes p line) rules.finals) (final_is line)
 
 -- and is unsolicited by the standard, or by a rule of one's own
 pub some_urc : (rules : Rules) (line : List ℕ) → is_some (kind_by rules line) ≡ (is_some (unsolicited_of line) || list_any (λ u. takes u.pattern line) rules.urcs)

@@ -10,24 +10,23 @@ use Rattle.at_text.specs.declared.dialect_error.DialectError.{DialectError}
 use Rattle.at_text.specs.declared.dialect_error.DialectError.TheVariants.{TooManyRules, NoText, TextTooLong, LineEnd, BadName, Command, Ambiguous, NoMemory}
 use Rattle.at_text.specs.declared.rules.Pattern.{Pattern}
 use Rattle.at_text.specs.declared.rules.Urc.{Urc}
-use Rattle.at_text.specs.Finals.{final_of}
+use Rattle.at_text.specs.Finals.{is_final}
 use Rattle.at_text.specs.Unsolicited.{unsolicited_of}
 use Rattle.at_text.specs.Lines.{is_line_end}
 use Rattle.at_text.specs.Rules.{Rules, Rule, FinalRule, UrcRule, pattern, takes, with_rule, final_by, kind_by, dialect_of, urc, kind_named}
 use Rattle.at_text.specs.Refusals.{Refuses, IsRefused, IsSound, IsAmbiguous, HasNoReasonBelow, is_short, is_well_named, count, text_of, pattern_of}
 use Rattle.at_text.specs.Deciding.{can_meet, can_take_command, can_be_ambiguous, refusal_of}
 use Rattle.at_text.specs.StandardRules.{standard_finals, standard_urcs}
-use Rattle.at_text.proofs.dialects.Choosing.{standard_final, standard_urc, some_final, some_urc}
+use Rattle.at_text.proofs.dialects.Choosing.{standard_final, standard_urc, some_urc}
 use Rattle.at_text.proofs.dialects.Sorts.{met_any, any_met, command_met, command_shown}
 use Rattle.at_text.proofs.dialects.Sound.{any_push, sound_with}
 
 -- ## Lines of the new rule and of one of the other sort
 
-more_ends : (rules : Rules) (p : Pattern) (line : List ℕ) → takes p line ≡ true → is_some (final_by (record rules { finals = rules.finals ++ p ∷ [] }) line) ≡ true
+more_ends : (rules : Rules) (p : Pattern) (line : List ℕ) → takes p line ≡ true → (dialect_of (record rules { finals = rules.finals ++ p ∷ [] })).is_final line ≡ true
 more_ends rules p line h =
-    some_final (record rules { finals = rules.finals ++ p ∷ [] }) line
-    ∙ ap (λ b. is_some (final_of line) || b) (any_push (λ q. takes q line) rules.finals p)
-    ∙ or_right (is_some (final_of line)) (list_any (λ q. takes q line) rules.finals || (takes p line || false))
+    ap (λ b. is_final line || b) (any_push (λ q. takes q line) rules.finals p)
+    ∙ or_right (is_final line) (list_any (λ q. takes q line) rules.finals || (takes p line || false))
     (or_right (list_any (λ q. takes q line) rules.finals) (takes p line || false) (or_left (takes p line) false h))
 
 more_unasked : (rules : Rules) (u : Urc) (line : List ℕ) → takes u.pattern line ≡ true → is_some (kind_by (record rules { urcs = rules.urcs ++ u ∷ [] }) line) ≡ true
@@ -44,15 +43,11 @@ or_last false true b h = inl refl
 or_last false false true h = inr refl
 or_last false false false h = inl h
 
-ends_last : (rules : Rules) (p : Pattern) (line : List ℕ) → is_some (final_by (record rules { finals = rules.finals ++ p ∷ [] }) line) ≡ true
-    → (is_some (final_by rules line) ≡ true) ⊎ (takes p line ≡ true)
+ends_last : (rules : Rules) (p : Pattern) (line : List ℕ) → (dialect_of (record rules { finals = rules.finals ++ p ∷ [] })).is_final line ≡ true
+    → ((dialect_of rules).is_final line ≡ true) ⊎ (takes p line ≡ true)
 ends_last rules p line h =
-    let more = record rules { finals = rules.finals ++ p ∷ [] } in
-    elim (or_last (is_some (final_of line)) (list_any (λ q. takes q line) rules.finals) (takes p line)
-    (ap (λ b. is_some (final_of line) || b) (sym (any_push (λ q. takes q line) rules.finals p)) ∙ sym (some_final more line) ∙ h)) [
-      | inl a ↦ inl (some_final rules line ∙ a)
-      | inr b ↦ inr b
-    ]
+    or_last (is_final line) (list_any (λ q. takes q line) rules.finals) (takes p line)
+    (ap (λ b. is_final line || b) (sym (any_push (λ q. takes q line) rules.finals p)) ∙ h)
 
 unasked_last : (rules : Rules) (u : Urc) (line : List ℕ) → is_some (kind_by (record rules { urcs = rules.urcs ++ u ∷ [] }) line) ≡ true
     → (is_some (kind_by rules line) ≡ true) ⊎ (takes u.pattern line ≡ true)
@@ -84,7 +79,7 @@ ambiguous_shown rules (UrcRule form text name) sound short both =
     let line = both.line in
     elim (unasked_last rules (urc (kind_named rules name) name p) line both.unasked) [
       | inl old ↦ absurd (sound.clear (record { line = line; ends = both.ends; unasked = old }))
-      | inr new ↦ elim (or_cases (is_some (final_of line)) (list_any (λ q. takes q line) rules.finals) (sym (some_final rules line) ∙ both.ends)) [
+      | inr new ↦ elim (or_cases (is_final line) (list_any (λ q. takes q line) rules.finals) both.ends) [
         | inl a ↦ or_left (list_any (λ r. can_meet p r.0) standard_finals) (list_any (λ q. can_meet p q) rules.finals)
             (any_met (λ r. r.0) p short standard_finals refl line new (sym (standard_final line) ∙ a))
         | inr b ↦ or_right (list_any (λ r. can_meet p r.0) standard_finals) (list_any (λ q. can_meet p q) rules.finals)
@@ -113,12 +108,12 @@ ambiguous_met rules (UrcRule form text name) h =
     elim (or_cases (list_any (λ r. can_meet p r.0) standard_finals) (list_any (λ q. can_meet p q) rules.finals) h) [
       | inl a ↦ let m = met_any (λ r. r.0) p standard_finals a in record {
         line = m.line;
-        ends = some_final rules m.line ∙ or_left (is_some (final_of m.line)) (list_any (λ q. takes q m.line) rules.finals) (standard_final m.line ∙ m.any);
+        ends = or_left (is_final m.line) (list_any (λ q. takes q m.line) rules.finals) (standard_final m.line ∙ m.any);
         unasked = more_unasked rules u m.line m.one;
       }
       | inr b ↦ let m = met_any (λ q. q) p rules.finals b in record {
         line = m.line;
-        ends = some_final rules m.line ∙ or_right (is_some (final_of m.line)) (list_any (λ q. takes q m.line) rules.finals) m.any;
+        ends = or_right (is_final m.line) (list_any (λ q. takes q m.line) rules.finals) m.any;
         unasked = more_unasked rules u m.line m.one;
       }
     ]

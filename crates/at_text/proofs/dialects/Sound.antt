@@ -9,9 +9,9 @@ use Rattle.at_text.specs.declared.dialect_error.DialectError.TheVariants.{TooMan
 use Rattle.at_text.specs.declared.rules.Pattern.{Pattern}
 use Rattle.at_text.specs.declared.rules.Urc.{Urc}
 use Rattle.at_text.specs.Commands.{has_at}
-use Rattle.at_text.specs.Finals.{final_of}
+use Rattle.at_text.specs.Finals.{is_final}
 use Rattle.at_text.specs.Unsolicited.{unsolicited_of}
-use Rattle.at_text.specs.Rules.{Rules, Rule, FinalRule, UrcRule, pattern, takes, with_rule, final_by, kind_by, no_rules, urc, kind_named, name_at}
+use Rattle.at_text.specs.Rules.{Rules, Rule, FinalRule, UrcRule, pattern, takes, with_rule, final_by, kind_by, dialect_of, no_rules, urc, kind_named, name_at}
 use Rattle.at_text.specs.Refusals.{IsSound, HasNoReasonBelow, is_short, is_name, count}
 use Rattle.at_text.specs.Deciding.{can_meet}
 use Rattle.at_text.specs.StandardRules.{standard_finals, standard_urcs}
@@ -43,11 +43,11 @@ pub record Checks (rules : Rules) : Type 0 where
   pub command_finals : list_any (λ c. list_any (λ p. can_meet c p) rules.finals) commands ≡ false
   pub command_urcs : list_any (λ c. list_any (λ u. can_meet c u.pattern) rules.urcs) commands ≡ false
 
-ends_by : (rules : Rules) (line : List ℕ) → is_some (final_by rules line) ≡ true
+ends_by : (rules : Rules) (line : List ℕ) → (dialect_of rules).is_final line ≡ true
     → (list_any (λ r. takes r.0 line) standard_finals ≡ true) ⊎ (list_any (λ p. takes p line) rules.finals ≡ true)
 ends_by rules line h =
     or_cases (list_any (λ r. takes r.0 line) standard_finals) (list_any (λ p. takes p line) rules.finals)
-    (ap (λ b. b || list_any (λ p. takes p line) rules.finals) (sym (standard_final line)) ∙ sym (some_final rules line) ∙ h)
+    (ap (λ b. b || list_any (λ p. takes p line) rules.finals) (sym (standard_final line)) ∙ h)
 
 unasked_by : (rules : Rules) (line : List ℕ) → is_some (kind_by rules line) ≡ true
     → (list_any (λ r. takes r.0 line) standard_urcs ≡ true) ⊎ (list_any (λ u. takes u.pattern line) rules.urcs ≡ true)
@@ -55,7 +55,7 @@ unasked_by rules line h =
     or_cases (list_any (λ r. takes r.0 line) standard_urcs) (list_any (λ u. takes u.pattern line) rules.urcs)
     (ap (λ b. b || list_any (λ u. takes u.pattern line) rules.urcs) (sym (standard_urc line)) ∙ sym (some_urc rules line) ∙ h)
 
-not_both : (rules : Rules) → Checks rules → (line : List ℕ) → is_some (final_by rules line) ≡ true → is_some (kind_by rules line) ≡ true → ⊥
+not_both : (rules : Rules) → Checks rules → (line : List ℕ) → (dialect_of rules).is_final line ≡ true → is_some (kind_by rules line) ≡ true → ⊥
 unfolding can_meet
 not_both rules k line ends unasked =
     elim (ends_by rules line ends) [
@@ -69,7 +69,7 @@ not_both rules k line ends unasked =
       ]
     ]
 
-no_final_at : (rules : Rules) → Checks rules → (line : List ℕ) → has_at line ≡ true → is_some (final_by rules line) ≡ true → ⊥
+no_final_at : (rules : Rules) → Checks rules → (line : List ℕ) → has_at line ≡ true → (dialect_of rules).is_final line ≡ true → ⊥
 unfolding can_meet
 no_final_at rules k line at ends =
     let begun : list_any (λ p. takes p line) commands ≡ true = sym (has_at_taken line) ∙ at in
@@ -96,7 +96,7 @@ sound_by rules k = record {
   names = k.names;
   named = k.named;
   clear = λ a. not_both rules k a.line a.ends a.unasked;
-  no_final = λ line at. none_from (final_by rules line) (false_from_ne_true (is_some (final_by rules line)) (no_final_at rules k line at));
+  no_final = λ line at. none_from (final_by rules line) (some_final rules line ∙ false_from_ne_true ((dialect_of rules).is_final line) (no_final_at rules k line at));
   no_urc = λ line at. none_from (kind_by rules line) (false_from_ne_true (is_some (kind_by rules line)) (no_urc_at rules k line at));
 }
 
@@ -134,10 +134,10 @@ no_more_final : (rules : Rules) (p : Pattern) (line : List ℕ) → final_by rul
     → final_by (record rules { finals = rules.finals ++ p ∷ [] }) line ≡ None
 no_more_final rules p line before e =
     let more = record rules { finals = rules.finals ++ p ∷ [] } in
-    let old : (is_some (final_of line) || list_any (λ q. takes q line) rules.finals) ≡ false = sym (some_final rules line) ∙ none_not (final_by rules line) before in
+    let old : (is_final line || list_any (λ q. takes q line) rules.finals) ≡ false = sym (some_final rules line) ∙ none_not (final_by rules line) before in
     none_from (final_by more line)
-    (some_final more line ∙ ap (λ b. is_some (final_of line) || b) (any_push (λ q. takes q line) rules.finals p)
-    ∙ or_false_more (is_some (final_of line)) (list_any (λ q. takes q line) rules.finals) (takes p line) old e)
+    (some_final more line ∙ ap (λ b. is_final line || b) (any_push (λ q. takes q line) rules.finals p)
+    ∙ or_false_more (is_final line) (list_any (λ q. takes q line) rules.finals) (takes p line) old e)
 
 no_more_urc : (rules : Rules) (u : Urc) (line : List ℕ) → kind_by rules line ≡ None → takes u.pattern line ≡ false
     → kind_by (record rules { urcs = rules.urcs ++ u ∷ [] }) line ≡ None
