@@ -78,6 +78,22 @@ fn windows<R: Abort + Print>(rt: &R, alloc: Global, line: &CommandLine) {
     end(rt);
 }
 
+// The same of an answer whose command the caller lends.
+fn answers<R: Abort + Print>(rt: &R, alloc: Global) {
+    begin(
+        rt,
+        "UnderWay::new, UnderWay::begin, UnderWay::mark, UnderWay::go_back, UnderWay::drop_command, UnderWay::idle",
+    );
+    let mut under_way = UnderWay::new(alloc);
+    under_way.begin();
+    let mark = under_way.mark();
+    under_way.go_back(mark);
+    assert!(rt; !under_way.idle());
+    under_way.drop_command();
+    assert!(rt; under_way.idle());
+    end(rt);
+}
+
 #[test]
 fn calls_that_take_no_memory(rt: HostRuntime) -> Result<(), Fail> {
     let alloc = rt.alloc();
@@ -87,5 +103,6 @@ fn calls_that_take_no_memory(rt: HostRuntime) -> Result<(), Fail> {
     runs(&rt, long.as_slice());
     lines(&rt, long.as_slice());
     windows(&rt, alloc, &line);
+    answers(&rt, alloc);
     Ok(())
 }
