@@ -2,11 +2,9 @@
 use Rattle.std.specs.Prelude.{◌≡◌, ◌<◌, ℕ, ◌+◌, IfSome, nat_le, Bool, List, length, Option, None, Some, is_none, slice_set, if◌then◌else◌}
 use Rattle.std.specs.List.{list_any, sum_by}
 use Rattle.at_text.specs.UnderWay.{unanswered}
-use Rattle.mux_station.specs.Acts as station
-use Rattle.mux_station.specs.Stations.{Station, Channel, channel_at}
-use Rattle.mux_station.specs.Fitting as station_fits
-use Rattle.mux_station.specs.Giving.{next_sender, station_after, SendsNext}
-use Rattle.mux_station.specs.GivenFrames.{Outgoing}
+use Rattle.mux_station.specs.Stations.{Channel, channel_at}
+use Rattle.mux_station.specs.Giving.{next_sender, station_after, turn_at}
+use Rattle.mux_station.specs.GivenFrames.{Outgoing, Turn}
 use Rattle.modem_history.specs.Acts.{Act}
 use Rattle.modem_history.specs.Calls.{Setting}
 use Rattle.modem_history.specs.Requests.{commands_on}
@@ -45,6 +43,10 @@ begun_next v = begun_on v (next_sender v.station v.station.queue)
 abbrev pub gone_on : Core → Core
 gone_on v = if v.lost then v else record (begun_next v) { station = station_after v.station v.station.queue }
 
+-- whose turn it is to go out: nobody's after a loss
+abbrev pub turn_in : Core → Option Turn
+turn_in v = if v.lost then None else turn_at v.station v.station.queue
+
 -- what goes out is what every history that the core fits says
 unfoldable pub GoesOut : Core → Option Outgoing → Type 0
 GoesOut v o = (s : Setting) (past : List Act) → StandsIn s v past → o ≡ next_out s past
@@ -52,12 +54,6 @@ GoesOut v o = (s : Setting) (past : List Act) → StandsIn s v past → o ≡ ne
 -- after the next frame has gone out the core fits every history with it, which goes on lawful and complete
 unfoldable pub CoreGoesOn : Core → Type 0
 CoreGoesOn v = (s : Setting) (past : List Act) → StandsIn s v past → StandsIn s (gone_on v) (after_out s past)
-
--- the connection whose data is next may send it, by each past that the station fits
-unfoldable pub SendsTruly : Station → Type 0
-SendsTruly v =
-    (d : ℕ) (seen : List station.Act) → next_sender v v.queue ≡ Some d → station_fits.StationFits v seen
-    → SendsNext v.role d seen
 
 -- what may still go out: the frames in the control queue, and the octets in the send rings
 abbrev pub left_to_go : Core → ℕ

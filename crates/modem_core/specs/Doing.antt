@@ -16,6 +16,7 @@ use Rattle.modem_core.specs.Holding.{KeepsHeld}
 use Rattle.modem_core.specs.Receiving.{cut_to}
 use Rattle.modem_core.specs.TakenActs.{taken_acts}
 use Rattle.modem_core.specs.Telling.{told_to, Telling}
+use Rattle.modem_core.specs.WaitingLists.{WaitingLists, Keeps}
 use Rattle.modem_queues.specs.declared.asker.Asker.{Asker}
 
 -- ## The acts
@@ -81,6 +82,15 @@ pub record Takes (old new : Core) (was now : List Outcome) (q : Request) : Type 
   pub holds : KeepsHeld old new (Took q) acts
   pub adds : Adds was now (outcomes_told acts)
   pub unheard : lines_heard acts ≡ []
+
+-- data of an open connection: the core handles it by some acts, which end no Stop, and what they tell and announce waits behind
+-- what waited
+pub record GetsData (old new : Core) (was now : WaitingLists) (a : Act) : Type 0 where
+  pub acts : List Act
+  pub past : Handles old new a acts
+  pub holds : KeepsHeld old new a acts
+  pub keeps : Keeps was now acts
+  pub answered_is : is_answered (stop_in old) acts ≡ false
 
 -- ## While requests are told
 

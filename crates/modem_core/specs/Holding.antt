@@ -5,6 +5,7 @@ use Rattle.mux_station.specs.Opening.{is_open}
 use Rattle.mux_station.specs.States.{is_opened}
 use Rattle.mux_station.specs.Tables.{by_flow, msc_frame, ready, held_up}
 use Rattle.mux_station.specs.Stations.{channel_at}
+use Rattle.modem_history.specs.Limits.{holding_lines, freeing_lines}
 use Rattle.modem_history.specs.Acts.{Act, Sent, Held, Freed, wire, after}
 use Rattle.modem_history.specs.Holding.{last_held, is_held}
 use Rattle.modem_history.specs.Calls.{Setting, seen, is_lost, all_have_room}
@@ -16,8 +17,8 @@ use Rattle.modem_core.specs.Cores.{Core, Fits, IsRun, IsSettingOf, MayCome, Goes
 abbrev pub flow_due : (opened : Bool) → (held : Bool) → (lines : ℕ) → Option Bool
 flow_due opened held lines =
     if not opened then None
-    else if not held && nat_le 256 lines then Some false
-    else if held && nat_lt lines 128 then Some true
+    else if not held && nat_le holding_lines lines then Some false
+    else if held && nat_lt lines freeing_lines then Some true
     else None
 
 -- the act of holding or freeing d
@@ -93,7 +94,7 @@ FindsRoom v d lines =
 
 -- fewer than 256 waiting lines call for nothing, on any connection
 unfoldable pub CallsForNothing : Core → Type 0
-CallsForNothing v = (d lines : ℕ) → d < 62 → lines < 256 → Flows v v d lines []
+CallsForNothing v = (d lines : ℕ) → d < 62 → lines < holding_lines → Flows v v d lines []
 
 -- no backlog of d calls for anything
 unfoldable pub NeverDue : Core → ℕ → Type 0

@@ -11,6 +11,7 @@ use Rattle.modem_desk.specs.declared.request.Ask.TheVariants.{Command}
 use Rattle.modem_desk.specs.declared.request.Request.{Request}
 use Rattle.modem_desk.specs.declared.request.Answer.{Answer}
 use Rattle.modem_desk.specs.declared.request.Answer.TheVariants.{NotOpen, ControlChannel}
+use Rattle.modem_history.specs.Limits.{most_in_hand}
 use Rattle.modem_history.specs.Requests.{commands_on}
 use Rattle.modem_core.specs.Cores.{Core}
 
@@ -24,7 +25,7 @@ refused_command v d =
 -- the connection of a command that goes into hand and isn't told at once
 abbrev pub sends_on : Core → Ask → Option Dlci
 sends_on v (Command d line) =
-    if v.lost || (nat_le 128 (length v.hand) || is_some (refused_command v.station d.number)) then None else Some d
+    if v.lost || (nat_le most_in_hand (length v.hand) || is_some (refused_command v.station d.number)) then None else Some d
 sends_on v _ = None
 
 -- the station was offered a line with its CR

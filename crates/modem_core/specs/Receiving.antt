@@ -1,15 +1,16 @@
 -- What a received frame does to a core.
-use Rattle.std.specs.Prelude.{not, ◌≡◌, ℕ, ◌&&◌, Bool, List, [], ◌∷◌, length, take, max, Option, None, Some, slice_set, if◌then◌else◌}
+use Rattle.std.specs.Prelude.{not, ◌≡◌, ℕ, ◌&&◌, Bool, List, [], ◌∷◌, ◌++◌, length, take, max, Option, None, Some, slice_set, if◌then◌else◌}
 use Rattle.mux_frame.specs.Frames.{Frame}
 use Rattle.mux_station.specs.Written.{is_data_frame}
 use Rattle.mux_station.specs.Tables.{have_room, octets_of}
 use Rattle.mux_station.specs.Sending.{queue}
 use Rattle.mux_station.specs.Stations.{channel_at}
 use Rattle.mux_station.specs.States.{is_opened}
-use Rattle.modem_history.specs.Acts.{Act, Sent, wire}
+use Rattle.modem_history.specs.Acts.{Act, Got, Sent, wire}
 use Rattle.modem_core.specs.Lanes.{Lane, new_lane}
 use Rattle.modem_history.specs.Calls.{Setting, seen, frames}
-use Rattle.modem_core.specs.Cores.{Core}
+use Rattle.modem_core.specs.Cores.{Core, Handles}
+use Rattle.modem_core.specs.Holding.{KeepsHeld}
 use Rattle.modem_core.specs.CoreGoing.{StandsIn}
 
 -- ## Room
@@ -50,3 +51,12 @@ reads_data v f = is_opened (channel_at v.station f.dlci).state && is_data_frame 
 -- the line isn't lost, and the frame is data of a connection that is open
 abbrev pub brings_data : Core → Frame → Bool
 brings_data v f = not v.lost && reads_data v f
+
+-- ## What data brings
+
+-- the core handles data of an open connection: behind what was said before stand the lines and the answer that it brings
+pub record Brings (old new : Core) (f : Frame) (was now : List Act) : Type 0 where
+  pub said : List Act
+  pub now_is : now ≡ was ++ said
+  pub past : Handles old new (Got f) (Got f ∷ said)
+  pub holds : KeepsHeld old new (Got f) (Got f ∷ said)

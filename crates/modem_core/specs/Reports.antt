@@ -1,5 +1,5 @@
 -- What is said of the lines of a connection, as its octets are read.
-use Rattle.std.specs.Prelude.{◌≡◌, ℕ, ◌↔◌, Bool, true, List, [], ◌∷◌, ◌++◌, Option, None, Some, option_map, if◌then◌else◌}
+use Rattle.std.specs.Prelude.{◌≡◌, ℕ, ◌↔◌, Bool, true, List, [], ◌∷◌, ◌++◌, Option, None, Some, if◌then◌else◌}
 use Rattle.std.specs.List.{Contains}
 use Rattle.at_text.specs.declared.answer.AnswerLine.{AnswerLine}
 use Rattle.at_text.specs.declared.unsolicited.UrcKind.{UrcKind}
@@ -13,9 +13,7 @@ use Rattle.at_text.specs.Rules.{dialect_of}
 use Rattle.modem_desk.specs.declared.request.Answer.TheVariants.{Done}
 use Rattle.modem_queues.specs.declared.asker.Asker.{Asker}
 use Rattle.modem_core.specs.declared.reports.Reading as code
-use Rattle.modem_queues.specs.Stops.{asker_of}
 use Rattle.modem_history.specs.Acts.{Act, Told, Heard}
-use Rattle.modem_history.specs.Calls.{first_on}
 
 -- how the lines of connection dlci are read: by this dialect, with these kinds listened to, and who asked for the command under way
 pub record ReadingView : Type 0 where
@@ -24,12 +22,12 @@ pub record ReadingView : Type 0 where
   pub dlci : ℕ
   pub owner : Option Asker
 
-abbrev pub reading_of : code.Reading → ReadingView
-reading_of r = record {
+abbrev pub reading_of : (owner : Option Asker) → code.Reading → ReadingView
+reading_of owner r = record {
   dialect = dialect_of r.dialect.now;
   kinds = r.kinds.now;
   dlci = r.dlci.number;
-  owner = option_map asker_of (first_on r.dlci.number r.hand.now);
+  owner = owner;
 }
 
 -- these kinds are listened to

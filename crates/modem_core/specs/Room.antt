@@ -12,6 +12,7 @@ use Rattle.modem_desk.specs.declared.request.Ask.{Ask}
 use Rattle.modem_desk.specs.declared.request.Ask.TheVariants.{OpenChannel, CloseChannel, Probe}
 use Rattle.modem_desk.specs.declared.request.Answer.{Answer}
 use Rattle.modem_desk.specs.declared.request.Answer.TheVariants.{Busy}
+use Rattle.modem_history.specs.Limits.{most_in_hand}
 use Rattle.modem_history.specs.Acts.{Act, Took, Got, Told, Tick, wire}
 use Rattle.modem_history.specs.Calls.{HistoryView, all_have_room, asking, probe_waits, replaying, seen}
 use Rattle.modem_core.specs.declared.event.Event.{Event}
@@ -61,7 +62,7 @@ is_under_way v _ = false
 -- the act takes a request that may be told Busy whatever room there is: 128 are in hand, what it asks can't be done
 -- now, or it is a probe of more than 16 octets
 abbrev pub is_busy_by : HistoryView → Act → Bool
-is_busy_by v (Took q) = nat_le 128 (length v.hand) || (is_under_way v q.ask || nat_lt 16 (probe_size q.ask))
+is_busy_by v (Took q) = nat_le most_in_hand (length v.hand) || (is_under_way v q.ask || nat_lt 16 (probe_size q.ask))
 is_busy_by v _ = false
 
 -- all that a frame calls for has room, and a tick leaves no connection out

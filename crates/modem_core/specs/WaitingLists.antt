@@ -8,27 +8,16 @@ use Rattle.modem_history.specs.Acts.{Act}
 use Rattle.modem_history.specs.Sessions.{caller_outcomes, heard_as}
 use Rattle.modem_history.specs.Turns.{outcomes_told, lines_heard}
 
--- the outcomes, the lines, and for how many more lines there is room
+-- the outcomes and the lines
 pub record WaitingLists : Type 0 where
   pub outcomes : List Outcome
   pub lines : List Urc
-  pub room : ℕ
 
--- an act puts what it tells and announces behind the others, where there is room: for 128 outcomes, and for
--- as many lines as room was made for
-pub record Puts (old new : WaitingLists) (a : Act) : Type 0 where
-  pub outcomes : length old.outcomes + length (outcomes_told (a ∷ [])) ≤ 128
-      → new.outcomes ≡ old.outcomes ++ outcomes_told (a ∷ [])
-  pub lines : length (lines_heard (a ∷ [])) ≤ old.room
-      → map heard_as new.lines ≡ map heard_as old.lines ++ lines_heard (a ∷ [])
-  pub room : old.room ≤ new.room + length (lines_heard (a ∷ []))
-
--- acts put what they tell and announce behind the others, where there is room
+-- what acts tell and announce waits behind the others, where the outcomes are 128 at most
 pub record Keeps (old new : WaitingLists) (acts : List Act) : Type 0 where
   pub outcomes : length old.outcomes + length (outcomes_told acts) ≤ 128
       → new.outcomes ≡ old.outcomes ++ outcomes_told acts
-  pub lines : length (lines_heard acts) ≤ old.room
-      → map heard_as new.lines ≡ map heard_as old.lines ++ lines_heard acts
+  pub lines : map heard_as new.lines ≡ map heard_as old.lines ++ lines_heard acts
 
 -- this caller has one of these outcomes, and no caller with a lower number has any
 pub record IsLeast (c : ℕ) (os : List Outcome) : Type 0 where

@@ -19,6 +19,12 @@ use mux_frame::Dlci;
 use mux_station::ChannelState;
 use mux_station::written::{HELD_UP, MSC, READY};
 
+/// So many lines of a connection that wait for their listener hold it.
+const HOLDING_LINES: usize = 256;
+
+/// Below so many a connection that is held is freed.
+const FREEING_LINES: usize = 128;
+
 impl Core {
     /// Tells the core how many lines of a connection wait for a place at their listener. From 256 on it asks the other
     /// end to stop sending, and below 128 to go on, by an MSC (27.010, 5.4.6.3.7). Refusals, which change nothing: 3
@@ -92,9 +98,9 @@ impl Core {
             return None;
         }
         let held = self.lanes.is_held(dlci);
-        if !held && lines >= 256 {
+        if !held && lines >= HOLDING_LINES {
             Some(false)
-        } else if held && lines < 128 {
+        } else if held && lines < FREEING_LINES {
             Some(true)
         } else {
             None

@@ -1,5 +1,5 @@
 //! Handles received frames (27.010, 5.4).
-ghost use Rattle.std.specs.Prelude.{List, None, ◌≡◌, ◌≢◌, ◌≤◌, ◌<◌, ◌+◌, ◌-◌, ◌++◌, ◌∷◌, ◌&&◌, ◌||◌, not, [], true, false, length, drop, map, slice_get, slice_set, is_some, is_none, if◌then◌else◌, IfOk, IfSome, IfNone, OnOk, OnErr, vec_capacity};
+ghost use Rattle.std.specs.Prelude.{ℕ, List, None, ◌≡◌, ◌≢◌, ◌≤◌, ◌<◌, ◌+◌, ◌-◌, ◌++◌, ◌∷◌, ◌&&◌, ◌||◌, not, [], true, false, length, drop, map, option_map, slice_get, slice_set, is_some, is_none, if◌then◌else◌, IfOk, IfSome, IfNone, OnOk, OnErr, vec_capacity};
 ghost use Rattle.std.specs.VecDeque.{deque_capacity};
 ghost use Rattle.modem_core.specs.Doing.{Does, QueuesAtMost};
 ghost use Rattle.mux_frame.specs.Frames.{frame_of, kept_frame};
@@ -15,24 +15,26 @@ ghost use Rattle.modem_core.specs.Running.{CoreIsIdle};
 ghost use Rattle.modem_core.specs.Cores.{Handles, shows_opened, lane_at};
 ghost use Rattle.modem_core.specs.Lanes.{awaits_echo, lane_in, new_lane};
 ghost use Rattle.modem_core.specs.Handing.{text_on, OffersLine, EndsCommand, EndedBy};
-ghost use Rattle.modem_core.specs.Settling.{tells_lines};
-ghost use Rattle.std.specs.List.{list_any};
-ghost use Rattle.modem_core.specs.Receiving.{HasRoom, answer_room, cut_to, sent_in, afresh_if, brings_data};
+ghost use Rattle.modem_core.specs.Settling.{with_told, with_whole};
+ghost use Rattle.modem_history.specs.Calls.{first_on};
+ghost use Rattle.modem_queues.specs.Stops.{asker_of, ends_stop};
+ghost use Rattle.modem_core.specs.Receiving.{Brings, HasRoom, answer_room, cut_to, sent_in, afresh_if, brings_data};
 ghost use Rattle.modem_core.specs.Holding.{KeepsHeld};
 ghost use Rattle.modem_core.specs.declared.error.CoreError.TheVariants as CoreError;
 
 use crate::act_list::{ActList, none_told, push_told};
 use crate::driver::Core;
 use crate::error::CoreError;
+use crate::frame_acts::FrameActs;
 use crate::lanes::Lanes;
-use crate::reports::{Reading, Said};
+use crate::reports::Reading;
+use crate::settling::{Answered, Whole};
 use crate::telling::{Happened, tell_on};
 use crate::took::offer_line;
-use crate::waiting::Waiting;
 use at_text::CommandLine;
-use modem_desk::Outcome;
+use modem_desk::{Answer, Outcome};
 use modem_history::Act;
-use modem_queues::{Hand, LineRoom, NoQueue, first_command, remove_command, text_of};
+use modem_queues::{Hand, LineRoom, first_asker, first_command, remove_command, text_of};
 use mux_frame::{Dlci, FrameBuf, FrameView, Info, Kind};
 use mux_station::{ChannelState, Noted, Station};
 use std::collections::VecDeque;
@@ -217,49 +219,58 @@ impl Core {
         }
     }
 
-    /// Where the command under way has its answer, the next one goes out.
-    fn go_on(&mut self, dlci: Dlci, done: bool)
-        ensures { EndedBy done self.old self.new dlci.number }
+    /// Where the answer of the command under way is whole, its outcome is made, and the next command goes out. It takes no memory.
+    fn answer(&mut self, dlci: Dlci, whole: Option<Whole>) -> Option<Answered>
+        ensures ends { EndedBy (is_some whole) self.old self.new dlci.number }
+        ensures told { (heard : List Happening) → with_told result heard
+            ≡ with_whole (option_map asker_of (first_on dlci.number self.old.hand)) whole heard }
+        ensures within { (most : ℕ) → IfSome whole (λ w. w.place ≤ most) → IfSome result (λ a. a.place ≤ most) }
+        ensures ends_none { IfSome result (λ a. ends_stop a.outcome.answer ≡ false) }
     {
-        if done {
-            self.end_command(dlci);
-        }
+        let whole = whole?;
+        let owner = first_asker(self.hand.from_first(dlci), dlci);
+        self.end_command(dlci);
+        let owner = owner?;
+        Some(Answered {
+            place: whole.place,
+            outcome: Outcome {
+                caller: owner.caller,
+                number: owner.number,
+                answer: Answer::Done(whole.lines),
+            },
+        })
     }
 
-    /// Data of an open connection is read; the hand lends the text of the command under way. The station stays as it is, and where
-    /// that command has its answer, the next one goes out. What is said goes behind the acts. Want of memory changes nothing.
-    fn read<P: LineRoom>(
+    /// Data of an open connection is read; the hand lends the text of the command under way. The lines that are heard go behind the
+    /// others. The station stays as it is, and where that command has its answer, its outcome is given and the next one goes out.
+    /// Want of memory changes nothing.
+    pub(crate) fn read<P: LineRoom>(
         &mut self,
         frame: FrameView<'_>,
-        said: &mut Said,
         lines: &mut P,
-    ) -> Result<(), CoreError>
+    ) -> Result<Option<Answered>, CoreError>
         requires short { length frame.info.now ≤ most_info self.old.station.n1 frame.kind }
         requires is_data { brings_data self.old (frame_of frame) ≡ true }
-        requires untold { list_any tells_lines (map act_of said.old.acts.items) ≡ false }
-        ensures past { OnOk result ((lead : List Happening) → lead ++ map act_of said.old.acts.items ≡ Got (frame_of frame.entry) ∷ []
-            → Handles self.old self.new (Got (frame_of frame.entry)) (lead ++ map act_of said.new.acts.items)) }
-        ensures holds { OnOk result ((lead : List Happening) → lead ++ map act_of said.old.acts.items ≡ Got (frame_of frame.entry) ∷ []
-            → KeepsHeld self.old self.new (Got (frame_of frame.entry)) (lead ++ map act_of said.new.acts.items)) }
+        ensures brings { IfOk result (λ answered. Brings self.old self.new (frame_of frame.entry)
+            (P.heard lines.old) (with_told answered (P.heard lines.new))) }
+        ensures within { IfOk result (λ answered. IfSome answered (λ a. a.place ≤ length (P.heard lines.new))) }
+        ensures ends_none { IfOk result (λ answered. IfSome answered (λ a. ends_stop a.outcome.answer ≡ false)) }
         ensures has_room { OnOk result (HasRoom self.old (Got (frame_of frame.entry)) true) }
-        ensures room { OnOk result (P.has_room lines.new (length said.new.acts.items)) }
-        ensures lines { P.lines lines.new ≡ P.lines lines.old }
         ensures no_memory { OnErr result (result ≡ Err CoreError.NoMemory) }
         ensures err { OnErr result (self.new ≡ self.old) }
+        ensures unheard { OnErr result (P.heard lines.new ≡ P.heard lines.old) }
         ensures n1 { self.new.station.n1 ≡ self.old.station.n1 }
         ensures lost { self.new.lost ≡ self.old.lost }
     {
         let reading = Reading {
             alloc: self.alloc,
             dlci: frame.dlci,
-            hand: &self.hand,
             command: echo_text(&self.hand, &self.lanes, frame.dlci),
             dialect: &self.dialect,
             kinds: self.kinds.as_slice(),
         };
-        let done = self.lanes.read(&reading, frame.info, said, lines)?;
-        self.go_on(frame.dlci, done);
-        Ok(())
+        let whole = self.lanes.read(&reading, frame.info, lines)?;
+        Ok(self.answer(frame.dlci, whole))
     }
 
     /// Data of an open connection.
@@ -275,36 +286,9 @@ impl Core {
         ensures err { OnErr result (self.new ≡ self.old) }
         ensures n1 { self.new.station.n1 ≡ self.old.station.n1 }
     {
-        let mut said = Said::new(self.alloc);
-        said.acts.push(Act::Got(frame.to_buf(self.alloc)?))?;
-        self.read(frame, &mut said, &mut NoQueue)?;
-        Ok(said.acts)
-    }
-
-    /// As `got_data`, but without the act Got. What is said is left with the caller, whose list of acts keeps its memory. It makes no
-    /// copy of the frame, and room where what is said can wait. Refusal: 1 NoMemory, which changes nothing else.
-    pub fn follow(
-        &mut self,
-        frame: FrameView<'_>,
-        said: &mut Said,
-        waiting: &mut Waiting,
-    ) -> Result<(), CoreError>
-        requires short { length frame.info.now ≤ most_info self.old.station.n1 frame.kind }
-        requires is_data { brings_data self.old (frame_of frame) ≡ true }
-        ensures past { OnOk result (Handles self.old self.new (Got (frame_of frame.entry))
-            (Got (frame_of frame.entry) ∷ map act_of said.new.acts.items)) }
-        ensures holds { OnOk result (KeepsHeld self.old self.new (Got (frame_of frame.entry))
-            (Got (frame_of frame.entry) ∷ map act_of said.new.acts.items)) }
-        ensures room { OnOk result (length said.new.acts.items ≤ waiting.new.room) }
-        ensures outcomes { waiting.new.outcomes ≡ waiting.old.outcomes }
-        ensures lines { waiting.new.lines ≡ waiting.old.lines }
-        ensures no_memory { OnErr result (result ≡ Err CoreError.NoMemory) }
-        ensures err { OnErr result (self.new ≡ self.old) }
-        ensures n1 { self.new.station.n1 ≡ self.old.station.n1 }
-        ensures lost { self.new.lost ≡ self.old.lost }
-    {
-        said.acts.clear();
-        self.read(frame, said, &mut waiting.lines)
+        let mut acts = FrameActs::new(self.alloc, frame)?;
+        let answered = self.read(frame, &mut acts)?;
+        Ok(acts.into_vec(answered))
     }
 
     /// Whether the frame is data of an open connection, and the line isn't lost.

@@ -1,14 +1,15 @@
 //! What is kept of all connections.
-ghost use Rattle.std.specs.Prelude.{◌≡◌, ◌≤◌, ◌&&◌, ℕ, false, true, is_none, is_some, length, map, replicate, slice_set, IfOk, OnErr, OnOk};
+ghost use Rattle.std.specs.Prelude.{◌≡◌, ◌≤◌, ◌&&◌, ℕ, Option, false, true, is_none, is_some, length, replicate, slice_set, IfOk, IfSome, OnErr};
 ghost use Rattle.std.specs.List.{list_any};
 ghost use Rattle.at_text.specs.UnderWay.{window_of};
-ghost use Rattle.modem_history.specs.Acts.{act_of};
 ghost use Rattle.modem_core.specs.Reports.{reading_of, ReadsAll};
-ghost use Rattle.modem_core.specs.Settling.{tells_lines};
+ghost use Rattle.modem_core.specs.Settling.{with_whole};
+ghost use Rattle.modem_queues.specs.declared.asker.Asker.{Asker};
 ghost use Rattle.modem_core.specs.Lanes.{awaits_echo, begun, lane_in, new_lane, turned};
 
 use crate::lane::Lane;
-use crate::reports::{Reading, Said};
+use crate::reports::Reading;
+use crate::settling::Whole;
 use modem_queues::LineRoom;
 use mux_frame::Dlci;
 use std::alloc::{AllocError, Global};
@@ -110,34 +111,32 @@ impl Lanes {
         self.each[usize::from(dlci.number())].awaits_echo()
     }
 
-    /// Reads octets of one, and says whether the command under way has ended. Want of memory changes nothing.
+    /// Reads octets of one, as `Lane::read`. Want of memory changes nothing.
     #[tactic(auto, using(crate::proofs::cores::HeldLanes::held_as_before))]
     pub(crate) fn read<P: LineRoom>(
         &mut self,
         reading: &Reading<'_>,
         octets: &[u8],
-        said: &mut Said,
         lines: &mut P,
-    ) -> Result<bool, AllocError>
-        requires { list_any tells_lines (map act_of said.old.acts.items) ≡ false }
+    ) -> Result<Option<Whole>, AllocError>
         ensures lanes { self.new ≡ slice_set self.old reading.now.dlci.number (lane_in self.new reading.now.dlci.number) }
-        ensures read { OnOk result (ReadsAll (reading_of reading.now) octets.now (record {
+        ensures read { IfOk result (λ whole. (owner : Option Asker) → ReadsAll (reading_of owner reading.now) octets.now (record {
           kept = (lane_in self.old reading.now.dlci.number).kept;
           window = window_of reading.now.command.now (lane_in self.old reading.now.dlci.number).under_way;
-          acts = map act_of said.old.acts.items;
+          acts = P.heard lines.old;
         }) (record {
           kept = (lane_in self.new reading.now.dlci.number).kept;
           window = window_of reading.now.command.now (lane_in self.new reading.now.dlci.number).under_way;
-          acts = map act_of said.new.acts.items;
+          acts = with_whole owner whole (P.heard lines.new);
         })) }
         ensures held { (lane_in self.new reading.now.dlci.number).held ≡ (lane_in self.old reading.now.dlci.number).held }
-        ensures done { IfOk result (λ done.
-            done ≡ (is_some (lane_in self.old reading.now.dlci.number).under_way && is_none (lane_in self.new reading.now.dlci.number).under_way)) }
-        ensures room { OnOk result (P.has_room lines.new (length said.new.acts.items)) }
-        ensures lines { P.lines lines.new ≡ P.lines lines.old }
+        ensures done { IfOk result (λ whole. is_some whole
+            ≡ (is_some (lane_in self.old reading.now.dlci.number).under_way && is_none (lane_in self.new reading.now.dlci.number).under_way)) }
+        ensures within { IfOk result (λ whole. IfSome whole (λ w. w.place ≤ length (P.heard lines.new))) }
         ensures err { OnErr result (self.new ≡ self.old) }
+        ensures unheard { OnErr result (P.heard lines.new ≡ P.heard lines.old) }
     {
         let lane = &mut self.each[usize::from(reading.dlci.number())];
-        lane.read(reading, octets, said, lines)
+        lane.read(reading, octets, lines)
     }
 }

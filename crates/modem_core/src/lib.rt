@@ -4,7 +4,7 @@
 //! # Layout
 //!
 //! - `driver` (`Core`), `took`, `got`, `tick`, `backlog`, `going_out`: what it is called with.
-//! - `lane`, `lanes`, `reports`, `settling`, `telling`, `written`, `act_list`, `error`: what it keeps and does.
+//! - `lane`, `lanes`, `reports`, `settling`, `telling`, `written`, `act_list`, `frame_acts`, `error`: what it keeps and does.
 //! - `waiting`, `placing`: outcomes and lines that wait for a place at the desk.
 //! - `event`, `replaying`, `replaying_by`: replays. `laws`: what is proved of them, and of open windows.
 #![tactic(auto)]
@@ -14,6 +14,7 @@ mod backlog;
 mod driver;
 mod error;
 mod event;
+mod frame_acts;
 mod going_out;
 mod got;
 mod lane;
@@ -37,5 +38,4 @@ pub use modem_history::Act;
 pub use modem_queues::{Asker, Hand, IN_HAND, first_asker};
 pub use replaying::replay;
 pub use replaying_by::replay_with_dialect;
-pub use reports::Said;
 pub use waiting::Waiting;

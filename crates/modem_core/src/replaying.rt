@@ -18,17 +18,6 @@ use modem_history::Act;
 use mux_frame::{Deframer, FrameError, FrameView};
 use std::alloc::{AllocError, Global};
 
-/// The kinds of the standards, and Other.
-pub(crate) const KINDS: [UrcKind; 7] = [
-    UrcKind::Ring,
-    UrcKind::Cring,
-    UrcKind::Creg,
-    UrcKind::Cgreg,
-    UrcKind::Cgev,
-    UrcKind::Ciev,
-    UrcKind::Other,
-];
-
 /// Everything goes out that may.
 fn send_all(alloc: Global, core: &mut Core, acts: &mut Vec<Act>) -> Result<(), AllocError>
     ensures sends { OnOk result (SendsAll core.old core.new (map act_of acts.old.items)
@@ -208,7 +197,7 @@ pub fn replay(alloc: Global, n1: u16, events: &[Event]) -> Result<Vec<Act>, Core
     };
     let mut running = Running {
         alloc,
-        core: Core::new(alloc, n1, &KINDS)?,
+        core: Core::new(alloc, n1, &UrcKind::STANDARD)?,
         acts: Vec::new(alloc),
     };
     for event in events {

@@ -10,7 +10,7 @@ ghost use Rattle.modem_core.specs.declared.error.CoreError.TheVariants as CoreEr
 use crate::driver::Core;
 use crate::error::CoreError;
 use crate::event::Event;
-use crate::replaying::{KINDS, Running, handle};
+use crate::replaying::{Running, handle};
 use at_text::{Dialect, UrcKind};
 use modem_history::Act;
 use mux_frame::{Deframer, FrameError};
@@ -23,7 +23,7 @@ const OWN_KINDS: u8 = 64;
 fn every_kind(alloc: Global) -> Result<Vec<UrcKind>, AllocError>
     ensures { IfOk result (λ kinds. kinds.items ≡ every_kind) }
 {
-    let mut kinds = KINDS.to_vec(alloc)?;
+    let mut kinds = UrcKind::STANDARD.to_vec(alloc)?;
     for number in 0..OWN_KINDS {
         kinds.push(UrcKind::Own(number))?;
     }

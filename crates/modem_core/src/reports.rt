@@ -1,19 +1,19 @@
 //! Reads the lines of a connection, and says what each is.
-ghost use Rattle.std.specs.Prelude.{◌≡◌, ◌↔◌, ◌≤◌, ◌<◌, ℕ, List, [], ◌∷◌, ◌++◌, false, true, length, map, take, drop, Option, Some, None, OnOk, IfOk};
+ghost use Rattle.std.specs.Prelude.{◌≡◌, ◌↔◌, ◌≤◌, ◌<◌, ℕ, List, [], ◌∷◌, ◌++◌, false, true, length, take, drop, Option, None, OnOk, IfOk};
 ghost use Rattle.std.specs.List.{Contains, list_any};
-ghost use Rattle.modem_history.specs.Acts.{Act as Happening, Heard, act_of};
+ghost use Rattle.modem_history.specs.Acts.{Act as Happening};
 ghost use Rattle.at_text.specs.Lines.{is_line_end};
 ghost use Rattle.at_text.specs.InPlace.{Grows};
 ghost use Rattle.at_text.specs.OpenWindow.{OpenWindow, seen_by};
 ghost use Rattle.at_text.specs.UnderWay.{window_of};
 ghost use Rattle.at_text.specs.Runs.{LineRun, kept_in, LeadsBack};
-ghost use Rattle.modem_core.specs.Reports.{ReadingView, reading_of, done_by, heard_by, said_as, ReportSays, ReadsAll};
-ghost use Rattle.modem_core.specs.Settling.{tells_lines, settled, SaysPlaced, IsUntold};
+ghost use Rattle.modem_queues.specs.declared.asker.Asker.{Asker};
+ghost use Rattle.modem_core.specs.Reports.{ReadingView, reading_of, heard_by, said_as, ReportSays, ReadsAll};
+ghost use Rattle.modem_core.specs.Settling.{settled, SaysPlaced, Stands, StartsWith};
 
-use at_text::{AnswerLines, Dialect, LineRun, Placed, Text, UnderWay, UrcKind, run_len};
-use modem_desk::{Answer, Outcome, Urc};
-use modem_history::Act;
-use modem_queues::{Asker, Hand, first_asker};
+use at_text::{Dialect, LineRun, Placed, Text, UnderWay, UrcKind, run_len};
+use modem_desk::Urc;
+use modem_queues::LineRoom;
 use mux_frame::Dlci;
 use std::alloc::{AllocError, Global};
 
@@ -22,22 +22,11 @@ use std::alloc::{AllocError, Global};
 pub(crate) struct Reading<'a> {
     pub alloc: Global,
     pub dlci: Dlci,
-    /// The first command in hand on the connection is the one under way.
-    pub hand: &'a Hand,
-    /// Its text, where a line may be its echo.
+    /// The text of the command under way, where a line may be its echo.
     pub command: &'a [u8],
     pub dialect: &'a Dialect,
     /// The kinds that are listened to.
     pub kinds: &'a [UrcKind],
-}
-
-impl Reading<'_> {
-    /// Who asked for the command under way. Only its last line calls for a look.
-    fn owner(&self) -> Option<Asker>
-        ensures { result ≡ (reading_of self.now).owner }
-    {
-        first_asker(self.hand.from_first(self.dlci), self.dlci)
-    }
 }
 
 /// Whether this kind is listened to.
@@ -47,145 +36,100 @@ fn is_heard(kinds: &[UrcKind], kind: UrcKind) -> bool
     kinds.contains(&kind)
 }
 
-/// What is said of a frame while it is read, and whether the answer of the command under way is whole by it. Until the frame is
-/// settled, that answer stands in the window, and the act that tells it has no lines.
-#[derive(Drop)]
-pub struct Said {
-    pub acts: Vec<Act>,
-    pub whole: bool,
-}
-
-impl Said {
-    /// Nothing is said.
-    pub fn new(alloc: Global) -> Said
-        ensures { result.acts.items ≡ [] }
-    {
-        Said {
-            acts: Vec::new(alloc),
-            whole: false,
-        }
-    }
-}
-
-/// A line of this connection is announced.
-fn push_heard(
-    alloc: Global,
-    dlci: Dlci,
-    kind: UrcKind,
-    line: &[u8],
-    acts: &mut Vec<Act>,
-) -> Result<(), AllocError>
-    ensures { OnOk result (map act_of acts.new.items
-        ≡ map act_of acts.old.items ++ Heard kind dlci.number line.now ∷ []) }
-{
-    let text = line.to_vec(alloc)?;
-    acts.push(Act::Heard(Urc {
-        kind,
-        dlci,
-        line: Text::from(text),
-    }))?;
-    Ok(())
-}
-
-/// A line that no command asked for is announced, where its kind is listened to.
+/// A line that no command asked for is heard, where its kind is listened to.
 #[inline(always)]
-fn hear(
+fn hear<P: LineRoom>(
     reading: &Reading<'_>,
     kind: UrcKind,
     line: &[u8],
-    acts: &mut Vec<Act>,
+    lines: &mut P,
 ) -> Result<(), AllocError>
-    ensures says { OnOk result (ReportSays (reading_of reading.now)
-        (λ listens. heard_by listens reading.now.dlci.number kind line.now)
-        (map act_of acts.old.items) (map act_of acts.new.items)) }
-    ensures untold { OnOk result (list_any tells_lines (map act_of acts.old.items) ≡ false
-        → list_any tells_lines (map act_of acts.new.items) ≡ false) }
+    ensures says { OnOk result ((owner : Option Asker) → ReportSays (reading_of owner reading.now)
+        (λ listens. heard_by listens reading.now.dlci.number kind line.now) (P.heard lines.old) (P.heard lines.new)) }
+    ensures begins { (was : List Happening) → StartsWith was (P.heard lines.old) → StartsWith was (P.heard lines.new) }
 {
     if !is_heard(reading.kinds, kind) {
         return Ok(());
     }
-    push_heard(reading.alloc, reading.dlci, kind, line, acts)
+    let text = line.to_vec(reading.alloc)?;
+    lines.hear(Urc {
+        kind,
+        dlci: reading.dlci,
+        line: Text::from(text),
+    })
 }
 
 /// The same of a line behind an answer that is whole.
-fn hear_behind(reading: &Reading<'_>, line: &[u8], acts: &mut Vec<Act>) -> Result<(), AllocError>
-    ensures says { let r = reading_of reading.now in OnOk result (ReportSays r
-        (λ listens. said_as listens r.dlci r.owner line.now (seen_by r.dialect None line.now))
-        (map act_of acts.old.items) (map act_of acts.new.items)) }
+fn hear_behind<P: LineRoom>(
+    reading: &Reading<'_>,
+    line: &[u8],
+    lines: &mut P,
+) -> Result<(), AllocError>
+    ensures says { OnOk result ((owner : Option Asker) → let r = reading_of owner reading.now in ReportSays r
+        (λ listens. said_as listens r.dlci owner line.now (seen_by r.dialect None line.now))
+        (P.heard lines.old) (P.heard lines.new)) }
+    ensures begins { (was : List Happening) → StartsWith was (P.heard lines.old) → StartsWith was (P.heard lines.new) }
 {
     match reading.dialect.unsolicited_of(line) {
-        Some(kind) => hear(reading, kind, line, acts),
-        None => hear(reading, UrcKind::Other, line, acts),
+        Some(kind) => hear(reading, kind, line, lines),
+        None => hear(reading, UrcKind::Other, line, lines),
     }
 }
 
-/// The answer is whole: its request is told so. Its lines come later.
-fn tell_whole(reading: &Reading<'_>, acts: &mut Vec<Act>) -> Result<(), AllocError>
-    ensures { OnOk result (map act_of acts.new.items
-        ≡ map act_of acts.old.items ++ done_by (reading_of reading.now).owner []) }
-{
-    let Some(owner) = reading.owner() else {
-        return Ok(());
-    };
-    acts.push(Act::Told(Outcome {
-        caller: owner.caller,
-        number: owner.number,
-        answer: Answer::Done(AnswerLines::new(reading.alloc)),
-    }))?;
-    Ok(())
-}
-
-/// A line, and what it is at its place. The condition is that no answer is whole before it.
-fn say(
+/// A line, and what it is at its place. Where the answer is whole with it, that is noted. The condition is that none was before.
+fn say<P: LineRoom>(
     reading: &Reading<'_>,
     line: &[u8],
     placed: Placed,
-    said: &mut Said,
+    answer: &mut Option<usize>,
+    lines: &mut P,
 ) -> Result<(), AllocError>
-    requires { said.old.whole ≡ false }
-    ensures { OnOk result ((window : Option OpenWindow) → SaysPlaced (reading_of reading.now) line.now placed window
-        (map act_of said.old.acts.items) said.new.whole (map act_of said.new.acts.items)) }
+    requires { answer.old ≡ None }
+    ensures says { OnOk result ((owner : Option Asker) (window : Option OpenWindow) → SaysPlaced (reading_of owner reading.now)
+        line.now placed window (P.heard lines.old) answer.new (P.heard lines.new)) }
+    ensures begins { (was : List Happening) → StartsWith was (P.heard lines.old) → StartsWith was (P.heard lines.new) }
 {
     match placed {
         Placed::Echo | Placed::Kept => Ok(()),
         Placed::Whole => {
-            tell_whole(reading, &mut said.acts)?;
-            said.whole = true;
+            *answer = Some(lines.len());
             Ok(())
         }
-        Placed::Unsolicited(kind) => hear(reading, kind, line, &mut said.acts),
-        Placed::Other => hear(reading, UrcKind::Other, line, &mut said.acts),
+        Placed::Unsolicited(kind) => hear(reading, kind, line, lines),
+        Placed::Other => hear(reading, UrcKind::Other, line, lines),
     }
 }
 
 /// Reads octets that end no line, and a line end behind them.
-fn read_line(
+fn read_line<P: LineRoom>(
     reading: &Reading<'_>,
     octets: &[u8],
     line: &mut LineRun,
     under_way: &mut UnderWay,
-    said: &mut Said,
+    answer: &mut Option<usize>,
+    lines: &mut P,
 ) -> Result<(), AllocError>
     requires { list_any is_line_end octets.now ≡ false }
-    ensures read { OnOk result (IsUntold said.old.whole (map act_of said.old.acts.items)
-        → (c : ℕ) → is_line_end c ≡ true → ReadsAll (reading_of reading.now) (octets.now ++ c ∷ [])
-        (settled (kept_in line.old) (window_of reading.now.command.now under_way.old) said.old.whole (map act_of said.old.acts.items))
-        (settled (kept_in line.new) (window_of reading.now.command.now under_way.new) said.new.whole (map act_of said.new.acts.items))) }
-    ensures untold { OnOk result (IsUntold said.old.whole (map act_of said.old.acts.items)
-        → IsUntold said.new.whole (map act_of said.new.acts.items)) }
+    ensures read { OnOk result (Stands answer.old (window_of reading.now.command.now under_way.old) (P.heard lines.old)
+        → (owner : Option Asker) (c : ℕ) → is_line_end c ≡ true → ReadsAll (reading_of owner reading.now) (octets.now ++ c ∷ [])
+        (settled owner (kept_in line.old) (window_of reading.now.command.now under_way.old) answer.old (P.heard lines.old))
+        (settled owner (kept_in line.new) (window_of reading.now.command.now under_way.new) answer.new (P.heard lines.new))) }
+    ensures stands { OnOk result (Stands answer.old (window_of reading.now.command.now under_way.old) (P.heard lines.old)
+        → Stands answer.new (window_of reading.now.command.now under_way.new) (P.heard lines.new)) }
     ensures grows { Grows (window_of reading.now.command.now under_way.old) (window_of reading.now.command.now under_way.new) }
     ensures back { (was : LineRun) → LeadsBack was line.old → LeadsBack was line.new }
+    ensures begins { (was : List Happening) → StartsWith was (P.heard lines.old) → StartsWith was (P.heard lines.new) }
 {
     let Some(ended) = line.end(octets) else {
         return Ok(());
     };
-    if said.whole {
-        return hear_behind(reading, ended.text, &mut said.acts);
+    if answer.is_some() {
+        return hear_behind(reading, ended.text, lines);
     }
     let Ok(placed) = under_way.place_by(reading.command, reading.dialect, ended.text) else {
         return Err(AllocError);
     };
-    say(reading, ended.text, placed, said)
+    say(reading, ended.text, placed, answer, lines)
 }
 
 /// Keeps octets none of which ends a line. Where there are none, nothing is touched.
@@ -216,53 +160,59 @@ fn skipped(line: &LineRun, octets: &[u8]) -> usize
 }
 
 /// Reads octets through the first that ends a line and those behind it that call for nothing. Says how many: none where no line ends.
-fn read_run(
+fn read_run<P: LineRoom>(
     reading: &Reading<'_>,
     octets: &[u8],
     line: &mut LineRun,
     under_way: &mut UnderWay,
-    said: &mut Said,
+    answer: &mut Option<usize>,
+    lines: &mut P,
 ) -> Result<usize, AllocError>
     ensures within { IfOk result (λ count. count ≤ length octets.now) }
     ensures none { IfOk result (λ count. count ≡ 0 → list_any is_line_end octets.now ≡ false) }
-    ensures read { IfOk result (λ count. IsUntold said.old.whole (map act_of said.old.acts.items)
-        → ReadsAll (reading_of reading.now) (take count octets.now)
-        (settled (kept_in line.old) (window_of reading.now.command.now under_way.old) said.old.whole (map act_of said.old.acts.items))
-        (settled (kept_in line.new) (window_of reading.now.command.now under_way.new) said.new.whole (map act_of said.new.acts.items))) }
-    ensures untold { OnOk result (IsUntold said.old.whole (map act_of said.old.acts.items)
-        → IsUntold said.new.whole (map act_of said.new.acts.items)) }
+    ensures read { IfOk result (λ count. Stands answer.old (window_of reading.now.command.now under_way.old) (P.heard lines.old)
+        → (owner : Option Asker) → ReadsAll (reading_of owner reading.now) (take count octets.now)
+        (settled owner (kept_in line.old) (window_of reading.now.command.now under_way.old) answer.old (P.heard lines.old))
+        (settled owner (kept_in line.new) (window_of reading.now.command.now under_way.new) answer.new (P.heard lines.new))) }
+    ensures stands { OnOk result (Stands answer.old (window_of reading.now.command.now under_way.old) (P.heard lines.old)
+        → Stands answer.new (window_of reading.now.command.now under_way.new) (P.heard lines.new)) }
     ensures grows { Grows (window_of reading.now.command.now under_way.old) (window_of reading.now.command.now under_way.new) }
     ensures back { (was : LineRun) → LeadsBack was line.old → LeadsBack was line.new }
+    ensures begins { (was : List Happening) → StartsWith was (P.heard lines.old) → StartsWith was (P.heard lines.new) }
 {
     let end = run_len(octets);
     if end == octets.len() {
         return Ok(0);
     }
-    read_line(reading, &octets[..end], line, under_way, said)?;
+    read_line(reading, &octets[..end], line, under_way, answer, lines)?;
     let (_, left) = octets.split_at(end + 1);
     Ok(end + 1 + skipped(line, left))
 }
 
-/// Reads the lines that end in these octets, in place. Says how many octets it has read: those behind them end no line.
-pub(crate) fn read_lines(
+/// Reads the lines that end in these octets, in place. Says how many octets it has read: those behind them end no line. Where an
+/// answer is whole, it is noted behind how many of the lines that are heard it comes.
+pub(crate) fn read_lines<P: LineRoom>(
     reading: &Reading<'_>,
     octets: &[u8],
     line: &mut LineRun,
     under_way: &mut UnderWay,
-    said: &mut Said,
+    answer: &mut Option<usize>,
+    lines: &mut P,
 ) -> Result<usize, AllocError>
-    requires { IsUntold said.old.whole (map act_of said.old.acts.items) }
+    requires { Stands answer.old (window_of reading.now.command.now under_way.old) (P.heard lines.old) }
     ensures within { IfOk result (λ count. count ≤ length octets.now) }
     ensures rest { IfOk result (λ count. list_any is_line_end (drop count octets.now) ≡ false) }
-    ensures read { IfOk result (λ count. ReadsAll (reading_of reading.now) (take count octets.now)
-        (settled (kept_in line.old) (window_of reading.now.command.now under_way.old) said.old.whole (map act_of said.old.acts.items))
-        (settled (kept_in line.new) (window_of reading.now.command.now under_way.new) said.new.whole (map act_of said.new.acts.items))) }
+    ensures read { IfOk result (λ count. (owner : Option Asker) → ReadsAll (reading_of owner reading.now) (take count octets.now)
+        (settled owner (kept_in line.old) (window_of reading.now.command.now under_way.old) answer.old (P.heard lines.old))
+        (settled owner (kept_in line.new) (window_of reading.now.command.now under_way.new) answer.new (P.heard lines.new))) }
+    ensures stands { OnOk result (Stands answer.new (window_of reading.now.command.now under_way.new) (P.heard lines.new)) }
     ensures grows { Grows (window_of reading.now.command.now under_way.old) (window_of reading.now.command.now under_way.new) }
     ensures back { (was : LineRun) → LeadsBack was line.old → LeadsBack was line.new }
+    ensures begins { (was : List Happening) → StartsWith was (P.heard lines.old) → StartsWith was (P.heard lines.new) }
 {
     let mut place = skipped(line, octets);
     while place < octets.len() {
-        let count = read_run(reading, &octets[place..], line, under_way, said)?;
+        let count = read_run(reading, &octets[place..], line, under_way, answer, lines)?;
         if count == 0 {
             return Ok(place);
         }

@@ -1,146 +1,114 @@
-//! Reads a frame in place, and settles it once nothing can fail any more. Want of memory leaves a lane as it was.
-ghost use Rattle.std.specs.Prelude.{◌≡◌, ◌≤◌, ◌&&◌, ℕ, List, [], false, length, map, position, is_some, is_none, IfOk, OnOk, OnErr};
-ghost use Rattle.std.specs.List.{list_any};
-ghost use Rattle.modem_history.specs.Acts.{act_of};
-ghost use Rattle.at_text.specs.InPlace.{Grows};
+//! Reads a frame in place, and settles it once nothing can fail any more. Want of memory leaves the lane, and the lines that are
+//! heard, as they were.
+ghost use Rattle.std.specs.Prelude.{◌≡◌, ◌≤◌, ◌&&◌, ℕ, List, Option, None, length, is_some, is_none, IfOk, IfSome, OnOk, OnErr};
+ghost use Rattle.modem_history.specs.Acts.{Act as Happening};
+ghost use Rattle.at_text.specs.InPlace.{Grows, lines_so_far};
+ghost use Rattle.at_text.specs.OpenWindow.{OpenWindow};
 ghost use Rattle.at_text.specs.UnderWay.{window_of};
 ghost use Rattle.at_text.specs.Runs.{LineRun, kept_in, LeadsBack};
+ghost use Rattle.modem_queues.specs.declared.asker.Asker.{Asker};
 ghost use Rattle.modem_core.specs.Reports.{reading_of, ReadsAll};
-ghost use Rattle.modem_core.specs.Settling.{tells_lines, filled, filled_answer, filled_first, settled, settled_acts, settled_lane, IsUntold};
+ghost use Rattle.modem_core.specs.Settling.{said_acts, settled, settled_lane, with_whole, Stands, StartsWith};
 
 use crate::lane::Lane;
-use crate::reports::{Reading, Said, keep_rest, read_lines};
+use crate::reports::{Reading, keep_rest, read_lines};
 use at_text::{AnswerLines, LineRun, UnderWay};
-use modem_desk::Answer;
-use modem_history::Act;
+use modem_desk::Outcome;
 use modem_queues::LineRoom;
 use std::alloc::AllocError;
 
-/// Whether an act tells the lines of an answer.
-fn tells_lines(act: &Act) -> bool
-    ensures { result ≡ tells_lines (act_of act.now) }
-{
-    match act {
-        Act::Told(outcome) => matches!(outcome.answer, Answer::Done(_)),
-        _ => false,
-    }
+/// An answer that is whole: behind how many of the lines that are heard it comes, and its lines.
+#[derive(Drop)]
+pub(crate) struct Whole {
+    pub place: usize,
+    pub lines: AnswerLines,
 }
 
-/// The place of the first act that tells the lines of an answer.
-fn told_at(acts: &[Act]) -> Option<usize>
-    ensures { result ≡ position (λ act. tells_lines (act_of act)) acts.now }
-{
-    acts.iter().position(tells_lines)
+/// The outcome of the command whose answer is whole, and behind how many of the lines that are heard it comes.
+#[derive(Drop)]
+pub(crate) struct Answered {
+    pub place: usize,
+    pub outcome: Outcome,
 }
 
-/// An answer gets these lines, where it has any.
-fn fill_answer(answer: &mut Answer, lines: AnswerLines)
-    ensures { answer.new ≡ filled_answer lines answer.old }
-{
-    if let Answer::Done(whole) = answer {
-        *whole = lines;
-    }
-}
-
-/// An act by which an answer is told gets these lines.
-fn fill(act: &mut Act, lines: AnswerLines)
-    ensures { act_of act.new ≡ filled lines (act_of act.old) }
-{
-    if let Act::Told(outcome) = act {
-        fill_answer(&mut outcome.answer, lines);
-    }
-}
-
-/// The first answer that is told gets these lines.
-fn fill_first(acts: &mut Vec<Act>, lines: AnswerLines)
-    ensures { map act_of acts.new.items ≡ filled_first lines (map act_of acts.old.items) }
-{
-    match told_at(acts.as_slice()) {
-        Some(place) => fill(&mut acts[place], lines),
-        None => {}
-    }
-}
-
-/// Reads octets in place, and makes room where what is heard can wait. Where memory is wanted, there is a way back.
+/// Reads octets in place. Where memory is wanted, there is a way back.
 fn read_all<P: LineRoom>(
     reading: &Reading<'_>,
     octets: &[u8],
     line: &mut LineRun,
     under_way: &mut UnderWay,
-    said: &mut Said,
+    answer: &mut Option<usize>,
     lines: &mut P,
 ) -> Result<(), AllocError>
-    requires { IsUntold said.old.whole (map act_of said.old.acts.items) }
-    ensures read { OnOk result (ReadsAll (reading_of reading.now) octets.now
-        (settled (kept_in line.old) (window_of reading.now.command.now under_way.old) said.old.whole (map act_of said.old.acts.items))
-        (settled (kept_in line.new) (window_of reading.now.command.now under_way.new) said.new.whole (map act_of said.new.acts.items))) }
+    requires { answer.old ≡ None }
+    ensures read { OnOk result ((owner : Option Asker) → ReadsAll (reading_of owner reading.now) octets.now
+        (settled owner (kept_in line.old) (window_of reading.now.command.now under_way.old) None (P.heard lines.old))
+        (settled owner (kept_in line.new) (window_of reading.now.command.now under_way.new) answer.new (P.heard lines.new))) }
+    ensures stands { OnOk result (Stands answer.new (window_of reading.now.command.now under_way.new) (P.heard lines.new)) }
     ensures grows { Grows (window_of reading.now.command.now under_way.old) (window_of reading.now.command.now under_way.new) }
     ensures back { OnErr result ((was : LineRun) → LeadsBack was line.old → LeadsBack was line.new) }
-    ensures room { OnOk result (P.has_room lines.new (length said.new.acts.items)) }
-    ensures lines { P.lines lines.new ≡ P.lines lines.old }
+    ensures begins { OnErr result ((was : List Happening) → StartsWith was (P.heard lines.old) → StartsWith was (P.heard lines.new)) }
 {
-    let count = read_lines(reading, octets, line, under_way, said)?;
-    lines.reserve(said.acts.len())?;
+    let count = read_lines(reading, octets, line, under_way, answer, lines)?;
     keep_rest(line, &octets[count..]);
     Ok(())
 }
 
 impl Lane {
-    /// An answer that is whole is told, with its lines, and its command is under way no more. Says whether one was.
-    fn settle(&mut self, said: &mut Said) -> bool
-        ensures lane { self.new ≡ settled_lane said.old.whole self.old }
-        ensures acts { (command : List ℕ) → map act_of said.new.acts.items
-            ≡ settled_acts said.old.whole (window_of command self.old.under_way) (map act_of said.old.acts.items) }
-        ensures done { result ≡ (said.old.whole && is_some self.old.under_way) }
+    /// The lines of an answer that is whole leave the window: its command is under way no more.
+    fn settle(&mut self, answer: Option<usize>) -> Option<Whole>
+        ensures lane { self.new ≡ settled_lane answer self.old }
+        ensures some { is_some result ≡ is_some answer }
+        ensures acts { (owner : Option Asker) (command : List ℕ) (heard : List Happening) → with_whole owner result heard
+            ≡ said_acts owner (lines_so_far (window_of command self.old.under_way)) answer heard }
+        ensures within { (window : Option OpenWindow) (heard : List Happening) → Stands answer window heard
+            → IfSome result (λ whole. whole.place ≤ length heard) }
     {
-        if !said.whole {
-            return false;
-        }
-        let done = !self.under_way.idle();
+        let place = answer?;
         let lines = self.under_way.close();
-        fill_first(&mut said.acts, lines);
-        done
+        Some(Whole { place, lines })
     }
 
-    /// Reads octets, and says whether the command under way has ended. Want of memory leaves the lane as it was.
+    /// Reads octets: the lines that are heard go behind the others. Gives the answer that is whole by them, if one is: its command
+    /// is under way no more. Want of memory leaves the lane and the lines as they were.
     pub(crate) fn read<P: LineRoom>(
         &mut self,
         reading: &Reading<'_>,
         octets: &[u8],
-        said: &mut Said,
         lines: &mut P,
-    ) -> Result<bool, AllocError>
-        requires { list_any tells_lines (map act_of said.old.acts.items) ≡ false }
-        ensures read { OnOk result (ReadsAll (reading_of reading.now) octets.now (record {
+    ) -> Result<Option<Whole>, AllocError>
+        ensures read { IfOk result (λ whole. (owner : Option Asker) → ReadsAll (reading_of owner reading.now) octets.now (record {
           kept = self.old.kept;
           window = window_of reading.now.command.now self.old.under_way;
-          acts = map act_of said.old.acts.items;
+          acts = P.heard lines.old;
         }) (record {
           kept = self.new.kept;
           window = window_of reading.now.command.now self.new.under_way;
-          acts = map act_of said.new.acts.items;
+          acts = with_whole owner whole (P.heard lines.new);
         })) }
         ensures held { self.new.held ≡ self.old.held }
-        ensures done { IfOk result (λ done. done ≡ (is_some self.old.under_way && is_none self.new.under_way)) }
-        ensures room { OnOk result (P.has_room lines.new (length said.new.acts.items)) }
-        ensures lines { P.lines lines.new ≡ P.lines lines.old }
+        ensures done { IfOk result (λ whole. is_some whole ≡ (is_some self.old.under_way && is_none self.new.under_way)) }
+        ensures within { IfOk result (λ whole. IfSome whole (λ w. w.place ≤ length (P.heard lines.new))) }
         ensures err { OnErr result (self.new ≡ self.old) }
+        ensures unheard { OnErr result (P.heard lines.new ≡ P.heard lines.old) }
     {
-        said.whole = false;
         let line_mark = self.line.mark();
         let mark = self.under_way.mark();
+        let count = lines.len();
+        let mut answer = None;
         match read_all(
             reading,
             octets,
             &mut self.line,
             &mut self.under_way,
-            said,
+            &mut answer,
             lines,
         ) {
-            Ok(()) => Ok(self.settle(said)),
+            Ok(()) => Ok(self.settle(answer)),
             Err(why) => {
                 self.line.go_back(line_mark);
                 self.under_way.go_back(mark);
+                lines.truncate(count);
                 Err(why)
             }
         }

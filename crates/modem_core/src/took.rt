@@ -1,6 +1,7 @@
 //! Takes requests.
 ghost use Rattle.std.specs.Prelude.{◌≡◌, ◌∷◌, [], ◌+◌, ◌<◌, ◌≤◌, ◌++◌, length, map, false, true, Some, option_to_list, IfOk, IfErr, OnErr};
 ghost use Rattle.mux_frame.specs.Frames.{kept_frame};
+ghost use Rattle.modem_history.specs.Limits.{most_in_hand};
 ghost use Rattle.modem_history.specs.Acts.{act_of, Took};
 ghost use Rattle.modem_history.specs.Calls.{asking};
 ghost use Rattle.mux_station.specs.Stations.{setting_of};
@@ -66,7 +67,7 @@ fn tells_others(ask: &Ask) -> bool
 /// No outcomes, with room for those that others may be told for it.
 fn none_told_for(alloc: Global, ask: &Ask) -> Result<VecDeque<Outcome>, AllocError>
     ensures none { IfOk result (λ told. told.items ≡ []) }
-    ensures room { IfOk result (λ told. tells_others ask.now ≡ true → 128 ≤ deque_capacity told) }
+    ensures room { IfOk result (λ told. tells_others ask.now ≡ true → most_in_hand ≤ deque_capacity told) }
 {
     if !tells_others(ask) {
         return Ok(VecDeque::new(alloc));
@@ -129,9 +130,9 @@ impl Core {
         ensures acts { IfOk result (λ t. t.0 ≡ record { acts = act.Took request.now ∷ []; left = 1 + length self.now.hand }) }
         ensures sent { IfOk result (λ t. map kept_frame (option_to_list t.1) ≡ asking Initiator request.now.ask) }
         ensures none { IfOk result (λ t. t.2.items ≡ []) }
-        ensures few { IfOk result (λ _. length self.now.hand ≤ 128) }
+        ensures few { IfOk result (λ _. length self.now.hand ≤ most_in_hand) }
         ensures role { self.now.station.role ≡ Initiator }
-        ensures room { IfOk result (λ t. tells_others request.now.ask ≡ true → 128 ≤ deque_capacity t.2) }
+        ensures room { IfOk result (λ t. tells_others request.now.ask ≡ true → most_in_hand ≤ deque_capacity t.2) }
     {
         let mut acts = ActList::with_room(self.alloc, 2 + self.hand.len())?;
         let sent = asking(self.alloc, &request.ask)?;
@@ -160,7 +161,7 @@ impl Core {
     pub(crate) fn ask_open(&mut self, dlci: Dlci, request: Request) -> Option<Answer>
         requires ask { request.ask ≡ Ask.OpenChannel dlci }
         requires live { self.old.lost ≡ false }
-        requires few { length self.old.hand < 128 }
+        requires few { length self.old.hand < most_in_hand }
         ensures past { Handles self.old self.new (Took request) (taken_acts request result) }
         ensures lanes { self.new.lanes ≡ self.old.lanes }
         ensures n1 { self.new.station.n1 ≡ self.old.station.n1 }
@@ -183,12 +184,12 @@ impl Core {
     ) -> Option<Answer>
         requires ask { request.ask ≡ Ask.CloseChannel dlci }
         requires live { self.old.lost ≡ false }
-        requires few { length self.old.hand < 128 }
-        requires room { 128 ≤ deque_capacity outcomes.old }
+        requires few { length self.old.hand < most_in_hand }
+        requires room { most_in_hand ≤ deque_capacity outcomes.old }
         ensures asks { Asks self.old self.new outcomes.old.items outcomes.new.items request result }
         ensures lanes { self.new.lanes ≡ self.old.lanes }
         ensures n1 { self.new.station.n1 ≡ self.old.station.n1 }
-        ensures room { 128 ≤ deque_capacity outcomes.new }
+        ensures room { most_in_hand ≤ deque_capacity outcomes.new }
     {
         if let Err(why) = self.station.close(dlci) {
             return Some(answer_of(why));
@@ -210,7 +211,7 @@ impl Core {
     pub(crate) fn ask_probe(&mut self, echo: ProbeData, request: Request) -> Option<Answer>
         requires ask { request.ask ≡ Ask.Probe echo }
         requires live { self.old.lost ≡ false }
-        requires few { length self.old.hand < 128 }
+        requires few { length self.old.hand < most_in_hand }
         ensures past { Handles self.old self.new (Took request) (taken_acts request result) }
         ensures lanes { self.new.lanes ≡ self.old.lanes }
         ensures n1 { self.new.station.n1 ≡ self.old.station.n1 }
@@ -232,12 +233,12 @@ impl Core {
     ) -> Option<Answer>
         requires ask { request.ask ≡ Ask.Stop }
         requires live { self.old.lost ≡ false }
-        requires few { length self.old.hand < 128 }
-        requires room { 128 ≤ deque_capacity outcomes.old }
+        requires few { length self.old.hand < most_in_hand }
+        requires room { most_in_hand ≤ deque_capacity outcomes.old }
         ensures asks { Asks self.old self.new outcomes.old.items outcomes.new.items request result }
         ensures lanes { self.new.lanes ≡ self.old.lanes }
         ensures n1 { self.new.station.n1 ≡ self.old.station.n1 }
-        ensures room { 128 ≤ deque_capacity outcomes.new }
+        ensures room { most_in_hand ≤ deque_capacity outcomes.new }
     {
         if let Err(why) = self.station.stop() {
             return Some(answer_of(why));
@@ -259,7 +260,7 @@ impl Core {
     fn ask_command(&mut self, dlci: Dlci, request: Request) -> Option<Answer>
         requires ask { request.ask ≡ Ask.Command dlci (line_of request) }
         requires live { self.old.lost ≡ false }
-        requires few { length self.old.hand < 128 }
+        requires few { length self.old.hand < most_in_hand }
         ensures past { Handles self.old self.new (Took request) (taken_acts request result) }
         ensures lanes { self.new.lanes ≡ self.old.lanes }
         ensures n1 { self.new.station.n1 ≡ self.old.station.n1 }
@@ -273,12 +274,12 @@ impl Core {
 
     /// Any request, but for what it is told at once, which this gives.
     fn ask_any(&mut self, request: Request, outcomes: &mut VecDeque<Outcome>) -> Option<Answer>
-        requires room { tells_others request.ask ≡ true → 128 ≤ deque_capacity outcomes.old }
+        requires room { tells_others request.ask ≡ true → most_in_hand ≤ deque_capacity outcomes.old }
         ensures asks { Asks self.old self.new outcomes.old.items outcomes.new.items request result }
         ensures lanes { self.new.lanes ≡ self.old.lanes }
         ensures n1 { self.new.station.n1 ≡ self.old.station.n1 }
         ensures role { self.old.station.role ≡ Initiator }
-        ensures room { 128 ≤ deque_capacity outcomes.old → 128 ≤ deque_capacity outcomes.new }
+        ensures room { most_in_hand ≤ deque_capacity outcomes.old → most_in_hand ≤ deque_capacity outcomes.new }
     {
         if self.lost {
             return Some(Answer::LineLost);
@@ -310,11 +311,11 @@ impl Core {
     /// Takes a request, which is told its outcome at once or is in hand from then on. What it asks for waits in the control
     /// queue, and what is told behind the outcomes that wait, so it takes no memory.
     pub(crate) fn ask(&mut self, request: Request, outcomes: &mut VecDeque<Outcome>)
-        requires room { 128 ≤ deque_capacity outcomes.old }
+        requires room { most_in_hand ≤ deque_capacity outcomes.old }
         ensures takes { Takes self.old self.new outcomes.old.items outcomes.new.items request }
         ensures n1 { self.new.station.n1 ≡ self.old.station.n1 }
         ensures role { self.old.station.role ≡ Initiator }
-        ensures room { 128 ≤ deque_capacity outcomes.new }
+        ensures room { most_in_hand ≤ deque_capacity outcomes.new }
     {
         let caller = request.caller;
         let number = request.number;

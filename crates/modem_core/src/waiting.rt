@@ -1,22 +1,24 @@
 //! Outcomes and lines that wait for a place.
-ghost use Rattle.std.specs.Prelude.{◌≡◌, ◌<◌, ◌≤◌, ◌∷◌, ◌++◌, [], length, take, map, IfOk, OnOk, IfSome, IfNone, MatchOption, false, true, All, Contains};
+ghost use Rattle.std.specs.Prelude.{◌≡◌, ◌<◌, ◌≤◌, ◌∷◌, ◌++◌, [], length, take, map, IfOk, OnOk, OnErr, IfSome, IfNone, MatchOption, false, true, All, Contains};
 ghost use Rattle.mux_frame.specs.Frames.{frame_of};
 ghost use Rattle.mux_station.specs.declared.role.Role.TheVariants.{Initiator};
 ghost use Rattle.mux_frame.specs.Spelling.{most_info};
 ghost use Rattle.std.specs.VecDeque.{deque_capacity};
 ghost use Rattle.modem_core.specs.Receiving.{HasRoom, brings_data};
 ghost use Rattle.modem_core.specs.Running.{CoreIsIdle};
-ghost use Rattle.modem_history.specs.Acts.{act_of, Got, Lost, Tick};
+ghost use Rattle.modem_history.specs.Acts.{Got, Lost, Tick};
 ghost use Rattle.modem_core.specs.Doing.{Does, Takes};
 ghost use Rattle.modem_history.specs.Sessions.{backlog_in};
 ghost use Rattle.modem_queues.specs.LineQueues.{AreFewOnEach};
 ghost use Rattle.modem_core.specs.WaitingLists.{IsFirstOf, IsLeast};
-ghost use Rattle.modem_core.specs.WaitingLists.{Keeps, Puts};
+ghost use Rattle.modem_core.specs.Doing.{GetsData};
+ghost use Rattle.modem_core.specs.declared.error.CoreError.TheVariants as CoreError;
 
 use crate::driver::Core;
+use crate::error::CoreError;
+use crate::telling::put_told;
 use at_text::UrcKind;
 use modem_desk::{Outcome, Request, Urc};
-use modem_history::Act;
 use modem_queues::{IN_HAND, LineQueue};
 use mux_frame::{Dlci, FrameView};
 use std::alloc::{AllocError, Global};
@@ -42,7 +44,6 @@ impl Model for Waiting {
     ghost view = { λ w. record {
       outcomes = w.outcomes.items;
       lines = w.lines.items;
-      room = w.lines.room;
     } };
 
     ghost invariant = { λ w. 128 ≤ deque_capacity w.outcomes };
@@ -78,33 +79,6 @@ impl Waiting {
         Waiting {
             outcomes,
             lines: LineQueue::of(lines),
-        }
-    }
-
-    /// What an act tells or announces waits behind the others.
-    fn put(&mut self, act: Act)
-        ensures { Puts self.old self.new (act_of act) }
-    {
-        match act {
-            Act::Told(outcome) => {
-                let _ = self.outcomes.push_back(outcome);
-            }
-            Act::Heard(line) => self.lines.put(line),
-            _other => {}
-        }
-    }
-
-    /// What the acts tell and announce waits behind the others. There is room where the outcomes that
-    /// wait are then 128 at most, and where room was made for the lines. The list of acts keeps its memory.
-    #[tactic(auto, using(crate::proofs::sessions::steps::CollectedActs::keeps_first, crate::proofs::sessions::steps::CollectedActs::keeps_put, crate::proofs::sessions::steps::CollectedActs::kept_outcomes, crate::proofs::sessions::steps::CollectedActs::kept_lines))]
-    pub fn keep(&mut self, acts: &mut Vec<Act>)
-        ensures { Keeps self.old self.new (map act_of acts.old.items) }
-    {
-        if acts.is_empty() {
-            return;
-        }
-        for act in acts.drain(..) {
-            self.put(act);
         }
     }
 
@@ -144,6 +118,24 @@ impl Waiting {
         ensures lost { core.new.lost ≡ core.old.lost }
     {
         core.do_other(frame, &mut self.outcomes)
+    }
+
+    /// Data of an open connection: the lines that are heard by it wait behind the others, and so does the outcome of a command whose
+    /// answer is whole by it. Refusal: 1 NoMemory, which changes nothing.
+    pub fn get_data(&mut self, core: &mut Core, frame: FrameView<'_>) -> Result<(), CoreError>
+        requires short { length frame.info.now ≤ most_info core.old.station.n1 frame.kind }
+        requires is_data { brings_data core.old (frame_of frame) ≡ true }
+        ensures gets { OnOk result (GetsData core.old core.new self.old self.new (Got (frame_of frame.entry))) }
+        ensures no_memory { OnErr result (result ≡ Err CoreError.NoMemory) }
+        ensures err { OnErr result (core.new ≡ core.old) }
+        ensures stays { OnErr result (self.new ≡ self.old) }
+        ensures n1 { core.new.station.n1 ≡ core.old.station.n1 }
+        ensures lost { core.new.lost ≡ core.old.lost }
+    {
+        if let Some(answered) = core.read(frame, &mut self.lines)? {
+            put_told(&mut self.outcomes, answered.outcome);
+        }
+        Ok(())
     }
 
     /// The core's line is lost: what it tells waits behind the others.

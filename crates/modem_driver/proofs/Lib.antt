@@ -1,4 +1,3 @@
-pub mod frames
 pub mod law_proofs
 pub mod rows
 pub mod Entries

@@ -14,7 +14,6 @@ use Rattle.modem_history.specs.Sessions as session
 use Rattle.modem_history.specs.Sessions.{Beginning, EndView, Finishes, Leftovers, SessionFits, SessionView, heard_as, heards, taken_since}
 use Rattle.modem_driver.specs.Grown.{HasGrown}
 use Rattle.modem_driver.specs.Headline.{AnswersOwn, HasOnePlace, HearsEach, Leaves, NoneAfterClose, Settlement}
-use Rattle.modem_core.specs.Replays.{AreFull}
 use Rattle.modem_driver.specs.SessionStates.{end_of}
 use Rattle.modem_driver.specs.TurningAway.{Offline, TurnsAway, offline_from}
 
@@ -100,7 +99,6 @@ pub record IsDeskSettled (run : DeskRun) : Type 0 where
 pub record SpellHeadline (callers : List CallerView) (s : Spell) : Type 0 where
   pub leaves : (newer older : List Act) → s.past ≡ newer ++ older → (d : ℕ) → Leaves d older callers
   pub none_after_close : NoneAfterClose s.past
-  pub full : AreFull s.start.n1 s.past
   pub answers : AnswersOwn s.start s.past
   pub hears : HearsEach s.start s.past
 

@@ -11,6 +11,7 @@ use Rattle.modem_desk.specs.declared.request.Outcome.{Outcome}
 use Rattle.modem_desk.specs.declared.request.Request.{Request}
 use Rattle.modem_desk.specs.declared.request.Urc.{Urc}
 use Rattle.modem_desk.specs.Ends.{DriverView, Announces, Appends}
+use Rattle.modem_history.specs.Limits.{most_in_hand}
 use Rattle.modem_history.specs.Acts.{Act, Told, Tick, Lost, after, in_hand}
 use Rattle.modem_history.specs.Calls.{is_lost}
 use Rattle.modem_history.specs.Sessions.{Beginning, LineView, gots, taken_since}
@@ -140,7 +141,7 @@ pub record TakesRequest (l : LineView) (d : DriverView) (old new : EndpointState
 
 -- the requests in hand and the outcomes that wait are 128, or all numbers are used up
 abbrev pub IsFull : EndpointState → Type 0
-IsFull e = (128 ≤ length e.machine.core.hand + length e.machine.unplaced) ⊎ (e.next ≡ 2 ^ 64 - 1)
+IsFull e = (most_in_hand ≤ length e.machine.core.hand + length e.machine.unplaced) ⊎ (e.next ≡ 2 ^ 64 - 1)
 
 -- a request that asks for this is taken with the next number, which then is one more
 pub record Numbers (old new : EndpointState) (ask : Ask) (n : ℕ) : Type 0 where

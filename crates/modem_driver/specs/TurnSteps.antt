@@ -10,6 +10,7 @@ use Rattle.modem_desk.specs.declared.request.Request.{Request}
 use Rattle.modem_desk.specs.declared.request.Outcome.{Outcome}
 use Rattle.modem_desk.specs.declared.request.Urc.{Urc}
 use Rattle.modem_desk.specs.Ends.{DriverView}
+use Rattle.modem_history.specs.Limits.{most_in_hand}
 use Rattle.modem_history.specs.Acts.{Act, after, in_hand}
 use Rattle.modem_history.specs.Calls.{is_lost}
 use Rattle.modem_history.specs.Kinds.{of_kind}
@@ -240,14 +241,14 @@ pub record TakesOne (old new : TurnState) (moved : Bool) : Type 0 where
   pub still : moved ≡ false → (acts ≡ []) × (new.machine ≡ old.machine)
   pub no_request : moved ≡ false
       → (next ≡ Some None) ⊎ ((b : Beginning) (past : List Act) → StandingFits b new past
-      → length (in_hand past) + length new.machine.unplaced ≡ 128)
+      → length (in_hand past) + length new.machine.unplaced ≡ most_in_hand)
   pub desk_stays : (new.driver.desk ≡ old.driver.desk)
       × ((new.driver.told ≡ old.driver.told) × (new.driver.announced ≡ old.driver.announced))
   pub places_stay : (new.driver.free ≡ old.driver.free) × (new.driver.free_lines ≡ old.driver.free_lines)
   pub backs_stay : (new.driver.told_back ≡ old.driver.told_back)
       × (new.driver.announced_back ≡ old.driver.announced_back)
   pub asks : (b : Beginning) (past : List Act) → StandingFits b new past → next ≡ None
-      → length (in_hand past) + length new.machine.unplaced ≡ 128
+      → length (in_hand past) + length new.machine.unplaced ≡ most_in_hand
   pub found : new.driver.found_none ≡ counted old.driver.found_none (asked_in_vain next)
   pub stays : new ≡ record old {
     driver = new.driver;

@@ -4,6 +4,7 @@ use Rattle.std.specs.List.{list_any}
 use Rattle.modem_desk.specs.declared.request.Request.{Request}
 use Rattle.modem_desk.specs.declared.request.Urc.{Urc}
 use Rattle.modem_desk.specs.Ends.{DriverView}
+use Rattle.modem_history.specs.Limits.{most_in_hand}
 use Rattle.modem_history.specs.Acts.{Act, after}
 use Rattle.modem_history.specs.Sessions.{Beginning, LineView, AreOnce, FitsWith}
 use Rattle.modem_driver.specs.SessionStates.{Machine, MachineFits, seen_by, end_of}
@@ -15,7 +16,7 @@ pub record TakesNext (b : Beginning) (l : LineView) (old new : DriverView) (k : 
   pub taken : new.taken ≡ old.taken ++ q ∷ []
   pub caller : nat_lt q.caller (length old.desk.rings) ≡ true
   pub once : AreOnce b (seen_by l (end_of new) k)
-  pub room : length k.core.hand + length k.unplaced < 128
+  pub room : length k.core.hand + length k.unplaced < most_in_hand
   pub desk_stays : new.desk ≡ old.desk
   pub told_stays : new.told ≡ old.told
   pub announced_stays : new.announced ≡ old.announced

@@ -9,6 +9,7 @@ use Rattle.modem_desk.specs.declared.request.Request.{Request}
 use Rattle.modem_desk.specs.declared.request.Outcome.{Outcome}
 use Rattle.modem_desk.specs.declared.request.Urc.{Urc}
 use Rattle.modem_desk.specs.Ends.{DriverView}
+use Rattle.modem_history.specs.Limits.{most_in_hand}
 use Rattle.modem_history.specs.EveryTurn.{GivesSome, count_at}
 use Rattle.modem_history.specs.Kinds.{of_kind}
 use Rattle.modem_history.specs.Sessions.{at_place, caller_outcomes}
@@ -59,7 +60,7 @@ TurnsOn =
 
 -- the desk is asked for a request where fewer than 128 outcomes wait
 abbrev pub asks : (waiting : ℕ) → ℕ
-asks waiting = if nat_lt waiting 128 then 1 else 0
+asks waiting = if nat_lt waiting most_in_hand then 1 else 0
 
 -- a request is asked for, and the LineLost of the one that came waits behind the others
 pub record RefusesOne (old new : WaitingLists) (before after : DriverView) (took : Bool) : Type 0 where

@@ -1,5 +1,6 @@
 -- How long a connection's command has waited for its answer.
-use Rattle.std.specs.Prelude.{◌≡◌, ℕ, ◌+◌, ◌-◌, ◌^◌, ◌<◌, ◌==◌, ◌&&◌, Bool, false, List, [], ◌∷◌, min, Option, None, Some, option_map, if◌then◌else◌, slice_index_or}
+use Rattle.std.specs.Prelude.{◌≡◌, ℕ, ◌+◌, ◌<◌, ◌==◌, ◌&&◌, Bool, false, List, [], ◌∷◌, Option, None, Some, option_map, if◌then◌else◌, slice_index_or}
+use Rattle.serial_line.specs.Counts.{one_more}
 use Rattle.modem_desk.specs.declared.request.Request.{Request}
 use Rattle.modem_history.specs.Acts.{Act, Tick, in_hand}
 use Rattle.modem_history.specs.Calls.{first_on}
@@ -19,10 +20,6 @@ is_same who other = (who.caller == other.caller) && (who.number == other.number)
 abbrev pub is_first : Asker → Option Asker → Bool
 is_first who None = false
 is_first who (Some first) = is_same who first
-
--- one more, in a count of 64 bits that stops at its end
-abbrev pub one_more : ℕ → ℕ
-one_more n = min (n + 1) (2 ^ 64 - 1)
 
 -- how many ticks in a row, counted back from now, found this asker's command the first on the connection
 abbrev pub ticks_waited : ℕ → Asker → List Act → ℕ

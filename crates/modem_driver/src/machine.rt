@@ -29,18 +29,17 @@ use crate::machine::delays::Delays;
 use crate::session::{SessionError, SessionFault};
 use at_text::{Dialect, UrcKind};
 use line_end::LineEnd;
-use modem_core::{Core, Said, Waiting};
+use modem_core::{Core, Waiting};
 use modem_desk::{Outcome, Request, Urc};
 use mux_frame::{Dlci, FrameError};
 use std::alloc::Global;
 use std::marker::Model;
 
 /// The core, the end of the line, what waits for a place at the desk, how far it has come on the way to its end, and how
-/// long commands have waited. Beside them what is said of a frame while it is read: contracts don't see it, since it is of no use later.
+/// long commands have waited.
 #[derive(Drop)]
 pub(crate) struct Machine {
     pub(crate) core: Core,
-    pub(crate) said: Said,
     pub(crate) line_end: LineEnd,
     pub(crate) waiting: Waiting,
     pub(crate) course: Course,
@@ -113,7 +112,6 @@ impl Machine {
         };
         Ok(Machine {
             core,
-            said: Said::new(alloc),
             line_end,
             waiting,
             course: Course::GoesOn,

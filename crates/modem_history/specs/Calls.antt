@@ -25,6 +25,7 @@ use Rattle.modem_desk.specs.declared.request.Ask.TheVariants.{OpenChannel, Close
 use Rattle.modem_desk.specs.declared.request.Request.{Request}
 use Rattle.modem_desk.specs.declared.request.Answer.{Answer}
 use Rattle.modem_desk.specs.declared.request.Answer.TheVariants.{Done, Opened, Shut, ProbeBack, Stopped, NotOpen, AlreadyOpen, Refused, NoAnswer, Closed, ControlChannel, LineLost, Busy}
+use Rattle.modem_history.specs.Limits.{most_in_hand}
 use Rattle.modem_history.specs.Acts.{Act, Took, Got, Sent, Told, Heard, Tick, Lost, Held, Freed, told, in_hand, without, wire}
 use Rattle.modem_history.specs.Information.{command_on}
 use Rattle.modem_history.specs.Kinds.{is_listened, standard_kinds}
@@ -140,7 +141,7 @@ refused_ask s v Stop =
 abbrev pub at_once : Setting → HistoryView → Request → Option Answer
 at_once s v r =
     if v.lost then Some LineLost
-    else if nat_le 128 (length (v.hand)) then Some Busy
+    else if nat_le most_in_hand (length (v.hand)) then Some Busy
     else refused_ask s v r.ask
 
 -- ## Frames

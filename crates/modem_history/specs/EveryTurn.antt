@@ -8,6 +8,7 @@ use Rattle.mux_frame.specs.Spelling.{spelled}
 use Rattle.mux_station.specs.Written.{is_data_frame}
 use Rattle.mux_station.specs.GivenFrames.{Outgoing}
 use Rattle.at_text.specs.declared.unsolicited.UrcKind.{UrcKind}
+use Rattle.modem_history.specs.Limits.{most_in_hand}
 use Rattle.modem_history.specs.Acts.{Act, Sent, Held, Freed, after, in_hand}
 use Rattle.modem_history.specs.Kinds.{of_kind}
 use Rattle.modem_history.specs.GoingOut.{next_out, act_out}
@@ -119,7 +120,7 @@ asked_in_vain _ = 0
 
 -- The desk was asked for a request, unless there was no room for one more. It counted where it had none.
 pub record Asks (old new : SessionView) (t : Exchange) (past : List Act) : Type 0 where
-  pub asks : t.next ≡ None → length (in_hand past) + length new.unplaced ≡ 128
+  pub asks : t.next ≡ None → length (in_hand past) + length new.unplaced ≡ most_in_hand
   pub found_none : new.desk.found_none ≡ counted old.desk.found_none (asked_in_vain t.next)
 
 -- ## A turn

@@ -6,6 +6,7 @@ use Rattle.mux_station.specs.Opening.{is_open, opens_now}
 use Rattle.modem_desk.specs.declared.request.Ask.{Ask}
 use Rattle.modem_desk.specs.declared.request.Ask.TheVariants.{Command}
 use Rattle.modem_desk.specs.declared.request.Request.{Request}
+use Rattle.modem_history.specs.Limits.{most_in_hand}
 use Rattle.modem_history.specs.Acts.{Act, Took, Got, wire_act, wire, in_hand}
 use Rattle.modem_history.specs.Connections.{information_got, information_sent}
 pub use Rattle.modem_history.specs.Connections.{carries, info_of, info_got, info_sent}
@@ -32,7 +33,7 @@ opens_here r d past a = opens_by r d past (wire_act a)
 
 -- a command taken while d is open is accepted, but for one that is told Busy since 128 requests are in hand
 abbrev pub is_accepted : Role → ℕ → List Act → Request → Bool
-is_accepted r d past q = is_open r d (wire past) && (command_on d q.ask && nat_lt (length (in_hand past)) 128)
+is_accepted r d past q = is_open r d (wire past) && (command_on d q.ask && nat_lt (length (in_hand past)) most_in_hand)
 
 -- the commands that were accepted on d since it opened, in order
 abbrev pub accepted : Role → ℕ → List Act → List Request

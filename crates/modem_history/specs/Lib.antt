@@ -1,3 +1,4 @@
+pub mod Limits
 pub mod Acts
 pub mod Connections
 pub mod Information

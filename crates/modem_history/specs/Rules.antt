@@ -1,6 +1,7 @@
 -- How a history comes about (27.010, 5.4), in three rules.
 use Rattle.std.specs.Prelude.{◌≡◌, ◌≤◌, nat_lt, Bool, true, false, List, [], ◌∷◌, length, Some}
 use Rattle.mux_station.specs.GivenFrames.{Outgoing}
+use Rattle.modem_history.specs.Limits.{most_in_hand}
 use Rattle.modem_history.specs.Acts.{Act, Took, Got, Tick, Lost, Held, Freed, after, in_hand}
 use Rattle.modem_history.specs.Calls.{Setting, calls}
 use Rattle.modem_history.specs.Holding.{may_hold, is_held}
@@ -9,7 +10,7 @@ use Rattle.modem_history.specs.GoingOut.{next_out, act_out}
 -- A call may begin with this act. A request is taken where fewer than 128 are in hand. A connection is held where it may
 -- be, and freed where it is held. A frame, a tick or a loss may come at any time.
 abbrev pub may_begin : Setting → List Act → Act → Bool
-may_begin s past (Took r) = nat_lt (length (in_hand past)) 128
+may_begin s past (Took r) = nat_lt (length (in_hand past)) most_in_hand
 may_begin s past (Got f) = true
 may_begin s past Tick = true
 may_begin s past Lost = true

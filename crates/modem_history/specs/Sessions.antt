@@ -16,6 +16,7 @@ use Rattle.at_text.specs.Dialects.{Dialect}
 use Rattle.modem_desk.specs.declared.request.Request.{Request}
 use Rattle.modem_desk.specs.declared.request.Outcome.{Outcome}
 use Rattle.modem_desk.specs.declared.request.Urc.{Urc}
+use Rattle.modem_history.specs.Limits.{most_in_hand}
 use Rattle.modem_history.specs.Acts.{Act, Took, Got, Sent, Heard, Given, after, wire, in_hand}
 use Rattle.modem_history.specs.Requests.{are_distinct}
 use Rattle.at_text.specs.Kinds.{is_same_kind}
@@ -122,7 +123,7 @@ at_place i xss = slice_index_or xss i []
 -- each request was taken where fewer than 128 were in hand
 abbrev pub TakesWithRoom : List Act → Type 0
 TakesWithRoom [] = Unit {0}
-TakesWithRoom (Took r ∷ past) = length (in_hand past) < 128 × TakesWithRoom past
+TakesWithRoom (Took r ∷ past) = length (in_hand past) < most_in_hand × TakesWithRoom past
 TakesWithRoom (_ ∷ past) = TakesWithRoom past
 
 -- ## What it fits
@@ -147,7 +148,7 @@ pub record FitsRequests (b : Beginning) (v : SessionView) (past : List Act) : Ty
   pub taken_are : v.desk.taken ≡ b.desk.taken ++ taken_requests past
   pub once : AreOnce b v
   pub callers : list_all (λ (q : Request). nat_lt q.caller b.callers) (taken_since b v) ≡ true
-  pub few : length (in_hand past) + length v.unplaced ≤ 128
+  pub few : length (in_hand past) + length v.unplaced ≤ most_in_hand
 
 -- Octets that came: the deframer took the first of those received, and the others aren't fed yet. Of those that it took
 -- it has handed out what the history got.

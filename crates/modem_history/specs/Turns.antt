@@ -1,6 +1,6 @@
 -- What the answers of a turn mean (Moved, WriterFull, Waiting, Blocked, Idle), what its faults mean, and
 -- what a tick does.
-use Rattle.std.specs.Prelude.{◌≡◌, ◌≢◌, ℕ, zero, suc, ◌+◌, ◌-◌, ◌^◌, ◌<◌, ◌≤◌, ◌==◌, ◌||◌, not, nat_le, nat_lt, min, ◌⊎◌, Bool, true, false, List, [], ◌∷◌, ◌++◌, length, take, map, flat_map, Option, Some, None, option_to_list}
+use Rattle.std.specs.Prelude.{◌≡◌, ◌≢◌, ℕ, zero, suc, ◌+◌, ◌<◌, ◌≤◌, ◌==◌, ◌||◌, not, nat_le, nat_lt, ◌⊎◌, Bool, true, false, List, [], ◌∷◌, ◌++◌, length, take, map, flat_map, Option, Some, None, option_to_list}
 use Rattle.std.specs.List.{list_all, list_any}
 use Rattle.mux_frame.specs.Frames.{Frame}
 use Rattle.mux_frame.specs.Reading.{Reads}
@@ -9,10 +9,12 @@ use Rattle.mux_station.specs.Tables.{by_frame, have_room, msc_frame, octets_of, 
 use Rattle.mux_station.specs.Sending.{queue}
 use Rattle.mux_station.specs.declared.role.Role.TheVariants.{Initiator}
 use Rattle.mux_station.specs.Opening.{is_open}
+use Rattle.serial_line.specs.Counts.{saturated}
 use Rattle.at_text.specs.declared.unsolicited.UrcKind.{UrcKind}
 use Rattle.modem_desk.specs.declared.request.Request.{Request}
 use Rattle.modem_desk.specs.declared.request.Outcome.{Outcome}
 use Rattle.modem_desk.specs.declared.request.Urc.{Urc}
+use Rattle.modem_history.specs.Limits.{most_in_hand, holding_lines, freeing_lines}
 use Rattle.modem_history.specs.Acts.{Act, Told, Heard, Tick, Lost, Held, Freed, Given, after, wire, in_hand}
 use Rattle.modem_history.specs.Kinds.{of_kind}
 use Rattle.modem_history.specs.Holding.{is_held}
@@ -80,7 +82,7 @@ calls_made o = length (option_to_list o)
 -- a count of calls after so many more, which stops at u64::MAX
 abbrev pub counted : ℕ → ℕ → ℕ
 counted n zero = n
-counted n (suc made) = min (n + suc made) (2 ^ 64 - 1)
+counted n (suc made) = saturated (n + suc made)
 
 -- the outcomes that the acts told, and the lines that they heard, in order
 abbrev pub outcomes_told : List Act → List Outcome
@@ -121,8 +123,8 @@ pub record Exchanges (old new : SessionView) (t : Exchange) (acts : List Act) : 
 abbrev pub may_act : List Urc → Act → Bool
 may_act waiting Tick = false
 may_act waiting Lost = false
-may_act waiting (Held d) = nat_le 256 (backlog_in d waiting)
-may_act waiting (Freed d) = nat_lt (backlog_in d waiting) 128
+may_act waiting (Held d) = nat_le holding_lines (backlog_in d waiting)
+may_act waiting (Freed d) = nat_lt (backlog_in d waiting) freeing_lines
 may_act waiting _ = true
 
 abbrev pub is_mark : Act → Bool
@@ -162,9 +164,9 @@ says_moved _ = false
 
 -- each open connection but 0 whose backlog is 256 or more is held, and none whose backlog is below 128 is
 pub record HoldsByBacklog (v : SessionView) (past : List Act) : Type 0 where
-  pub many : (d : ℕ) → d < 62 → (d == 0) ≡ false → is_open Initiator d (wire past) ≡ true → 256 ≤ backlog d v
+  pub many : (d : ℕ) → d < 62 → (d == 0) ≡ false → is_open Initiator d (wire past) ≡ true → holding_lines ≤ backlog d v
       → is_held Initiator d past ≡ true
-  pub few : (d : ℕ) → d < 62 → backlog d v < 128 → is_held Initiator d past ≡ false
+  pub few : (d : ℕ) → d < 62 → backlog d v < freeing_lines → is_held Initiator d past ≡ false
 
 -- every frame that is read in the octets received since the session began was got
 pub record AllAreGot (b : Beginning) (v : SessionView) (past : List Act) : Type 0 where
@@ -194,7 +196,7 @@ pub record IsAtRest (b : Beginning) (v : SessionView) (t : Exchange) (past : Lis
   pub nothing_came : ReadsNothing t
   pub fed : v.unfed ≡ []
   pub all_got : AllAreGot b v past
-  pub no_request : (t.next ≡ Some None) ⊎ (length (in_hand past) + length v.unplaced ≡ 128)
+  pub no_request : (t.next ≡ Some None) ⊎ (length (in_hand past) + length v.unplaced ≡ most_in_hand)
   pub held : HoldsByBacklog v past
 
 -- no MSC has a place in the control queue: the control frames that were not given on, with one for any
@@ -221,7 +223,7 @@ pub record IsWriterFull (b : Beginning) (v : SessionView) (t : Exchange)
   pub fed : v.deframer.next ≡ None → v.unfed ≡ []
   pub no_room : (f : Frame) → v.deframer.next ≡ Some f → has_room_for b past f ≡ false
   pub held : HoldsWhereRoom b v before
-  pub no_request : (t.next ≡ Some None) ⊎ (length (in_hand past) + length v.unplaced ≡ 128)
+  pub no_request : (t.next ≡ Some None) ⊎ (length (in_hand past) + length v.unplaced ≡ most_in_hand)
 
 -- No octets wait, and an outcome for this caller does, which the desk handed back in this turn. None waits for a lesser
 -- caller. Nothing else is held up by it.

@@ -3,3 +3,4 @@ pub mod FirstLeftOut
 pub mod FirstPlaces
 pub mod CommandPlaces
 pub mod LineCounts
+pub mod HeardLines

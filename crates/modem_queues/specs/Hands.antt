@@ -4,6 +4,7 @@ use Rattle.std.specs.List.{list_any}
 use Rattle.std.specs.Vec.{vec_capacity, vec_len}
 use Rattle.std.specs.Global.{Vec}
 use Rattle.modem_desk.specs.declared.request.Request.{Request}
+use Rattle.modem_history.specs.Limits.{most_in_hand}
 use Rattle.modem_history.specs.Requests.{commands_on}
 use Rattle.modem_queues.specs.Stops.{is_stop}
 
@@ -16,7 +17,7 @@ pub record AreStarts (starts : List ℕ) (requests : List Request) : Type 0 wher
 -- at most 128 behind those that have left, with room for so many, and what is noted of them
 pub record HandIsKept (requests : Vec Request) (gone : ℕ) (starts : List ℕ) (may_stop : Bool) : Type 0 where
   pub within : gone ≤ vec_len requests
-  pub few : vec_len requests ≤ gone + 128
+  pub few : vec_len requests ≤ gone + most_in_hand
   pub all : vec_len requests ≤ 192
   pub room : 192 ≤ vec_capacity requests
   pub starts_are : AreStarts starts (drop gone requests.items)

@@ -2,6 +2,7 @@
 use Rattle.std.specs.Prelude.{◌≡◌, ℕ, ◌<◌, ◌==◌, List, length, filter, slice_index_or}
 use Rattle.modem_desk.specs.declared.request.Urc.{Urc}
 use Rattle.at_text.specs.Kinds.{kind_place}
+use Rattle.modem_history.specs.Limits.{holding_lines}
 use Rattle.modem_history.specs.Sessions.{backlog_in}
 
 -- the lines, and for how many more there is room
@@ -28,7 +29,7 @@ of_key key n xs = filter (λ x. key x == n) xs
 
 -- fewer than 256 are of each connection
 abbrev pub AreFewOnEach : List Urc → Type 0
-AreFewOnEach lines = (d : ℕ) → d < 62 → backlog_in d lines < 256
+AreFewOnEach lines = (d : ℕ) → d < 62 → backlog_in d lines < holding_lines
 
 -- the lines of each of the 62 connections and of each of the 263 kinds are counted
 pub record AreCounted (channels kinds : List ℕ) (lines : List Urc) : Type 0 where

@@ -2,6 +2,7 @@
 ghost use Rattle.std.specs.Prelude.{◌≡◌, ◌≤◌, ◌<◌, ◌+◌, ◌++◌, ◌∷◌, [], false, length, find, map, drop, option_map, position, remove, slice_index_or, take, IfOk, IfSome, nat_le, vec_capacity, vec_len};
 ghost use Rattle.std.specs.List.{list_any};
 ghost use Rattle.std.specs.Option.{option_copied};
+ghost use Rattle.modem_history.specs.Limits.{most_in_hand};
 ghost use Rattle.modem_history.specs.Calls.{first_on};
 ghost use Rattle.modem_history.specs.Information.{line_of};
 ghost use Rattle.modem_history.specs.Requests.{commands_on, without_first};
@@ -75,21 +76,21 @@ impl Hand {
     /// How many there are.
     pub fn len(&self) -> usize
         ensures value { result ≡ length self.now }
-        ensures few { result ≤ 128 }
+        ensures few { result ≤ most_in_hand }
     {
         self.requests.len() - self.gone
     }
 
     /// Whether there are as many as may be.
     pub fn is_full(&self) -> bool
-        ensures { result ≡ nat_le 128 (length self.now) }
+        ensures { result ≡ nat_le most_in_hand (length self.now) }
     {
         self.len() >= IN_HAND
     }
 
     /// How many more there may be.
     pub fn left(&self) -> usize
-        ensures { result + length self.now ≡ 128 }
+        ensures { result + length self.now ≡ most_in_hand }
     {
         IN_HAND - self.len()
     }
@@ -118,7 +119,7 @@ impl Hand {
 
     /// Puts a request at the end.
     pub fn push(&mut self, request: Request)
-        requires { length self.old < 128 }
+        requires { length self.old < most_in_hand }
         ensures { self.new ≡ self.old ++ request ∷ [] }
     {
         self.note_before(&request);
@@ -146,7 +147,7 @@ impl Hand {
     /// The requests, without taking memory, with room for 128.
     pub fn into_vec(self) -> Vec<Request>
         ensures items { result.items ≡ self }
-        ensures room { 128 ≤ vec_capacity result }
+        ensures room { most_in_hand ≤ vec_capacity result }
     {
         let Hand {
             mut requests,
@@ -185,7 +186,7 @@ fn make_place(requests: &mut Vec<Request>, gone: &mut usize)
     ensures items { drop gone.new requests.new.items ≡ drop gone.old requests.old.items }
     ensures many { vec_len requests.new + gone.old ≡ vec_len requests.old + gone.new }
     ensures within { gone.new ≤ vec_len requests.new }
-    ensures place { vec_len requests.old < gone.old + 128 → vec_len requests.old ≤ 192 → vec_len requests.new < 192 }
+    ensures place { vec_len requests.old < gone.old + most_in_hand → vec_len requests.old ≤ 192 → vec_len requests.new < 192 }
     ensures room { vec_capacity requests.new ≡ vec_capacity requests.old }
 {
     if requests.len() < ROOM {

@@ -14,4 +14,4 @@ pub use asker::Asker;
 pub use hand::{
     FirstCommand, Hand, IN_HAND, first_asker, first_command, has_command, remove_command, text_of,
 };
-pub use line_queue::{KIND_PLACES, LineQueue, LineRoom, NoQueue};
+pub use line_queue::{KIND_PLACES, LineQueue, LineRoom};

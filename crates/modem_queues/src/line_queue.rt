@@ -1,9 +1,9 @@
 //! Lines that wait for their listeners, with counts of them.
-ghost use Rattle.std.specs.Prelude.{⊤, ℕ, List, ◌≡◌, ◌+◌, ◌-◌, ◌<◌, ◌≤◌, ◌++◌, ◌∷◌, [], true, nat_lt, length, drop, take, slice_index_or, slice_set, MatchOption, OnOk};
+ghost use Rattle.std.specs.Prelude.{List, ◌≡◌, ◌+◌, ◌-◌, ◌<◌, ◌≤◌, ◌++◌, ◌∷◌, [], true, nat_lt, length, drop, map, take, slice_index_or, slice_set, MatchOption, OnErr, OnOk};
 ghost use Rattle.std.specs.List.{list_all};
 ghost use Rattle.at_text.specs.Kinds.{kind_place};
-ghost use Rattle.modem_desk.specs.declared.request.Urc.{Urc};
-ghost use Rattle.modem_history.specs.Sessions.{backlog_in};
+ghost use Rattle.modem_history.specs.Acts.{Act};
+ghost use Rattle.modem_history.specs.Sessions.{backlog_in, heard_as};
 ghost use Rattle.modem_queues.specs.LineQueues.{AreFewOnEach};
 ghost use Rattle.modem_queues.specs.LineQueues.{of_key, place_of};
 
@@ -40,41 +40,38 @@ impl Model for LineQueue {
     ghost invariant = { λ q. AreCounted q.channels q.kinds q.lines.items };
 }
 
-/// Where lines that are heard can wait: in a queue, or nowhere, where they are given as acts alone.
+/// Where lines go that are heard. Contracts see how they are announced.
 pub trait LineRoom {
-    /// The lines that wait.
-    ghost lines: { Self → List Urc };
+    /// What is announced, in its order.
+    ghost heard: { Self → List Act };
 
-    /// There is room for so many more.
-    ghost has_room: { Self → ℕ → Type 0 };
+    /// One line more, behind the others. Refusal: no memory, and then no line changes.
+    fn hear(&mut self, line: Urc) -> Result<(), AllocError>
+        ensures ok { OnOk result (heard self.new ≡ heard self.old ++ heard_as line ∷ []) }
+        ensures err { OnErr result (heard self.new ≡ heard self.old) };
 
-    /// Makes room for so many more. Refusal: no memory, which changes no line.
-    fn reserve(&mut self, more: usize) -> Result<(), AllocError>
-        ensures lines { lines self.new ≡ lines self.old }
-        ensures room { OnOk result (has_room self.new more) };
+    /// How many there are.
+    fn len(&self) -> usize
+        ensures { result ≡ length (heard self.now) };
+
+    /// Only so many first ones stay.
+    fn truncate(&mut self, count: usize)
+        ensures { heard self.new ≡ take count (heard self.old) };
 }
 
 impl LineRoom for LineQueue {
-    ghost lines = { λ q. q.items };
+    ghost heard = { λ q. map heard_as q.items };
 
-    ghost has_room = { λ q more. more ≤ q.room };
-
-    fn reserve(&mut self, more: usize) -> Result<(), AllocError> {
-        self.lines.reserve(more)
+    fn hear(&mut self, line: Urc) -> Result<(), AllocError> {
+        self.push_back(line)
     }
-}
 
-/// No queue.
-#[derive(Drop)]
-pub struct NoQueue;
+    fn len(&self) -> usize {
+        self.lines.len()
+    }
 
-impl LineRoom for NoQueue {
-    ghost lines = { λ _. [] };
-
-    ghost has_room = { λ _ _. ⊤ };
-
-    fn reserve(&mut self, _more: usize) -> Result<(), AllocError> {
-        Ok(())
+    fn truncate(&mut self, count: usize) {
+        self.keep_first(count);
     }
 }
 
@@ -140,20 +137,19 @@ impl LineQueue {
         }
     }
 
-    /// Puts a line at the end. It is dropped where there is no room and no memory.
+    /// Puts a line at the end. Refusal: no memory, and then no line changes.
     #[tactic(auto, using(crate::proofs::lists::LineCounts::counted_last))]
-    pub fn put(&mut self, line: Urc)
-        ensures items { 1 ≤ self.old.room → self.new.items ≡ self.old.items ++ line ∷ [] }
-        ensures room { self.old.room ≤ self.new.room + 1 }
+    fn push_back(&mut self, line: Urc) -> Result<(), AllocError>
+        ensures ok { OnOk result (self.new.items ≡ self.old.items ++ line ∷ []) }
+        ensures err { OnErr result (self.new.items ≡ self.old.items) }
     {
         let channel = usize::from(line.dlci.number());
         let kind = line.kind.place();
-        if self.lines.push_back(line).is_err() {
-            return;
-        }
+        self.lines.push_back(line)?;
         let many = self.lines.len();
         raise(&mut self.channels, channel, many);
         raise(&mut self.kinds, kind, many);
+        Ok(())
     }
 
     /// Puts a line at the end. The condition is that there is room.
@@ -182,6 +178,27 @@ impl LineQueue {
         lower(&mut self.channels, usize::from(line.dlci.number()));
         lower(&mut self.kinds, line.kind.place());
         Some(line)
+    }
+
+    /// The last line goes, if there is one.
+    #[tactic(auto, using(crate::proofs::lists::LineCounts::counted_before))]
+    fn drop_last(&mut self)
+        ensures { self.new.items ≡ take (length self.old.items - 1) self.old.items }
+    {
+        let Some(line) = self.lines.pop_back() else {
+            return;
+        };
+        lower(&mut self.channels, usize::from(line.dlci.number()));
+        lower(&mut self.kinds, line.kind.place());
+    }
+
+    /// Only so many first lines stay.
+    fn keep_first(&mut self, count: usize)
+        ensures { self.new.items ≡ take count self.old.items }
+    {
+        while count < self.len() {
+            self.drop_last();
+        }
     }
 
     /// The first line, if there is one. It stays.

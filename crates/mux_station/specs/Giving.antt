@@ -1,5 +1,5 @@
 -- What a station gives on to the line.
-use Rattle.std.specs.Prelude.{◌≡◌, ◌<◌, true, false, zero, suc, ℕ, ◌+◌, ◌-◌, ◌==◌, ◌&&◌, not, Bool, List, [], ◌∷◌, length, take, drop, Option, Some, None, option_map, if◌then◌else◌, slice_set}
+use Rattle.std.specs.Prelude.{◌≡◌, ◌≢◌, ◌<◌, true, false, zero, suc, ℕ, ◌+◌, ◌-◌, ◌==◌, ◌&&◌, not, Bool, List, [], ◌∷◌, length, take, drop, Option, Some, None, option_map, if◌then◌else◌, slice_set}
 use Rattle.mux_frame.specs.Frames.{Frame}
 use Rattle.mux_frame.specs.declared.frame.Kind.TheVariants.{Uih}
 use Rattle.mux_station.specs.Written.{written}
@@ -12,6 +12,7 @@ use Rattle.mux_station.specs.Offering.{offered, data_out}
 use Rattle.mux_station.specs.Sending.{queue, StationLawful, StationComplete}
 use Rattle.mux_station.specs.Stations.{Station, channel_at, setting_of, stopped_in}
 use Rattle.mux_station.specs.Fitting.{StationFits}
+use Rattle.mux_station.specs.GivenFrames.{Turn, Control, Data}
 
 -- d is Opened and not stopped, and octets wait in its ring
 abbrev pub is_ready : Station → ℕ → Bool
@@ -35,10 +36,18 @@ ready_from v d = first_ready v d (62 - d)
 abbrev pub next_turn : Station → Option ℕ
 next_turn v = else_first (ready_from v (v.last + 1)) (ready_from v 1)
 
--- the connection whose data is next, where nothing waits in the control queue
+-- what goes out next: the control queue's first frame, or, where that is empty, data of the connection whose turn it is
+abbrev pub by_turn : {X : Type 0} → (control : Frame → List Frame → X) → (data_of : Option ℕ → X) → Station → List Frame → X
+by_turn control data_of v (f ∷ fs) = control f fs
+by_turn control data_of v [] = data_of (next_turn v)
+
+-- whose turn it is
+abbrev pub turn_at : Station → List Frame → Option Turn
+turn_at v q = by_turn (λ f fs. Some Control) (option_map Data) v q
+
+-- the connection whose data is next
 abbrev pub next_sender : Station → List Frame → Option ℕ
-next_sender v (f ∷ fs) = None
-next_sender v [] = next_turn v
+next_sender v q = by_turn (λ f fs. None) (λ d. d) v q
 
 -- the data frame of d: as many octets as wait, at most N1
 abbrev pub data_frame : Station → ℕ → Frame
@@ -57,20 +66,17 @@ abbrev pub data_sent : Station → Option ℕ → List Act → List Act
 data_sent v None past = past
 data_sent v (Some d) past = Sent (data_frame v d) ∷ past
 
--- the next frame: the first of the control queue, or, where that is empty, data
+-- the next frame
 abbrev pub next_given : Station → List Frame → Option Frame
-next_given v (f ∷ fs) = Some f
-next_given v [] = option_map (data_frame v) (next_turn v)
+next_given v q = by_turn (λ f fs. Some f) (option_map (data_frame v)) v q
 
 -- the station after its next frame was given on
 abbrev pub station_after : Station → List Frame → Station
-station_after v (f ∷ fs) = record v { queue = fs }
-station_after v [] = data_given v (next_turn v)
+station_after v q = by_turn (λ f fs. record v { queue = fs }) (data_given v) v q
 
 -- the past after a control frame was given on, or data sent
 abbrev pub after_given : Station → List Frame → List Act → List Act
-after_given v (f ∷ fs) past = Given ∷ past
-after_given v [] past = data_sent v (next_turn v) past
+after_given v q past = by_turn (λ f fs. Given ∷ past) (λ d. data_sent v d past) v q
 
 -- this many octets were offered on d since it opened and not given on yet
 unfoldable pub Waits : Role → ℕ → List Act → ℕ → Type 0
@@ -86,9 +92,17 @@ pub record SendsNext (r : Role) (d : ℕ) (past : List Act) : Type 0 where
   pub some : length (data_out r d past) < length (offered r d past)
   pub alone : queue past ≡ []
 
--- whatever past the station fits, it fits that with what it gives on, and a lawful and complete past stays
--- so
+-- by this past it may go out next: a control frame waits, or data may leave d
+abbrev pub GoesNext : Role → List Act → Turn → Type 0
+GoesNext r past Control = queue past ≢ []
+GoesNext r past (Data d) = SendsNext r d past
+
+-- whatever past the station fits, what is next may go out by it, the station fits it with what it gives on, and a
+-- lawful and complete past stays so
 pub record GivesOn (v : Station) : Type 0 where
+  pub next :
+      (past : List Act) (t : Turn) → StationFits v past → turn_at v v.queue ≡ Some t
+      → GoesNext v.role past t
   pub fits :
       (past : List Act) → StationFits v past
       → StationFits (station_after v v.queue) (after_given v v.queue past)

@@ -1,14 +1,12 @@
 //! Control frames in the octets that spell them (27.010, 5.2.1).
-ghost use Rattle.std.specs.Prelude.{◌≡◌, ◌+◌, ◌<◌, ◌≤◌, ◌^◌, take, drop, length, slice_index, unwrap_or, IfSome, IfNone};
-ghost use Rattle.mux_frame.specs.Judging.{kind_in};
-ghost use Rattle.mux_frame.specs.declared.frame.Kind.TheVariants.{Uih};
+ghost use Rattle.std.specs.Prelude.{◌≡◌, ◌+◌, ◌<◌, ◌≤◌, ◌^◌, take, drop, length, slice_index, IfSome, IfNone};
 ghost use Rattle.mux_station.specs.ControlFrames.{control_frame};
 ghost use Rattle.mux_station.specs.ControlOctets.{AreSpelled, BeginsAt, HasFront, front_frame, front_len, info_len, lead_len};
 
 use crate::control_frame::ControlFrame;
 use arrayvec::ArrayVec;
 use circular_buffer::HeapCircularBuffer;
-use mux_frame::{Dlci, Kind};
+use mux_frame::{Dlci, Kind, kind_of};
 
 /// How many octets of a frame stand before its information, and how many octets that has.
 #[derive(Clone, Copy)]
@@ -40,19 +38,6 @@ fn octets_from(octets: &HeapCircularBuffer<u8>, place: usize, count: usize) -> A
         taken.push(octet_at(octets, place + index));
     }
     taken
-}
-
-/// The kind of a control octet, whatever its P/F bit (27.010, 5.2.1.3).
-fn kind_of(control: u8) -> Kind
-    ensures { result ≡ unwrap_or (kind_in control) Uih }
-{
-    match control {
-        0x2F | 0x3F => Kind::Sabm,
-        0x63 | 0x73 => Kind::Ua,
-        0x0F | 0x1F => Kind::Dm,
-        0x43 | 0x53 => Kind::Disc,
-        _ => Kind::Uih,
-    }
 }
 
 /// The extent of the frame that begins at a place.
@@ -91,7 +76,7 @@ pub(crate) fn frame_at(octets: &HeapCircularBuffer<u8>, place: usize) -> Control
         dlci: Dlci {
             number: address / 4,
         },
-        kind: kind_of(control),
+        kind: kind_of(control).unwrap_or(Kind::Uih),
         cr: address / 2 % 2 == 1,
         pf: control / 16 % 2 == 1,
         info,

@@ -1,5 +1,5 @@
 //! The frames that wait in the control queue.
-ghost use Rattle.std.specs.Prelude.{◌≡◌, ◌+◌, ◌≤◌, ◌++◌, ◌∷◌, ◌==◌, true, [], drop, length, nat_le, slice_get, option_map, IfOk, IfSome};
+ghost use Rattle.std.specs.Prelude.{◌≡◌, ◌≢◌, ◌+◌, ◌≤◌, ◌++◌, ◌∷◌, ◌==◌, true, [], drop, length, nat_le, slice_get, option_map, IfOk, Some};
 ghost use Rattle.std.specs.Borrow.{sem};
 ghost use Rattle.std.specs.Io.BufRead.{Rests};
 ghost use Rattle.mux_frame.specs.Frames.{frame_of};
@@ -103,21 +103,19 @@ impl ControlQueue {
         Some(self.looked_at.view())
     }
 
-    /// Takes the frame at the front out, and lends it.
-    pub fn take(&mut self) -> Option<FrameView<'_>>
-        ensures frame { option_map frame_of result ≡ slice_get self.old.frames 0 }
-        ensures short { IfSome result (λ f. length f.info.now ≤ 1024) }
+    /// Takes the frame at the front out, and lends it. The condition is that there is one.
+    pub fn take(&mut self) -> FrameView<'_>
+        requires { self.old.frames ≢ [] }
+        ensures frame { Some (frame_of result) ≡ slice_get self.old.frames 0 }
+        ensures short { length result.info.now ≤ 1024 }
         ensures* after { sem 𝓛
             (Rests the_row self.entry
             (λ new. new ≡ record self.old { frames = drop 1 self.old.frames })) }
     {
-        if self.count == 0 {
-            return None;
-        }
         self.looked_at = frame_at(&self.octets, 0);
         let length = self.looked_at.written_len();
         self.octets.truncate_front(self.octets.len() - length);
         self.count -= 1;
-        Some(self.looked_at.view())
+        self.looked_at.view()
     }
 }

@@ -60,9 +60,10 @@ pub fn turns()
     ensures sender { (v : Station) (past : List Act) → SeesTheTurn v past }
 {}
 
-/// After `next_frame` a station fits each past that it fitted, followed by what it gave on. A lawful and complete past stays so. The law
-/// takes a station because a station's numbers are in their ranges.
-#[tactic(auto, using(crate::proofs::turns::FramesGivenOn::gives_on))]
+/// What is next at a station may go out by each past that it fits. After `give` it fits that past, followed by what it
+/// gave on, and a lawful and complete past stays so. The law takes a station because a station's numbers are in their
+/// ranges.
+#[tactic(auto, using(crate::proofs::turns::NextData::gives_on))]
 pub fn givings(station: &crate::Station)
     ensures { GivesOn station.now }
 {

@@ -7,7 +7,7 @@
 //! - `station`, `role`, `error`: the two ends, and what is kept. `row`: their tables.
 //! - `calls`, `room`: what the user asks. `got`, `answers`, `noted`, `reading`, `message`: what comes. `tick`, `repeats`: time.
 //! - `channel`, `channels`: the connections. `control_queue`, `control_frame`, `control_octets`: connection 0.
-//! - `sending`, `outgoing`, `written`, `write_buffer`: what goes out.
+//! - `sending`, `turn`, `outgoing`, `written`, `write_buffer`: what goes out.
 //! - `laws`: of every history.
 #![tactic(auto)]
 
@@ -32,6 +32,7 @@ mod row;
 mod sending;
 mod station;
 mod tick;
+mod turn;
 mod write_buffer;
 pub mod written;
 
@@ -44,4 +45,5 @@ pub use reading::{msc_dlci, msc_stops};
 pub use role::{ChannelState, Role};
 pub use station::Station;
 pub use tick::{GivenUp, Noticed};
+pub use turn::Turn;
 pub use write_buffer::WriteBuffer;

@@ -1,18 +1,19 @@
 //! What a station gives to the line.
-ghost use Rattle.std.specs.Prelude.{◌≡◌, ◌-◌, ◌≤◌, ◌==◌, List, true, false, drop, is_some, length, option_map, slice_get, IfSome};
+ghost use Rattle.std.specs.Prelude.{◌≡◌, ◌≢◌, ◌-◌, ◌≤◌, ◌==◌, List, [], true, false, drop, length, option_map, slice_get, Some, IfSome};
 ghost use Rattle.std.specs.Borrow.{sem};
 ghost use Rattle.std.specs.Io.BufRead.{Rests};
 ghost use Rattle.mux_frame.specs.Frames.{frame_of};
 ghost use Rattle.mux_station.specs.Acts.{Act as Happened};
 ghost use Rattle.mux_station.specs.Fitting.{StationFits};
-ghost use Rattle.mux_station.specs.Giving.{first_ready, next_turn, next_sender, data_frame, data_given, next_given, station_after, SendsNext, Waits};
+ghost use Rattle.mux_station.specs.Giving.{first_ready, next_turn, turn_at, data_frame, data_given, next_given, station_after, GoesNext, Waits};
 ghost use Rattle.mux_station.specs.Sending.{queue};
 ghost use Rattle.mux_station.specs.Stations.{channel_at};
-ghost use Rattle.mux_station.specs.GivenFrames.{outgoing_of, with_freshness, dlci_of};
+ghost use Rattle.mux_station.specs.GivenFrames.{outgoing_of, with_freshness, dlci_of, as_turn};
 
 use crate::outgoing::Outgoing;
 use crate::role::Role;
 use crate::station::Station;
+use crate::turn::Turn;
 use mux_frame::{Dlci, FrameView, Kind};
 
 impl Station {
@@ -30,30 +31,44 @@ impl Station {
         self.channels.first_sender(from)
     }
 
-    /// The connection whose turn it is to send data.
-    fn next_turn(&self) -> Option<Dlci>
+    /// The connection whose turn it is to send data. Mostly none has data: so all are looked at first, and then those
+    /// above the last that sent some.
+    fn next_data(&self) -> Option<Dlci>
         ensures { option_map dlci_of result ≡ next_turn self.now }
     {
+        let least = self.first_ready(1)?;
         match self.first_ready(self.last + 1) {
             Some(dlci) => Some(dlci),
-            None => self.first_ready(1),
+            None => Some(least),
         }
     }
 
-    /// Data of the connection whose turn it is, lent.
-    fn next_data(&mut self) -> Option<Outgoing<'_>>
-        ensures frame { option_map outgoing_of result
-            ≡ option_map (with_freshness true) (option_map (data_frame self.old) (next_turn self.old)) }
-        ensures short { IfSome result (λ o. length o.frame.info.now ≤ 1024) }
-        ensures* after { sem 𝓛
-            (Rests the_row self.entry (λ new. new ≡ data_given self.old (next_turn self.old))) }
+    /// What goes out next: the first frame of the control queue, or, where that is empty, data of the connection whose
+    /// turn it is. `None` where nothing goes out.
+    pub fn next_turn(&self) -> Option<Turn>
+        ensures turn { option_map as_turn result ≡ turn_at self.now self.now.queue }
+        ensures past { (past : List Happened) → StationFits self.now past
+            → IfSome result (λ t. GoesNext self.now.role past (as_turn t)) }
     {
-        let dlci = self.next_turn()?;
+        if !self.control.is_empty() {
+            return Some(Turn::Control);
+        }
+        let dlci = self.next_data()?;
+        Some(Turn::Data(dlci))
+    }
+
+    /// Data of a connection, lent.
+    fn give_data(&mut self, dlci: Dlci) -> Outgoing<'_>
+        ensures frame { outgoing_of result ≡ with_freshness true (data_frame self.old dlci.number) }
+        ensures short { length result.frame.info.now ≤ 1024 }
+        ensures* after { sem 𝓛
+            (Rests the_row self.entry (λ new. new ≡ data_given self.old (Some dlci.number))) }
+    {
         let cr = matches!(self.role, Role::Initiator);
         let most = usize::from(self.n1.octets);
         self.last = dlci.number();
         let info = self.channels.take_front(dlci, most);
-        Some(Outgoing {
+        Outgoing {
             frame: FrameView {
                 dlci,
                 kind: Kind::Uih,
@@ -62,29 +77,45 @@ impl Station {
                 info,
             },
             fresh: true,
-        })
+        }
     }
 
-    /// The first frame of the control queue, lent.
-    fn next_control(&mut self) -> Option<Outgoing<'_>>
-        ensures frame { option_map outgoing_of result
+    /// The first frame of the control queue, lent. The condition is that there is one.
+    fn give_control(&mut self) -> Outgoing<'_>
+        requires { self.old.queue ≢ [] }
+        ensures frame { Some (outgoing_of result)
             ≡ option_map (with_freshness false) (slice_get self.old.queue 0) }
-        ensures short { IfSome result (λ o. length o.frame.info.now ≤ 1024) }
+        ensures short { length result.frame.info.now ≤ 1024 }
         ensures* after { sem 𝓛
             (Rests the_row self.entry
             (λ new. new ≡ record self.old { queue = drop 1 self.old.queue })) }
     {
-        let frame = self.control.take()?;
-        Some(Outgoing {
-            frame,
+        Outgoing {
+            frame: self.control.take(),
             fresh: false,
-        })
+        }
+    }
+
+    /// Takes out the frame whose turn it is, and lends it. The condition is that it is the turn that `next_turn` names.
+    /// The frame's information is at most 1024 octets. `laws::givings` says what this does to each past that the station
+    /// fits.
+    pub fn give(&mut self, turn: Turn) -> Outgoing<'_>
+        requires { turn_at self.old self.old.queue ≡ Some (as_turn turn) }
+        ensures frame { Some (outgoing_of result)
+            ≡ option_map (with_freshness (length self.old.queue == 0)) (next_given self.old self.old.queue) }
+        ensures short { length result.frame.info.now ≤ 1024 }
+        ensures* after { sem 𝓛
+            (Rests the_row self.entry (λ new. new ≡ station_after self.old self.old.queue)) }
+    {
+        match turn {
+            Turn::Control => self.give_control(),
+            Turn::Data(dlci) => self.give_data(dlci),
+        }
     }
 
     /// Takes out the next frame for the line and lends it: the first of the control queue, or, where that is empty,
     /// data of the connection whose turn it is. Its information is at most 1024 octets. `laws::givings` says what this
     /// does to each past that the station fits.
-    #[tactic(auto, using(crate::proofs::turns::ReadyConnections::next_data, crate::proofs::turns::ReadyConnections::after_data, crate::proofs::turns::ReadyConnections::next_control, crate::proofs::turns::ReadyConnections::after_control))]
     pub fn next_frame(&mut self) -> Option<Outgoing<'_>>
         ensures frame { option_map outgoing_of result
             ≡ option_map (with_freshness (length self.old.queue == 0)) (next_given self.old self.old.queue) }
@@ -92,33 +123,8 @@ impl Station {
         ensures* after { sem 𝓛
             (Rests the_row self.entry (λ new. new ≡ station_after self.old self.old.queue)) }
     {
-        if self.control.is_empty() {
-            self.next_data()
-        } else {
-            self.next_control()
-        }
-    }
-
-    /// Whether `next_frame` would give a frame.
-    #[tactic(auto, using(crate::proofs::turns::NextData::some_given))]
-    pub fn has_outgoing(&self) -> bool
-        ensures { result ≡ is_some (next_given self.now self.now.queue) }
-    {
-        !self.control.is_empty() || self.next_turn().is_some()
-    }
-
-    /// The connection whose data `next_frame` would give; `None` where it would give a control frame, or nothing. For a
-    /// caller that lends the frame on, and so can't look at it first.
-    #[tactic(auto, using(crate::proofs::turns::NextData::sender_alone))]
-    pub fn next_sender(&self) -> Option<Dlci>
-        ensures value { option_map dlci_of result ≡ next_sender self.now self.now.queue }
-        ensures past { (past : List Happened) → StationFits self.now past
-            → IfSome result (λ d. SendsNext self.now.role d.number past) }
-    {
-        if !self.control.is_empty() {
-            return None;
-        }
-        self.next_turn()
+        let turn = self.next_turn()?;
+        Some(self.give(turn))
     }
 
     /// How many octets wait in a connection's send ring.

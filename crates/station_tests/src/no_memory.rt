@@ -56,12 +56,14 @@ fn has_room(rt: &impl Abort, station: &Station) {
     assert!(rt; has_room);
 }
 
-// All that waits is given on.
+// All that waits is given on, by turns that are asked for and by others.
 fn give_all(station: &mut Station) {
-    for _ in 0..600 {
-        if station.next_frame().is_none() {
+    for _ in 0..300 {
+        let Some(turn) = station.next_turn() else {
             return;
-        }
+        };
+        let _ = station.give(turn);
+        let _ = station.next_frame();
     }
 }
 
@@ -102,7 +104,7 @@ fn open_all(rt: &impl Abort, station: &mut Station) {
 fn frames_come<R: Abort + Print>(rt: &R, station: &mut Station, one: Dlci, five: Dlci) {
     begin(
         rt,
-        "Station::open, Station::next_frame, Station::got, Station::has_room_for, Station::n1",
+        "Station::open, Station::next_frame, Station::give, Station::got, Station::has_room_for, Station::n1",
     );
     open_all(rt, station);
     is_told(rt, station, one, b"OK");
@@ -116,10 +118,10 @@ fn frames_come<R: Abort + Print>(rt: &R, station: &mut Station, one: Dlci, five:
 
 // Data waits on 1.
 fn data_waits<R: Abort + Print>(rt: &R, station: &mut Station, one: Dlci) {
-    begin(rt, "Station::offer, Station::has_outgoing");
-    assert!(rt; !station.has_outgoing());
+    begin(rt, "Station::offer, Station::next_turn");
+    assert!(rt; station.next_turn().is_none());
     offer_all(rt, station, one, b"AT+CSQ\r");
-    assert!(rt; station.has_outgoing());
+    assert!(rt; matches!(station.next_turn(), Some(Turn::Data(dlci)) if dlci == one));
     end(rt);
 }
 
@@ -134,11 +136,7 @@ fn is_seen<R: Abort + Print>(rt: &R, station: &Station, one: Dlci) {
 
 // What waits is looked at.
 fn waits<R: Abort + Print>(rt: &R, station: &Station, one: Dlci) {
-    begin(
-        rt,
-        "Station::next_sender, Station::waiting, Station::queue_len",
-    );
-    assert!(rt; station.next_sender().map(Dlci::number) == Some(1));
+    begin(rt, "Station::waiting, Station::queue_len");
     assert!(rt; station.waiting(one) > 1000);
     assert!(rt; station.queue_len() == 0);
     end(rt);

@@ -86,15 +86,15 @@ none_heard [] (o ∷ told) = none_heard [] told
 none_heard (f ∷ fs) told = none_heard fs told
 
 -- what the call told waits, and no line
-pub keeps_since : (a : Act) (old new : Core) (was now told : List Outcome) (us : List Urc) (room : ℕ) → ((xs : List Act) → outcomes_told (a ∷ xs) ≡ outcomes_told xs) → ((xs : List Act) → lines_heard (a ∷ xs) ≡ lines_heard xs)
-    → Adds was now told → Keeps (record { outcomes = was; lines = us; room = room }) (record { outcomes = now; lines = us; room = room }) (acts_since a old new told)
-keeps_since a old new was now told us room o h adds =
+pub keeps_since : (a : Act) (old new : Core) (was now told : List Outcome) (us : List Urc) → ((xs : List Act) → outcomes_told (a ∷ xs) ≡ outcomes_told xs) → ((xs : List Act) → lines_heard (a ∷ xs) ≡ lines_heard xs)
+    → Adds was now told → Keeps (record { outcomes = was; lines = us }) (record { outcomes = now; lines = us }) (acts_since a old new told)
+keeps_since a old new was now told us o h adds =
     let fs = drop (length old.station.queue) new.station.queue in
     let all : outcomes_told (acts_since a old new told) ≡ told = o (map Sent fs ++ map Told told) ∙ outcomes_since fs told in
     let none : lines_heard (acts_since a old new told) ≡ [] = h (map Sent fs ++ map Told told) ∙ none_heard fs told in
     record {
       outcomes = λ few. adds (subst (λ (os : List Outcome). length was + length os ≤ 128) all few) ∙ ap (λ (os : List Outcome). was ++ os) (sym all);
-      lines = λ fit. sym (append-nil (map heard_as us)) ∙ ap (λ (hs : List Act). map heard_as us ++ hs) (sym none);
+      lines = sym (append-nil (map heard_as us)) ∙ ap (λ (hs : List Act). map heard_as us ++ hs) (sym none);
     }
 
 -- ## A frame after a loss

@@ -1,7 +1,8 @@
 -- What is said of lines, whatever is listened to.
-use Rattle.std.specs.Prelude.{zero, suc, ◌≡◌, ℕ, ◌+◌, ◌≤◌, ◌↔◌, Bool, true, false, List, [], ◌∷◌, ◌++◌, ◌-◌, length, take, drop, refl, Option, option_map, Result, Ok, Err, OnOk, if◌then◌else◌}
+use Rattle.std.specs.Prelude.{suc, ◌≡◌, ℕ, ◌+◌, ◌≤◌, ◌↔◌, Bool, true, false, List, [], ◌∷◌, ◌++◌, ◌-◌, length, take, drop, refl, Option, option_map, Result, Ok, Err, OnOk, OnErr, if◌then◌else◌}
 use Rattle.std.specs.List.{Contains}
 use Rattle.std.proofs.Common.{ap, sym, ◌∙◌, subst, arith, append-nil, append_assoc, length-append}
+use Rattle.std.proofs.Math.Seq.{drop-append_seam}
 use Rattle.std.proofs.lemmas.List.{drop-drop, length-drop, take_all, take-append-drop}
 use Rattle.at_text.specs.declared.unsolicited.UrcKind.{UrcKind}
 use Rattle.at_text.specs.Dialects.{Dialect}
@@ -17,7 +18,9 @@ use Rattle.modem_core.specs.Lanes.{Lane, awaits_echo}
 use Rattle.modem_core.specs.Handing.{ReadsFrame, text_on, window_by}
 use Rattle.modem_queues.specs.Stops.{asker_of}
 use Rattle.modem_core.specs.Reports.{Listens, heard_by, said_as, said_lines, Read, after_all, read_on, read_each, ReadingView, ReadsAll, ReportSays}
+use Rattle.modem_history.specs.Kinds.{is_listened}
 use Rattle.modem_core.proofs.lines.LateLines.{reads_late}
+use Rattle.modem_core.proofs.sessions.steps.Kinds.{in_listened, listened_in}
 
 -- where nothing is said the acts stay as they are
 pub nothing_said : (r : ReadingView) (xs : List Act) → ReportSays r (λ listens. []) xs xs
@@ -173,10 +176,10 @@ pub on_ok : {A E : Type 0} (P Q : Type 0) (r : Result A E) → (P → Q) → OnO
 on_ok P Q (Ok a) f p = f p
 on_ok P Q (Err e) f p = tt
 
--- and what follows from two promises
-pub on_both : {A E : Type 0} (P Q R : Type 0) (r : Result A E) → (P → Q → R) → OnOk r P → OnOk r Q → OnOk r R
-on_both P Q R (Ok a) f p q = f p q
-on_both P Q R (Err e) f p q = tt
+-- what is so in any case is so where it fails
+pub on_err : {A E : Type 0} (P : Type 0) (r : Result A E) → P → OnErr r P
+on_err P (Ok a) p = tt
+on_err P (Err e) p = p
 
 -- ## What was said before
 
@@ -204,18 +207,43 @@ reading_in v d = record { dialect = dialect_in v; kinds = v.kinds; dlci = d; own
 abbrev pub text_lent : Core → ℕ → List ℕ
 text_lent v d = if awaits_echo (lane_at v d).under_way then text_on d v.hand else []
 
-reads_so : (v : Core) (f : Frame) (acts before : List Act) (lane : Lane) (more : List Act)
-    → ReadsAll (reading_in v f.dlci) f.info (record { kept = (lane_at v f.dlci).kept; window = window_by v.hand f.dlci (lane_at v f.dlci); acts = acts })
-    (record { kept = lane.kept; window = window_by v.hand f.dlci lane; acts = more }) → before ++ acts ≡ Got f ∷ []
-    → ReadsFrame v f lane (before ++ more)
-unfolding ReadsAll ReadsFrame led
-reads_so v f acts before lane more reads came listens h =
-    let window = window_by v.hand f.dlci (lane_at v f.dlci) in
-    let start : Read = record { kept = (lane_at v f.dlci).kept; window = window; acts = acts } in
-    let owner = option_map asker_of (first_on f.dlci v.hand) in
-    ap (led before) (reads listens h)
-    ∙ (sym (each_led (dialect_in v) listens f.dlci owner before start f.info)
-    ∙ ap (λ (xs : List Act). let w : Read = record { kept = (lane_at v f.dlci).kept; window = window; acts = xs } in read_each (dialect_in v) listens f.dlci owner w f.info) came)
+-- a frame is read, and behind what was said before stands what is said of it
+pub record FrameSays (v : Core) (f : Frame) (lane : Lane) (was now : List Act) : Type 0 where
+  pub said : List Act
+  pub now_is : now ≡ was ++ said
+  pub reads : ReadsFrame v f lane (Got f ∷ said)
+
+reads_so : (v : Core) (f : Frame) (lane : Lane) (was now : List Act)
+    → ReadsAll (reading_in v f.dlci) f.info (record { kept = (lane_at v f.dlci).kept; window = window_by v.hand f.dlci (lane_at v f.dlci); acts = was })
+    (record { kept = lane.kept; window = window_by v.hand f.dlci lane; acts = now }) → FrameSays v f lane was now
+unfolding ReadsAll ReadsFrame Listens led
+reads_so v f lane was now reads = record {
+  said = drop (length was) now;
+  now_is = ap (λ (r : Read). r.acts) (last (is_listened v.kinds) (λ kind. (listened_in v.kinds kind, in_listened v.kinds kind))) ∙ ap (λ (xs : List Act). was ++ xs) (sym (behind (is_listened v.kinds) (λ kind. (listened_in v.kinds kind, in_listened v.kinds kind))));
+  reads = λ listens h.
+      let r = end listens in
+      ap (λ (x : Read). let y : Read = record { kept = x.kept; window = x.window; acts = Got f ∷ drop (length was) x.acts } in y) (last listens h)
+      ∙ (ap (λ (xs : List Act). let y : Read = record { kept = r.kept; window = r.window; acts = Got f ∷ xs } in y) (drop-append_seam was r.acts)
+      ∙ sym (each_led (dialect_in v) listens f.dlci owner (Got f ∷ []) start f.info));
+}
+  where
+    owner : Option Asker
+    owner = option_map asker_of (first_on f.dlci v.hand)
+
+    start : Read
+    start = record { kept = (lane_at v f.dlci).kept; window = window_by v.hand f.dlci (lane_at v f.dlci); acts = [] }
+
+    end : (UrcKind → Bool) → Read
+    end listens = read_each (dialect_in v) listens f.dlci owner start f.info
+
+    last : (listens : UrcKind → Bool) → ((kind : UrcKind) → (listens kind ≡ true) ↔ Contains v.kinds kind) → (let x : Read = record { kept = lane.kept; window = window_by v.hand f.dlci lane; acts = now } in x ≡ led was (end listens))
+    last listens h =
+        reads listens h
+        ∙ (ap (λ (xs : List Act). let x : Read = record start { acts = xs } in read_each (dialect_in v) listens f.dlci owner x f.info) (sym (append-nil was))
+        ∙ each_led (dialect_in v) listens f.dlci owner was start f.info)
+
+    behind : (listens : UrcKind → Bool) → ((kind : UrcKind) → (listens kind ≡ true) ↔ Contains v.kinds kind) → drop (length was) now ≡ (end listens).acts
+    behind listens h = ap (λ (r : Read). drop (length was) r.acts) (last listens h) ∙ drop-append_seam was (end listens).acts
 
 -- with the text that is lent as with the command's own
 own_text : (r : ReadingView) (octets text own : List ℕ) (was now : Option UnderWay) (kept left : List ℕ) (acts more : List Act) (b : Bool) → awaits_echo was ≡ b → text ≡ (if b then own else [])
@@ -226,14 +254,14 @@ own_text r octets text own was now kept left acts more true e t reads =
 own_text r octets text own was now kept left acts more false e t reads = reads_late r octets text own was now kept left acts more e reads
 
 -- a frame is read from what is kept of its connection, with the text of the first command in hand there where an echo may come
-pub reads_frame : (v : Core) (f : Frame) (kinds : List UrcKind) (text : List ℕ) (acts before : List Act) (lane : Lane) (more : List Act) → kinds ≡ v.kinds → text ≡ text_lent v f.dlci
-    → ReadsAll (record (reading_in v f.dlci) { kinds = kinds }) f.info (record { kept = (lane_at v f.dlci).kept; window = window_of text (lane_at v f.dlci).under_way; acts = acts })
-    (record { kept = lane.kept; window = window_of text lane.under_way; acts = more }) → before ++ acts ≡ Got f ∷ [] → ReadsFrame v f lane (before ++ more)
-reads_frame v f kinds text acts before lane more same t reads came =
-    let was = (lane_at v f.dlci).under_way in
+pub reads_frame : (v : Core) (f : Frame) (kinds : List UrcKind) (text : List ℕ) (lane : Lane) (was now : List Act) → kinds ≡ v.kinds → text ≡ text_lent v f.dlci
+    → ReadsAll (record (reading_in v f.dlci) { kinds = kinds }) f.info (record { kept = (lane_at v f.dlci).kept; window = window_of text (lane_at v f.dlci).under_way; acts = was })
+    (record { kept = lane.kept; window = window_of text lane.under_way; acts = now }) → FrameSays v f lane was now
+reads_frame v f kinds text lane was now same t reads =
+    let under_way = (lane_at v f.dlci).under_way in
     let kept = (lane_at v f.dlci).kept in
-    let start : Read = record { kept = kept; window = window_of text was; acts = acts } in
-    let last : Read = record { kept = lane.kept; window = window_of text lane.under_way; acts = more } in
-    reads_so v f acts before lane more
-    (own_text (reading_in v f.dlci) f.info text (text_on f.dlci v.hand) was lane.under_way kept lane.kept acts more (awaits_echo was) refl t
-    (subst (λ (x : List UrcKind). ReadsAll (record (reading_in v f.dlci) { kinds = x }) f.info start last) same reads)) came
+    let start : Read = record { kept = kept; window = window_of text under_way; acts = was } in
+    let last : Read = record { kept = lane.kept; window = window_of text lane.under_way; acts = now } in
+    reads_so v f lane was now
+    (own_text (reading_in v f.dlci) f.info text (text_on f.dlci v.hand) under_way lane.under_way kept lane.kept was now (awaits_echo under_way) refl t
+    (subst (λ (x : List UrcKind). ReadsAll (record (reading_in v f.dlci) { kinds = x }) f.info start last) same reads))

@@ -1,10 +1,9 @@
--- An answer that is whole stands in its window until the frame is settled: what is said meanwhile.
-use Rattle.std.specs.Prelude.{suc, ◌≡◌, ℕ, ◌+◌, ◌||◌, ◌&&◌, Bool, true, false, List, [], ◌∷◌, ◌++◌, length, map, refl, Option, None, Some, position, slice_index_or, slice_set, is_some, is_none, ◌⊎◌, if◌then◌else◌}
-use Rattle.std.specs.List.{position_from, list_any}
+-- An answer that is whole stands in its window until the lane is settled: what is said meanwhile.
+use Rattle.std.specs.Prelude.{◌≡◌, ℕ, ◌≤◌, ◌&&◌, Bool, true, false, List, [], ◌∷◌, ◌++◌, length, map, take, drop, refl, Option, None, Some, is_some, is_none, Result, Ok, Err, OnOk, OnErr, ◌⊎◌, if◌then◌else◌}
+use Rattle.std.specs.List.{insert}
 use Rattle.std.proofs.Common.{ap, sym, ◌∙◌, subst, arith, inl, inr}
-use Rattle.std.proofs.lemmas.Iterator.Adapters.{position_from-zero}
-use Rattle.std.proofs.lemmas.List.{append_assoc, length-map}
-use Rattle.std.proofs.lemmas.List.Folds.{list_any-append}
+use Rattle.std.proofs.Math.Seq.{take-length, drop-length}
+use Rattle.std.proofs.lemmas.List.{append_assoc, append-nil, drop-append-le, length-take, take-append-drop, take-append-le, take-map, drop-map, map-append}
 use Rattle.at_text.specs.declared.answer.AnswerLine.{AnswerLine}
 use Rattle.at_text.specs.declared.unsolicited.UrcKind.{UrcKind}
 use Rattle.at_text.specs.declared.unsolicited.UrcKind.TheVariants.{Other}
@@ -12,128 +11,108 @@ use Rattle.at_text.specs.declared.under_way.Placed.{Placed}
 use Rattle.at_text.specs.declared.under_way.Placed.TheVariants as is
 use Rattle.at_text.specs.declared.window.Seen as line_is
 use Rattle.at_text.specs.Dialects.{Dialect, is_solicited}
-use Rattle.at_text.specs.Seeing.{by_kind}
 use Rattle.at_text.specs.OpenWindow.{OpenWindow, seen_by, after_line}
 use Rattle.at_text.specs.UnderWay.{UnderWay, window_of}
-use Rattle.at_text.specs.InPlace.{lines_so_far, Grows, GrowsOn}
+use Rattle.at_text.specs.InPlace.{lines_so_far, left_where, placed_as, placed_by, said_where, Grows, GrowsOn}
+use Rattle.at_text.specs.Lines.{lines, kept_run}
+use Rattle.at_text.specs.Seeing.{by_kind}
+use Rattle.at_text.proofs.lines.UnfinishedLines.{reads_on}
 use Rattle.modem_history.specs.declared.act.Act as code
-use Rattle.modem_history.specs.Acts.{act_of, Act, Heard}
+use Rattle.modem_history.specs.Acts.{Act, Told, act_of}
 use Rattle.modem_queues.specs.declared.asker.Asker.{Asker}
+use Rattle.modem_core.specs.declared.settling.Answered.{Answered}
+use Rattle.modem_core.specs.declared.settling.Whole.{Whole}
 use Rattle.modem_core.specs.Lanes.{Lane}
-use Rattle.modem_core.specs.Reports.{done_by, heard_by, said_as, Read, ReadingView, ReportSays}
-use Rattle.modem_core.specs.Settling.{tells_lines, filled, filled_first, settled, settled_lane, settled_window, settled_acts, SaysPlaced}
-use Rattle.modem_core.proofs.lines.ReportedLines.{nothing_said, said_so}
+use Rattle.modem_core.specs.Reports.{done_by, heard_by, said_as, Read, ReadingView, ReadsAll, ReportSays}
+use Rattle.modem_core.specs.Settling.{said_acts, settled, settled_lane, with_told, with_whole, SaysPlaced, Stands, StartsWith}
+use Rattle.modem_core.proofs.lines.ReportedLines.{line_ends, nothing_said, said_so}
 
--- ## Acts of which the first that tells an answer gets its lines
+-- ## Lists that grow
 
--- acts that tell no answer stay as they are
-pub filled_none : (ls : List AnswerLine) (xs : List Act) → list_any tells_lines xs ≡ false → filled_first ls xs ≡ xs
-filled_none ls [] h = refl
-filled_none ls (x ∷ xs) h = by_test (tells_lines x) h (filled_none ls xs)
-  where
-    by_test : (b : Bool) → (b || list_any tells_lines xs) ≡ false → (list_any tells_lines xs ≡ false → filled_first ls xs ≡ xs) → (if b then filled ls x ∷ xs else x ∷ filled_first ls xs) ≡ x ∷ xs
-    by_test true e f = cc
-    by_test false e f = ap (λ (ys : List Act). x ∷ ys) (f e)
+-- what starts another isn't longer
+pub starts_long : (was new : List Act) → StartsWith was new → length was ≤ length new
+starts_long was new s =
+    let many : length (take (length was) new) ≡ length was = ap length s in
+    let few = length-take (length was) new in
+    omega (arith, many, few)
 
--- behind acts that tell none the first answer gets its lines
-pub filled_behind : (ls : List AnswerLine) (xs ys : List Act) → list_any tells_lines xs ≡ false → filled_first ls (xs ++ ys) ≡ xs ++ filled_first ls ys
-filled_behind ls [] ys h = refl
-filled_behind ls (x ∷ xs) ys h = by_test (tells_lines x) h (filled_behind ls xs ys)
-  where
-    by_test : (b : Bool) → (b || list_any tells_lines xs) ≡ false → (list_any tells_lines xs ≡ false → filled_first ls (xs ++ ys) ≡ xs ++ filled_first ls ys)
-        → (if b then filled ls x ∷ (xs ++ ys) else x ∷ filled_first ls (xs ++ ys)) ≡ x ∷ (xs ++ filled_first ls ys)
-    by_test true e f = cc
-    by_test false e f = ap (λ (zs : List Act). x ∷ zs) (f e)
+-- a list with more behind it still starts so
+pub starts_more : (was old more new : List Act) → new ≡ old ++ more → StartsWith was old → StartsWith was new
+starts_more was old more new e s = ap (take (length was)) e ∙ (take-append-le (length was) old more (starts_long was old s) ∙ s)
 
--- acts behind that tell none stay as they are
-pub filled_more : (ls : List AnswerLine) (xs ys : List Act) → list_any tells_lines ys ≡ false → filled_first ls (xs ++ ys) ≡ filled_first ls xs ++ ys
-filled_more ls [] ys h = filled_none ls ys h
-filled_more ls (x ∷ xs) ys h = by_test (tells_lines x) (filled_more ls xs ys h)
-  where
-    by_test : (b : Bool) → filled_first ls (xs ++ ys) ≡ filled_first ls xs ++ ys
-        → (if b then filled ls x ∷ (xs ++ ys) else x ∷ filled_first ls (xs ++ ys)) ≡ (if b then filled ls x ∷ xs else x ∷ filled_first ls xs) ++ ys
-    by_test true e = refl
-    by_test false e = ap (λ (zs : List Act). x ∷ zs) e
+-- so it does where a line is heard behind it, or none
+pub starts_on : {A E : Type 0} (r : Result A E) (was old new : List Act) (a : Act) → OnOk r (new ≡ old ++ a ∷ []) → OnErr r (new ≡ old) → StartsWith was old → StartsWith was new
+starts_on (Ok x) was old new a e f s = starts_more was old (a ∷ []) new e s
+starts_on (Err x) was old new a e f s = subst (StartsWith was) (sym f) s
 
-done_filled : (ls : List AnswerLine) (owner : Option Asker) → filled_first ls (done_by owner []) ≡ done_by owner ls
-done_filled ls None = refl
-done_filled ls (Some o) = refl
-
-heard_quiet : (b : Bool) (kind : UrcKind) (d : ℕ) (line : List ℕ) → list_any tells_lines (if b then Heard kind d line ∷ [] else []) ≡ false
-heard_quiet true kind d line = refl
-heard_quiet false kind d line = refl
-
--- a line that is heard tells no answer
-pub heard_untold : (kind : UrcKind) (d : ℕ) (line : List ℕ) (old new : List Act) → new ≡ old ++ Heard kind d line ∷ [] → list_any tells_lines old ≡ false → list_any tells_lines new ≡ false
-heard_untold kind d line old new e h = ap (list_any tells_lines) e ∙ (list_any-append tells_lines old (Heard kind d line ∷ []) ∙ ap (λ (b : Bool). b || false) h)
-
-behind_quiet : (listens : UrcKind → Bool) (d : ℕ) (owner : Option Asker) (line : List ℕ) (kind : Option UrcKind) → list_any tells_lines (said_as listens d owner line (by_kind kind line_is.TheVariants.Other)) ≡ false
-behind_quiet listens d owner line None = heard_quiet (listens Other) Other d line
-behind_quiet listens d owner line (Some kind) = heard_quiet (listens kind) kind d line
-
-filled_many : (ls : List AnswerLine) (xs : List Act) → length (filled_first ls xs) ≡ length xs
-filled_many ls [] = refl
-filled_many ls (x ∷ xs) = by_test (tells_lines x) (filled_many ls xs)
-  where
-    by_test : (b : Bool) → length (filled_first ls xs) ≡ length xs → length (if b then filled ls x ∷ xs else x ∷ filled_first ls xs) ≡ suc (length xs)
-    by_test true e = refl
-    by_test false e = ap suc e
-
-settled_many : (whole : Bool) (w : Option OpenWindow) (xs : List Act) → length (settled_acts whole w xs) ≡ length xs
-settled_many true w xs = filled_many (lines_so_far w) xs
-settled_many false w xs = refl
-
--- room for so many acts is room for them once they are settled
-pub settled_room : (HasRoom : ℕ → Type 0) (whole : Bool) (w : Option OpenWindow) (read settled : List code.Act) → map act_of settled ≡ settled_acts whole w (map act_of read) → HasRoom (length read) → HasRoom (length settled)
-settled_room HasRoom whole w read settled e enough =
-    let many = settled_many whole w (map act_of read) in
-    let before : length (map act_of read) ≡ length read = length-map read act_of in
-    let behind : length (map act_of settled) ≡ length settled = length-map settled act_of in
-    let same : length (map act_of settled) ≡ length (settled_acts whole w (map act_of read)) = ap length e in
-    subst HasRoom (sym before ∙ (sym many ∙ (sym same ∙ behind))) enough
+-- an answer that stands behind lines stands so behind more
+pub stands_more : (answer : Option ℕ) (w : Option OpenWindow) (old new : List Act) → StartsWith old new → Stands answer w old → Stands answer w new
+stands_more None w old new s a = tt
+stands_more (Some n) w old new s a = record { opened = a.opened; within = (let long = starts_long old new s in let few = a.within in omega (arith, long, few)) }
 
 -- ## What a placed line says
 
 -- an echo, or a line that an answer keeps, says nothing
-pub quiet_placed : (r : ReadingView) (line : List ℕ) (placed : Placed) (w : Option OpenWindow) (acts : List Act) (whole : Bool) → whole ≡ false → (placed ≡ is.Echo) ⊎ (placed ≡ is.Kept) → SaysPlaced r line placed w acts whole acts
-quiet_placed r line placed w acts whole n (inl e) =
-    subst (λ (p : Placed). SaysPlaced r line p w acts whole acts) (sym e)
-    (subst (λ (b : Bool). SaysPlaced r line is.Echo w acts b acts) (sym n) (record { window_is = refl; says = λ u. nothing_said r acts; untold = λ u t. u }))
-quiet_placed r line placed w acts whole n (inr e) =
-    subst (λ (p : Placed). SaysPlaced r line p w acts whole acts) (sym e)
-    (subst (λ (b : Bool). SaysPlaced r line is.Kept w acts b acts) (sym n) (record { window_is = refl; says = λ u. nothing_said r acts; untold = λ u t. u }))
+pub quiet_placed : (r : ReadingView) (line : List ℕ) (placed : Placed) (w : Option OpenWindow) (heard : List Act) (answer : Option ℕ) → answer ≡ None → (placed ≡ is.Echo) ⊎ (placed ≡ is.Kept) → SaysPlaced r line placed w heard answer heard
+quiet_placed r line placed w heard answer n (inl e) =
+    subst (λ (p : Placed). SaysPlaced r line p w heard answer heard) (sym e)
+    (subst (λ (a : Option ℕ). SaysPlaced r line is.Echo w heard a heard) (sym n) (record { window_is = refl; says = nothing_said r heard; stands = λ o. tt }))
+quiet_placed r line placed w heard answer n (inr e) =
+    subst (λ (p : Placed). SaysPlaced r line p w heard answer heard) (sym e)
+    (subst (λ (a : Option ℕ). SaysPlaced r line is.Kept w heard a heard) (sym n) (record { window_is = refl; says = nothing_said r heard; stands = λ o. tt }))
 
 -- an unsolicited line is heard, where its kind is listened to
-pub unsolicited_placed : (r : ReadingView) (line : List ℕ) (placed : Placed) (kind : UrcKind) (w : Option OpenWindow) (old new : List Act) (whole : Bool) → whole ≡ false → placed ≡ is.Unsolicited kind
-    → ReportSays r (λ listens. heard_by listens r.dlci kind line) old new → (list_any tells_lines old ≡ false → list_any tells_lines new ≡ false) → SaysPlaced r line placed w old whole new
-unsolicited_placed r line placed kind w old new whole n e says untold =
-    subst (λ (p : Placed). SaysPlaced r line p w old whole new) (sym e)
-    (subst (λ (b : Bool). SaysPlaced r line (is.Unsolicited kind) w old b new) (sym n) (record { window_is = refl; says = λ u. says; untold = λ u t. untold u }))
+pub unsolicited_placed : (r : ReadingView) (line : List ℕ) (placed : Placed) (kind : UrcKind) (w : Option OpenWindow) (old new : List Act) (answer : Option ℕ) → answer ≡ None → placed ≡ is.Unsolicited kind
+    → ReportSays r (λ listens. heard_by listens r.dlci kind line) old new → SaysPlaced r line placed w old answer new
+unsolicited_placed r line placed kind w old new answer n e says =
+    subst (λ (p : Placed). SaysPlaced r line p w old answer new) (sym e)
+    (subst (λ (a : Option ℕ). SaysPlaced r line (is.Unsolicited kind) w old a new) (sym n) (record { window_is = refl; says = says; stands = λ o. tt }))
 
 -- any other line is heard, where Other is listened to
-pub other_placed : (r : ReadingView) (line : List ℕ) (placed : Placed) (w : Option OpenWindow) (old new : List Act) (whole : Bool) → whole ≡ false → placed ≡ is.Other
-    → ReportSays r (λ listens. heard_by listens r.dlci Other line) old new → (list_any tells_lines old ≡ false → list_any tells_lines new ≡ false) → SaysPlaced r line placed w old whole new
-other_placed r line placed w old new whole n e says untold =
-    subst (λ (p : Placed). SaysPlaced r line p w old whole new) (sym e)
-    (subst (λ (b : Bool). SaysPlaced r line is.Other w old b new) (sym n) (record { window_is = refl; says = λ u. says; untold = λ u t. untold u }))
+pub other_placed : (r : ReadingView) (line : List ℕ) (placed : Placed) (w : Option OpenWindow) (old new : List Act) (answer : Option ℕ) → answer ≡ None → placed ≡ is.Other
+    → ReportSays r (λ listens. heard_by listens r.dlci Other line) old new → SaysPlaced r line placed w old answer new
+other_placed r line placed w old new answer n e says =
+    subst (λ (p : Placed). SaysPlaced r line p w old answer new) (sym e)
+    (subst (λ (a : Option ℕ). SaysPlaced r line is.Other w old a new) (sym n) (record { window_is = refl; says = says; stands = λ o. tt }))
 
--- the line that makes an answer whole tells it, as yet without lines
-pub whole_placed : (r : ReadingView) (line : List ℕ) (placed : Placed) (w : Option OpenWindow) (old new : List Act) → placed ≡ is.Whole → new ≡ old ++ done_by r.owner [] → SaysPlaced r line placed w old true new
-whole_placed r line placed w old new e told =
-    subst (λ (p : Placed). SaysPlaced r line p w old true new) (sym e) (record {
+-- an answer that comes behind all that is heard so far
+told_last : (owner : Option Asker) (ls : List AnswerLine) (heard : List Act) → said_acts owner ls (Some (length heard)) heard ≡ heard ++ done_by owner ls
+told_last owner ls heard =
+    ap (λ (xs : List Act). xs ++ (done_by owner ls ++ drop (length heard) heard)) (take-length heard)
+    ∙ ap (λ (xs : List Act). heard ++ xs) (ap (λ (xs : List Act). done_by owner ls ++ xs) (drop-length heard) ∙ append-nil (done_by owner ls))
+
+-- the line that makes an answer whole tells it
+pub whole_placed : (r : ReadingView) (line : List ℕ) (placed : Placed) (w : Option OpenWindow) (heard : List Act) (n : ℕ) → placed ≡ is.Whole → n ≡ length heard → SaysPlaced r line placed w heard (Some n) heard
+whole_placed r line placed w heard n e many =
+    subst (λ (p : Placed). SaysPlaced r line p w heard (Some n) heard) (sym e)
+    (subst (λ (k : ℕ). SaysPlaced r line is.Whole w heard (Some k) heard) (sym many) (record {
       window_is = refl;
-      says = λ u. said_so r (done_by r.owner (lines_so_far w)) old (filled_first (lines_so_far w) new)
-          (ap (filled_first (lines_so_far w)) told ∙ (filled_behind (lines_so_far w) old (done_by r.owner []) u ∙ ap (λ (xs : List Act). old ++ xs) (done_filled (lines_so_far w) r.owner)));
-      untold = λ u t. cc;
-    })
+      says = said_so r (done_by r.owner (lines_so_far w)) heard (said_acts r.owner (lines_so_far w) (Some (length heard)) heard) (told_last r.owner (lines_so_far w) heard);
+      stands = λ opened. record { opened = opened refl; within = omega arith };
+    }))
+
+-- a line makes an answer whole only where a window is open
+pub whole_opened : (dialect : Dialect) (w : Option OpenWindow) (line : List ℕ) (placed : Placed) → placed ≡ placed_by dialect w line → placed ≡ is.Whole → is_some w ≡ true
+whole_opened dialect (Some o) line placed e h = refl
+whole_opened dialect None line placed e h = absurd (by_kind_none (dialect.kind_of line) (sym h ∙ e))
+  where
+    by_kind_none : (kind : Option UrcKind) → is.Whole ≡ placed_as (by_kind kind line_is.TheVariants.Other) → ⊥
+    by_kind_none None e = cc
+    by_kind_none (Some kind) e = cc
+
+said_more : (owner : Option Asker) (ls : List AnswerLine) (n : ℕ) (old more : List Act) → n ≤ length old → said_acts owner ls (Some n) (old ++ more) ≡ said_acts owner ls (Some n) old ++ more
+said_more owner ls n old more few =
+    ap (λ (xs : List Act). xs ++ (done_by owner ls ++ drop n (old ++ more))) (take-append-le n old more few)
+    ∙ (ap (λ (xs : List Act). take n old ++ (done_by owner ls ++ xs)) (drop-append-le n old more few)
+    ∙ (ap (λ (xs : List Act). take n old ++ xs) (sym (append_assoc (done_by owner ls) (drop n old) more))
+    ∙ sym (append_assoc (take n old) (done_by owner ls ++ drop n old) more)))
 
 -- a line behind an answer that is whole
-pub behind_says : (r : ReadingView) (line : List ℕ) (w : Option OpenWindow) (old new : List Act) → ReportSays r (λ listens. said_as listens r.dlci r.owner line (seen_by r.dialect None line)) old new
-    → ReportSays r (λ listens. said_as listens r.dlci r.owner line (seen_by r.dialect None line)) (settled_acts true w old) (settled_acts true w new)
+pub behind_says : (r : ReadingView) (ls : List AnswerLine) (said : (UrcKind → Bool) → List Act) (answer : Option ℕ) (w : Option OpenWindow) (old new : List Act) → is_some answer ≡ true → Stands answer w old → ReportSays r said old new
+    → ReportSays r said (said_acts r.owner ls answer old) (said_acts r.owner ls answer new)
 unfolding ReportSays
-behind_says r line w old new says listens h =
-    ap (filled_first (lines_so_far w)) (says listens h)
-    ∙ filled_more (lines_so_far w) old (said_as listens r.dlci r.owner line (seen_by r.dialect None line)) (behind_quiet listens r.dlci r.owner line (r.dialect.kind_of line))
+behind_says r ls said None w old new e a says listens h = cc
+behind_says r ls said (Some n) w old new e a says listens h = ap (said_acts r.owner ls (Some n)) (says listens h) ∙ said_more r.owner ls n old (said listens) a.within
 
 either : (b : Bool) (w : Option OpenWindow) → w ≡ (if b then w else w)
 either true w = refl
@@ -142,6 +121,22 @@ either false w = refl
 -- a line opens no window
 pub none_after : (dialect : Dialect) (line : List ℕ) → None ≡ after_line dialect None line
 none_after dialect line = either (is_solicited dialect line) None
+
+-- octets that end a line behind an answer that is whole
+pub line_behind : (r : ReadingView) (octets l was kept : List ℕ) (w : Option OpenWindow) (answer : Option ℕ) (old new : List Act) → is_some answer ≡ true → Stands answer w old → was ≡ kept_run was → lines (was ++ octets) ≡ l ∷ [] → kept ≡ kept_run (was ++ octets)
+    → ReportSays r (λ listens. said_as listens r.dlci r.owner l (seen_by r.dialect None l)) old new → ReadsAll r octets (settled r.owner was w answer old) (settled r.owner kept w answer new)
+line_behind r octets l was kept w None old new e a before ends k says = cc
+line_behind r octets l was kept w (Some n) old new e a before ends k says =
+    line_ends r (settled r.owner was w (Some n) old) (settled r.owner kept w (Some n) new) octets l reads_on before ends k (none_after r.dialect l)
+    (behind_says r (lines_so_far w) (λ listens. said_as listens r.dlci r.owner l (seen_by r.dialect None l)) (Some n) w old new refl a says)
+
+-- octets that end a line, before which no answer is whole
+pub line_placed : (r : ReadingView) (octets l was kept : List ℕ) (w v : Option OpenWindow) (placed : Placed) (before after : Option ℕ) (old new : List Act) → is_some before ≡ false → was ≡ kept_run was → lines (was ++ octets) ≡ l ∷ [] → kept ≡ kept_run (was ++ octets)
+    → after_line r.dialect w l ≡ left_where placed v → seen_by r.dialect w l ≡ said_where placed v → SaysPlaced r l placed v old after new → ReadsAll r octets (settled r.owner was w before old) (settled r.owner kept v after new)
+line_placed r octets l was kept w v placed (Some n) after old new e so_far ends k left said s = cc
+line_placed r octets l was kept w v placed None after old new e so_far ends k left said s =
+    line_ends r (settled r.owner was w None old) (settled r.owner kept v after new) octets l reads_on so_far ends k (s.window_is ∙ sym left)
+    (subst (λ (x : line_is.Seen). ReportSays r (λ listens. said_as listens r.dlci r.owner l x) old (said_acts r.owner (lines_so_far v) after new)) (sym said) s.says)
 
 -- ## A window that grows
 
@@ -161,79 +156,51 @@ grown_on (Some o) b c g h =
       window_is = after.window_is ∙ ap (λ (ls : List AnswerLine). Some (record { command = o.command; lines = ls; fresh = after.fresh })) (append_assoc o.lines g.more after.more);
     }
 
--- a command was under way and is no more where its answer is whole
-pub settled_done : (command : List ℕ) (was now : Option UnderWay) (whole : Bool) → Grows (window_of command was) (window_of command now) → (whole && is_some now) ≡ (is_some was && is_none (if whole then None else now))
+-- a window that grows stays open
+pub grown_opened : (a b : Option OpenWindow) → Grows a b → is_some a ≡ true → is_some b ≡ true
 unfolding Grows
-settled_done command None None true e = refl
-settled_done command None None false e = refl
-settled_done command None (Some u) whole e = cc
-settled_done command (Some u) None whole g = let none = g.window_is in cc
-settled_done command (Some u) (Some v) true g = refl
-settled_done command (Some u) (Some v) false g = refl
+grown_opened None b g h = cc
+grown_opened (Some o) b g h = ap is_some g.window_is
 
-settled_with : (command : List ℕ) (whole : Bool) (u : Option UnderWay) → settled_window whole (window_of command u) ≡ window_of command (if whole then None else u)
+-- an answer is whole where its command was under way and is no more once the lane is settled
+pub settled_done : (command : List ℕ) (was now : Option UnderWay) (answer : Option ℕ) (heard : List Act) → Grows (window_of command was) (window_of command now) → Stands answer (window_of command now) heard
+    → is_some answer ≡ (is_some was && is_none (if is_some answer then None else now))
+unfolding Grows
+settled_done command None None None heard g a = refl
+settled_done command None None (Some n) heard g a = let opened = a.opened in cc
+settled_done command None (Some u) answer heard g a = cc
+settled_done command (Some u) None answer heard g a = let none = g.window_is in cc
+settled_done command (Some u) (Some v) None heard g a = refl
+settled_done command (Some u) (Some v) (Some n) heard g a = refl
+
+settled_with : (command : List ℕ) (b : Bool) (u : Option UnderWay) → (if b then None else window_of command u) ≡ window_of command (if b then None else u)
 settled_with command true u = refl
 settled_with command false u = refl
 
 -- a lane that is settled keeps what was read
-pub settled_read : (command : List ℕ) (whole : Bool) (lane new : Lane) (acts more : List Act) → new ≡ settled_lane whole lane → more ≡ settled_acts whole (window_of command lane.under_way) acts
-    → (let v : Read = record { kept = new.kept; window = window_of command new.under_way; acts = more } in settled lane.kept (window_of command lane.under_way) whole acts ≡ v)
-settled_read command whole lane new acts more e a =
-    let told = settled_acts whole (window_of command lane.under_way) acts in
-    ap (λ (w : Option OpenWindow). let v : Read = record { kept = lane.kept; window = w; acts = told } in v) (settled_with command whole lane.under_way)
-    ∙ (ap (λ (l : Lane). let v : Read = record { kept = l.kept; window = window_of command l.under_way; acts = told } in v) (sym e)
+pub settled_read : (command : List ℕ) (owner : Option Asker) (answer : Option ℕ) (lane new : Lane) (heard more : List Act) → new ≡ settled_lane answer lane → more ≡ said_acts owner (lines_so_far (window_of command lane.under_way)) answer heard
+    → (let v : Read = record { kept = new.kept; window = window_of command new.under_way; acts = more } in settled owner lane.kept (window_of command lane.under_way) answer heard ≡ v)
+settled_read command owner answer lane new heard more e a =
+    let said = said_acts owner (lines_so_far (window_of command lane.under_way)) answer heard in
+    ap (λ (w : Option OpenWindow). let v : Read = record { kept = lane.kept; window = w; acts = said } in v) (settled_with command (is_some answer) lane.under_way)
+    ∙ (ap (λ (l : Lane). let v : Read = record { kept = l.kept; window = window_of command l.under_way; acts = said } in v) (sym e)
     ∙ ap (λ (xs : List Act). let v : Read = record { kept = new.kept; window = window_of command new.under_way; acts = xs } in v) (sym a))
 
--- ## The first answer among acts of the program
+-- ## An answer that is told
 
-record FilledAt (ls : List AnswerLine) (acts : List code.Act) (k i : ℕ) : Type 0 where
-  place : ℕ
-  is_at : i ≡ k + place
-  left : (a b : code.Act) → act_of a ≡ filled ls (act_of b) → b ≡ slice_index_or acts place b → map act_of (slice_set acts place a) ≡ filled_first ls (map act_of acts)
+-- the way back: only those first ones are left
+pub heard_back : (was mid new : List Act) (count : ℕ) → count ≡ length was → new ≡ take count mid → StartsWith was mid → new ≡ was
+heard_back was mid new count many cut s = cut ∙ (ap (λ (n : ℕ). take n mid) many ∙ s)
 
-filled_at_from : (ls : List AnswerLine) (acts : List code.Act) (k i : ℕ) → position_from (λ act. tells_lines (act_of act)) k acts ≡ Some i → FilledAt ls acts k i
-filled_at_from ls [] k i h = cc
-filled_at_from ls (x ∷ xs) k i h = by_test (tells_lines (act_of x)) refl h (filled_at_from ls xs (k + 1) i)
-  where
-    by_test : (b : Bool) → tells_lines (act_of x) ≡ b → (if b then Some k else position_from (λ act. tells_lines (act_of act)) (k + 1) xs) ≡ Some i
-        → (position_from (λ act. tells_lines (act_of act)) (k + 1) xs ≡ Some i → FilledAt ls xs (k + 1) i) → FilledAt ls (x ∷ xs) k i
-    by_test true e h f =
-        let same : k ≡ i = cc in
-        record {
-          place = 0;
-          is_at = omega (arith, same);
-          left = λ a b g at.
-              ap (λ (y : Act). y ∷ map act_of xs) (g ∙ ap (λ (y : code.Act). filled ls (act_of y)) at)
-              ∙ ap (λ (t : Bool). if t then filled ls (act_of x) ∷ map act_of xs else act_of x ∷ filled_first ls (map act_of xs)) (sym e);
-        }
-    by_test false e h f =
-        let more = f h in
-        record {
-          place = suc more.place;
-          is_at = omega (arith, more.is_at);
-          left = λ a b g at.
-              ap (λ (ys : List Act). act_of x ∷ ys) (more.left a b g at)
-              ∙ ap (λ (t : Bool). if t then filled ls (act_of x) ∷ map act_of xs else act_of x ∷ filled_first ls (map act_of xs)) (sym e);
-        }
+-- where nobody asked for it, none is told
+pub told_nobody : (w : Whole) (owner : Option Asker) (heard : List Act) → None ≡ owner → heard ≡ with_whole owner (Some w) heard
+told_nobody w owner heard e = sym (take-append-drop w.place heard) ∙ ap (λ (o : Option Asker). with_whole o (Some w) heard) e
 
--- the lines go into the first act that tells an answer
-pub filled_at : (ls : List AnswerLine) (acts : List code.Act) (i : ℕ) (a b : code.Act) → Some i ≡ position (λ act. tells_lines (act_of act)) acts → b ≡ slice_index_or acts i b → act_of a ≡ filled ls (act_of b)
-    → map act_of (slice_set acts i a) ≡ filled_first ls (map act_of acts)
-filled_at ls acts i a b h at g =
-    let found = filled_at_from ls acts 0 i (sym (position_from-zero (λ (act : code.Act). tells_lines (act_of act)) acts) ∙ sym h) in
-    let same : i ≡ found.place = omega (arith, found.is_at) in
-    ap (λ (n : ℕ). map act_of (slice_set acts n a)) same ∙ found.left a b g (at ∙ ap (λ (n : ℕ). slice_index_or acts n b) same)
-
-unfilled_from : (ls : List AnswerLine) (acts : List code.Act) (k : ℕ) → position_from (λ act. tells_lines (act_of act)) k acts ≡ None → map act_of acts ≡ filled_first ls (map act_of acts)
-unfilled_from ls [] k h = refl
-unfilled_from ls (x ∷ xs) k h = by_test (tells_lines (act_of x)) h (unfilled_from ls xs (k + 1))
-  where
-    by_test : (b : Bool) → (if b then Some k else position_from (λ act. tells_lines (act_of act)) (k + 1) xs) ≡ None
-        → (position_from (λ act. tells_lines (act_of act)) (k + 1) xs ≡ None → map act_of xs ≡ filled_first ls (map act_of xs))
-        → act_of x ∷ map act_of xs ≡ (if b then filled ls (act_of x) ∷ map act_of xs else act_of x ∷ filled_first ls (map act_of xs))
-    by_test true h f = cc
-    by_test false h f = ap (λ (ys : List Act). act_of x ∷ ys) (f h)
-
--- and where no act tells one all stay
-pub unfilled : (ls : List AnswerLine) (acts : List code.Act) → None ≡ position (λ act. tells_lines (act_of act)) acts → map act_of acts ≡ filled_first ls (map act_of acts)
-unfilled ls acts h = unfilled_from ls acts 0 (sym (position_from-zero (λ (act : code.Act). tells_lines (act_of act)) acts) ∙ sym h)
+-- the act that tells it stands at its place
+pub told_at : (answered : Answered) (acts : List code.Act) → map act_of (insert acts answered.place (code.TheVariants.Told answered.outcome)) ≡ with_told (Some answered) (map act_of acts)
+told_at answered acts =
+    let n = answered.place in
+    let told = Told answered.outcome in
+    map-append act_of (take n acts) (code.TheVariants.Told answered.outcome ∷ drop n acts)
+    ∙ (ap (λ (xs : List Act). xs ++ told ∷ map act_of (drop n acts)) (sym (take-map act_of n acts))
+    ∙ ap (λ (xs : List Act). take n (map act_of acts) ++ told ∷ xs) (sym (drop-map act_of n acts)))

@@ -1,5 +1,5 @@
 -- A frame goes out: the core goes on with every history that it fits.
-use Rattle.std.specs.Prelude.{suc, ◌≡◌, ℕ, ◌+◌, ◌<◌, ◌≤◌, ◌==◌, ◌&&◌, ◌||◌, not, nat_le, nat_eq, Bool, true, false, List, [], ◌∷◌, ◌++◌, length, take, drop, min, slice_set, slice_index_or, refl, Option, None, Some, option_map, is_none, IfSome, if◌then◌else◌}
+use Rattle.std.specs.Prelude.{suc, ◌≡◌, ℕ, ◌+◌, ◌<◌, ◌≤◌, ◌==◌, ◌&&◌, ◌||◌, not, nat_le, nat_eq, Bool, true, false, List, [], ◌∷◌, ◌++◌, length, take, drop, min, slice_set, slice_index_or, refl, Option, None, Some, option_map, is_none, if◌then◌else◌}
 use Rattle.std.specs.List.{concat, list_any, starts_with}
 use Rattle.std.proofs.Common.{ap, sym, ◌∙◌, subst, arith, get_or-set_same, get_or-set_other, eqb-true, length-append}
 use Rattle.std.proofs.lemmas.Bool.{le-leb, eqb-false, ne_eqb}
@@ -19,8 +19,7 @@ use Rattle.mux_station.specs.Sending.{queue}
 use Rattle.mux_station.specs.Stations.{Station, channel_at}
 use Rattle.mux_station.specs.Giving as giving
 use Rattle.mux_station.specs.Giving.{data_frame, data_given, station_after, after_given, GivesOn as StationGivesOn, SendsNext}
-use Rattle.mux_station.specs.GivenFrames.{Outgoing, with_freshness, dlci_of}
-use Rattle.mux_frame.specs.declared.dlci.Dlci.{Dlci}
+use Rattle.mux_station.specs.GivenFrames.{Outgoing, Turn, Data, with_freshness}
 use Rattle.modem_core.specs.CoreKeeping.{IsKept}
 use Rattle.mux_station.specs.Fitting as station_fits
 use Rattle.mux_station.proofs.user_calls.CallFrames.{state_sent_uih}
@@ -39,7 +38,7 @@ use Rattle.modem_history.specs.Calls.{Setting, first_on, is_lost}
 use Rattle.modem_history.specs.Lawful.{Lawful, Complete, Allows, Gated, Once, InTurn, IsNext, When, owed}
 use Rattle.modem_history.specs.Wholes.{InStep, commands_for, StaysInStep}
 use Rattle.modem_core.specs.Cores.{dialect_in, Core, LaneFits, Runs, RunsUnless, Fits, IsRun, IsSettingOf, lane_at, state_shown}
-use Rattle.modem_core.specs.CoreGoing.{StandsIn, begun_by, begun_on, begun_next, gone_on, GoesOut, CoreGoesOn, SendsTruly}
+use Rattle.modem_core.specs.CoreGoing.{StandsIn, begun_by, begun_on, begun_next, gone_on, turn_in, GoesOut, CoreGoesOn}
 use Rattle.modem_history.specs.GoingOut.{may_leave, waits_on, data_of, out_by, next_out, with_out, after_out}
 use Rattle.modem_history.proofs.commands.BegunCommands.{KeptCommands, kept}
 use Rattle.modem_history.proofs.requests.StepsOfHistory.{stays_in_step, given_open, data_open}
@@ -343,6 +342,12 @@ data_stands v l past r d i n m next h =
 
 -- ## Whatever goes out
 
+-- the connection whose data is next may send it, by each past that the station fits
+unfoldable pub SendsTruly : Station → Type 0
+SendsTruly v =
+    (d : ℕ) (seen : List station.Act) → giving.next_sender v v.queue ≡ Some d → station_fits.StationFits v seen
+    → SendsNext v.role d seen
+
 sends_as : (v : Station) (d : ℕ) (seen : List station.Act) → v.role ≡ Initiator → SendsTruly v → v.queue ≡ [] → giving.next_turn v ≡ Some d → station_fits.StationFits v seen → SendsNext Initiator d seen
 unfolding SendsTruly
 sends_as v d seen r t q e h =
@@ -431,27 +436,34 @@ pub goes_none : (v : Core) → v.lost ≡ true → GoesOut v None
 unfolding GoesOut
 goes_none v e s past m = sym (ap (λ (b : Bool). if b then None else out_by s past (queue (wire past))) (m.fits.lost_is ∙ e))
 
--- and the core goes on with its history as it was
-pub goes_on_lost : (v : Core) → v.lost ≡ true → CoreGoesOn v
-unfolding CoreGoesOn
-goes_on_lost v e s past m =
-    subst (λ (b : Bool). StandsIn s (if b then v else record (begun_next v) { station = station_after v.station v.station.queue }) (after_out s past)) (sym e)
-    (subst (λ (b : Bool). StandsIn s v (with_out (if b then None else out_by s past (queue (wire past))) past)) (sym (m.fits.lost_is ∙ e)) m)
-
--- and stays as it is
-pub gone_lost : (v : Core) → v.lost ≡ true → v ≡ gone_on v
-gone_lost v e = sym (ap (λ (b : Bool). if b then v else record (begun_next v) { station = station_after v.station v.station.queue }) e)
+-- where nothing goes out, and the core stays, it goes on with its history as it was
+pub goes_on_none : (v : Core) → GoesOut v None → gone_on v ≡ v → CoreGoesOn v
+unfolding GoesOut CoreGoesOn
+goes_on_none v none stays s past m =
+    subst (λ (o : Option Outgoing). StandsIn s (gone_on v) (with_out o past)) (none s past m) (subst (λ (x : Core). StandsIn s x past) (sym stays) m)
 
 -- ## What the calls say
 
--- the connection that the station names as next may send, by each past that the station fits
-pub sends_truly : (v : Station) (o : Option Dlci) → option_map dlci_of o ≡ giving.next_sender v v.queue → ((past : List station.Act) → station_fits.StationFits v past → IfSome o (λ d. SendsNext v.role d.number past)) → SendsTruly v
+turn_of_sender : (v : Station) (fs : List Frame) (d : ℕ) → giving.next_sender v fs ≡ Some d → giving.turn_at v fs ≡ Some (Data d)
+turn_of_sender v (f ∷ fs) d e = cc
+turn_of_sender v [] d e = ap (option_map Data) e
+
+-- what a station gives on may go out, by each past that it fits
+pub sends_truly : (v : Station) → StationGivesOn v → SendsTruly v
 unfolding SendsTruly
-sends_truly v None e h d seen some f = absurd (let g : None ≡ Some d = e ∙ some in cc)
-sends_truly v (Some x) e h d seen some f =
-    let g : Some x.number ≡ Some d = e ∙ some in
-    let same : x.number ≡ d = cc in
-    subst (λ (n : ℕ). SendsNext v.role n seen) same (h seen f)
+sends_truly v g d seen e f = g.next seen (Data d) f (turn_of_sender v v.queue d e)
+
+-- where it is a turn the line isn't lost
+pub turn_live : (v : Core) (t : Turn) → turn_in v ≡ Some t → v.lost ≡ false
+turn_live v t e = by_lost v.lost e
+  where
+    by_lost : (b : Bool) → (if b then None else giving.turn_at v.station v.station.queue) ≡ Some t → b ≡ false
+    by_lost true e = cc
+    by_lost false e = refl
+
+-- and it is the station's
+pub turn_at_station : (v : Core) (o : Option Turn) → v.lost ≡ false → turn_in v ≡ o → giving.turn_at v.station v.station.queue ≡ o
+turn_at_station v o live e = sym (ap (λ (b : Bool). if b then None else giving.turn_at v.station v.station.queue) live) ∙ e
 
 begun_station : (v : Core) (o : Option ℕ) → (begun_on v o).station ≡ v.station
 begun_station v None = refl

@@ -1,5 +1,5 @@
 -- What goes out comes to an end.
-use Rattle.std.specs.Prelude.{IfNone, ◌||◌, zero, suc, ◌≡◌, ℕ, ◌+◌, ◌-◌, ◌<◌, ◌≤◌, ◌==◌, ◌&&◌, ◌||◌, not, nat_lt, Bool, true, false, List, [], ◌∷◌, length, drop, Option, Some, None, is_some, option_map, refl, if◌then◌else◌}
+use Rattle.std.specs.Prelude.{IfNone, ◌||◌, zero, suc, ◌≡◌, ℕ, ◌+◌, ◌-◌, ◌<◌, ◌≤◌, ◌==◌, ◌&&◌, ◌||◌, not, nat_lt, Bool, true, false, List, [], ◌∷◌, length, drop, Option, Some, None, option_map, refl, if◌then◌else◌}
 use Rattle.std.specs.List.{sum_by}
 use Rattle.std.proofs.Common.{◌∙◌, ap, sym, subst, arith, get_or}
 use Rattle.std.proofs.lemmas.Bool.{and_parts, eqb-false}
@@ -11,10 +11,13 @@ use Rattle.mux_station.specs.States.{is_opened}
 use Rattle.mux_station.specs.Stations.{Station, Channel, channel_at, shut_channel, stopped_in}
 use Rattle.mux_station.specs.Giving as giving
 use Rattle.mux_station.specs.Giving.{is_ready, first_ready, else_first, data_given, station_after, next_given, next_sender}
-use Rattle.mux_station.specs.GivenFrames.{Outgoing, with_freshness}
+use Rattle.mux_station.specs.GivenFrames.{Outgoing, Turn, as_turn, with_freshness}
+use Rattle.mux_station.specs.declared.turn.Turn as asked
+use Rattle.mux_station.proofs.turns.ReadyConnections.{none_next}
 use Rattle.modem_core.specs.Cores.{Core}
 use Rattle.modem_core.specs.Running.{CoreIsIdle}
-use Rattle.modem_core.specs.CoreGoing.{begun_on, begun_next, gone_on, left_to_go, LeavesLess, SendsTruly}
+use Rattle.modem_core.specs.CoreGoing.{begun_on, begun_next, gone_on, turn_in, left_to_go, LeavesLess}
+use Rattle.modem_core.proofs.outgoing.CoreAfterFrame.{SendsTruly}
 
 -- the octets that wait in the send rings
 abbrev total : List Channel → ℕ
@@ -114,14 +117,8 @@ unfolding CoreIsIdle
 idle_lost v h = ap (λ (b : Bool). b || (length v.station.queue == 0)) h
 
 -- so is one where no frame goes out next
-pub idle_none : (v : Core) (o : Option Outgoing) → o ≡ option_map (with_freshness (length v.station.queue == 0)) (next_given v.station v.station.queue) → IfNone o (CoreIsIdle v)
-idle_none v None e = empty_queue v v.station.queue refl (sym e)
-idle_none v (Some x) e = tt
-
--- what is promised where nothing comes of a value is promised where there is no value
-pub none_without : {X Y : Type 0} (f : X → Y) (P : Type 0) (o : Option X) → IfNone (option_map f o) P → IfNone o P
-none_without f P None h = h
-none_without f P (Some x) h = tt
+pub idle_none : (v : Core) → next_given v.station v.station.queue ≡ None → CoreIsIdle v
+idle_none v e = empty_queue v v.station.queue refl (ap (option_map (with_freshness (length v.station.queue == 0))) e)
 
 -- ## Nothing goes out
 
@@ -146,20 +143,15 @@ sends_none v h d seen e f = absurd (by_queue v v.queue h d e)
     by_queue v (f ∷ fs) h d e = cc
     by_queue v [] h d e = by_turn v (giving.next_turn v) d h e
 
--- what isn't given is None
-pub none_given : {X : Type 0} (o : Option X) (b : Bool) → b ≡ is_some o → b ≡ false → o ≡ None
-none_given None b h n = refl
-none_given (Some x) b h n = absurd (let f : true ≡ false = sym h ∙ n in cc)
+-- what is promised where it is nobody's turn is promised where the code names none
+pub if_no_turn : (o : Option asked.Turn) (t : Option Turn) (P : Type 0) → option_map as_turn o ≡ t → (t ≡ None → P) → IfNone o P
+if_no_turn None t P e h = h (sym e)
+if_no_turn (Some x) t P e h = tt
 
-no_frame : (b : Bool) (o : Option Frame) → option_map (with_freshness b) o ≡ None → o ≡ None
-no_frame b None e = refl
-no_frame b (Some f) e = cc
-
-by_loss : (v : Core) (b : Bool) → record (begun_next v) { station = station_after v.station v.station.queue } ≡ v → (if b then v else record (begun_next v) { station = station_after v.station v.station.queue }) ≡ v
-by_loss v true h = refl
-by_loss v false h = h
-
--- where nothing goes out the core stays
-pub still_none : (v : Core) (o : Option Outgoing) → o ≡ option_map (with_freshness (length v.station.queue == 0)) (next_given v.station v.station.queue) → IfNone o (gone_on v ≡ v)
-still_none v None e = by_loss v v.lost (no_sender v v.station.queue refl (no_frame (length v.station.queue == 0) (next_given v.station v.station.queue) (sym e)))
-still_none v (Some x) e = tt
+-- where it is nobody's turn the core stays
+pub no_turn_stays : (v : Core) → turn_in v ≡ None → gone_on v ≡ v
+no_turn_stays v h = by_lost v.lost h
+  where
+    by_lost : (b : Bool) → (if b then None else giving.turn_at v.station v.station.queue) ≡ None → (if b then v else record (begun_next v) { station = station_after v.station v.station.queue }) ≡ v
+    by_lost true h = refl
+    by_lost false h = no_sender v v.station.queue refl (none_next v.station v.station.queue h)

@@ -29,7 +29,6 @@ use Rattle.modem_history.proofs.outcomes.SingleOutcomes.{of_its_caller, uses_onc
 use Rattle.modem_history.proofs.requests.UntoldRequests.{all_answer, hand_is}
 use Rattle.modem_driver.specs.DeskHeadline.{AnnouncedOver, DeskRun, Follow, HoldsOver, IsDeskHeadline, IsDeskSettled, IsSpell, Rest, RestsOf, Spell, SpellHeadline, outcomes_over}
 use Rattle.modem_driver.specs.TurningAway.{line_lost}
-use Rattle.modem_core.proofs.replays.FullFrames.{turns_are_full}
 use Rattle.modem_driver.proofs.law_proofs.GrownHistories.{fits_in}
 use Rattle.modem_driver.proofs.law_proofs.Headlines.{any_more, answers_own, hears_each, of_its_own, order_of, own_answers, subscription_at, while_open}
 use Rattle.modem_driver.proofs.law_proofs.RequestNumbers.{numbered_once}
@@ -388,7 +387,6 @@ spell_headline kinds callers d s p more left cs submitted = record {
         (submitted i c at ∙ parted own d.taken (taken_requests s.past) later more left) newer older joins n;
   };
   none_after_close = while_open s.start s.past (laws_of (fits_in p.grown).history).lawful;
-  full = turns_are_full (driving s.start) s.past (laws_of (fits_in p.grown).history).in_turn;
   answers = answers_own s.start s.session s.past (fits_in p.grown);
   hears = hears_each s.start s.session s.past (fits_in p.grown);
 }

@@ -35,12 +35,9 @@ impl Machine {
             self.line_end.advance();
             return Ok(Some(true));
         }
-        let stop = self.core.stop();
-        let Ok(()) = self.core.follow(frame, &mut self.said, &mut self.waiting) else {
+        let Ok(()) = self.waiting.get_data(&mut self.core, frame) else {
             return Err(SessionFault::NoMemory);
         };
-        self.course.note(stop, self.said.acts.as_slice());
-        self.waiting.keep(&mut self.said.acts);
         self.line_end.advance();
         Ok(Some(true))
     }

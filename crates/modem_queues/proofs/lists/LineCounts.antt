@@ -8,7 +8,7 @@ use Rattle.std.proofs.lemmas.List.Elements.{filter-append}
 use Rattle.std.proofs.lemmas.List.Filters.{length-filter_both}
 use Rattle.std.proofs.lemmas.List.Folds.{list_all_at}
 use Rattle.std.proofs.Math.Numerals.{add-one}
-use Rattle.std.proofs.Math.Seq.{take-suc, take-length}
+use Rattle.std.proofs.Math.Seq.{take-suc, take-length, take-append_seam, drop-append_seam}
 use Rattle.std.specs.Prelude.{◌≡◌, ◌≢◌, ◌⊎◌, ℕ, suc, ◌+◌, ◌-◌, ◌<◌, ◌≤◌, ◌==◌, ◌&&◌, Bool, true, false, nat_lt, List, [], ◌∷◌, ◌++◌, length, take, drop, filter, slice_index_or, slice_set, refl, replicate, not, if◌then◌else◌}
 use Rattle.std.specs.Int.Bits.{bit_or}
 use Rattle.std.specs.List.{list_all}
@@ -209,6 +209,18 @@ counted_round channels kinds lines later count are is =
       by_channel = turned_round channel_of channels lines count are.by_channel;
       by_kind = turned_round place_of kinds lines count are.by_kind;
     })
+
+-- the last is counted no more
+pub counted_before : (channels kinds later_channels later_kinds : List ℕ) (lines before : List Urc) (u : Urc) (d k : ℕ) → AreCounted channels kinds lines → lines ≡ before ++ u ∷ [] → d ≡ u.dlci.number → k ≡ kind_place u.kind
+    → later_channels ≡ slice_set channels d (slice_index_or channels d 0 - 1) → later_kinds ≡ slice_set kinds k (slice_index_or kinds k 0 - 1)
+    → AreCounted later_channels later_kinds before
+counted_before channels kinds later_channels later_kinds lines before u d k are is d_is k_is by_channel by_kind =
+    let n = length before in
+    let round : u ∷ before ≡ drop n lines ++ take n lines =
+    sym (ap (λ (ls : List Urc). drop n ls ++ take n ls) is
+    ∙ (ap (λ (ls : List Urc). ls ++ take n (before ++ u ∷ [])) (drop-append_seam before (u ∷ []))
+    ∙ ap (λ (ls : List Urc). u ∷ ls) (take-append_seam before (u ∷ [])))) in
+    counted_rest channels kinds later_channels later_kinds (u ∷ before) before u d k (counted_round channels kinds lines (u ∷ before) n are round) refl d_is k_is by_channel by_kind
 
 -- of no lines both have 0 everywhere
 pub counted_at_first : (lines : List Urc) → lines ≡ [] → AreCounted (replicate 62 0) (replicate 263 0) lines

@@ -1,5 +1,5 @@
 -- The frames that a control queue's octets spell.
-use Rattle.std.specs.Prelude.{zero, suc, ◌≡◌, ℕ, ◌+◌, ◌-◌, ◌<◌, ◌≤◌, nat_le, if◌then◌else◌, Bool, true, false, List, [], ◌∷◌, ◌++◌, length, take, drop, slice_index_or, slice_get, refl, Some, None}
+use Rattle.std.specs.Prelude.{zero, suc, ◌≡◌, ◌≢◌, ℕ, ◌+◌, ◌-◌, ◌<◌, ◌≤◌, nat_le, if◌then◌else◌, Bool, true, false, List, [], ◌∷◌, ◌++◌, length, take, drop, slice_index_or, slice_get, refl, Some, None}
 use Rattle.std.specs.List.{flat_map, All}
 use Rattle.std.proofs.Common.{◌∙◌, ap, sym, subst, min, arith, append_assoc, append-nil, length-append, length-drop}
 use Rattle.std.proofs.lemmas.List.{drop_more, drop_all}
@@ -105,10 +105,6 @@ queue_with fs room = record { frames = fs; room = room }
 queue_same : (fs gs : List Frame) (m n : ℕ) → fs ≡ gs → m ≡ n → queue_with fs m ≡ queue_with gs n
 queue_same fs gs m n e h = ap (λ (xs : List Frame). queue_with xs m) e ∙ ap (queue_with gs) h
 
-no_first : (fs : List Frame) → length fs ≡ 0 → fs ≡ drop 1 fs
-no_first [] e = refl
-no_first (f ∷ fs) e = absurd (omega (arith, e))
-
 -- empty buffers keep no frame
 pub none_kept : (octets : Buffer ℕ) (spelling : List ℕ) (capacity : ℕ) → octets ≡ buffer [] capacity → spelling ≡ [] → IsKeptAsOctets octets.items 0 spelling
 none_kept octets spelling capacity e h = record {
@@ -150,9 +146,13 @@ module _ (q : ControlQueue) (octets : List ℕ) (count room : ℕ) (e : queue_wi
       queue_same _ _ _ _ taken same
       ∙ ap (λ (w : ControlQueue). let v : ControlQueue = record w { frames = drop 1 w.frames } in v) e
 
-  -- a queue without frames is the same without its first
-  pub seen_none : count ≡ 0 → q ≡ record q { frames = drop 1 q.frames }
-  seen_none none = ap (λ (fs : List Frame). let w : ControlQueue = record { frames = fs; room = q.room } in w) (no_first q.frames (sym seen_many ∙ none))
+  -- where the queue has frames, some are counted
+  pub seen_some : q.frames ≢ [] → 0 < count
+  seen_some some = by_frames q.frames seen_many some
+    where
+      by_frames : (fs : List Frame) → count ≡ length fs → fs ≢ [] → 0 < count
+      by_frames [] e s = absurd (s refl)
+      by_frames (f ∷ fs) e s = omega (arith, e)
 
 -- more octets fit into the room that is left just where all together fit into the whole
 pub room_left : (more room octets : ℕ) → octets ≤ room → nat_le more (room - octets) ≡ nat_le (octets + more) room

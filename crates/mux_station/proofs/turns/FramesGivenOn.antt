@@ -11,11 +11,11 @@ use Rattle.mux_station.specs.Written.{written, is_data_frame}
 use Rattle.mux_station.specs.Messages.{cld, brings_command, octet_is, message_of}
 use Rattle.mux_station.specs.Acts.{Act, Sent, Given}
 use Rattle.mux_station.specs.States.{is_opened, state_of}
-use Rattle.mux_station.specs.Sending.{StationSetting, is_loss, queue, owed_frames, called_frames, StationGated, Sends, StationLawful, StationComplete}
+use Rattle.mux_station.specs.Sending.{StationSetting, is_loss, queue, owed_frames, called_frames, StationGated, Sends, StationLawful}
 use Rattle.mux_station.specs.Offering.{octets_offered, octets_sent, data_out, last_sender}
 use Rattle.mux_station.specs.Stations.{Channel, Station, shut_channel, channel_at, setting_of, stopped_in}
 use Rattle.mux_station.specs.Fitting.{ChannelFits, StationFits}
-use Rattle.mux_station.specs.Giving.{is_ready, first_ready, ready_from, else_first, next_turn, data_frame, data_given, data_sent, station_after, after_given, GivesOn}
+use Rattle.mux_station.specs.Giving.{is_ready, first_ready, ready_from, else_first, next_turn, data_frame, data_given, data_sent, station_after, after_given}
 use Rattle.mux_station.proofs.states.StationPasts.{open_fits, stopped_fits}
 use Rattle.mux_station.proofs.states.StatesAfterActs.{untouched, goes_on}
 use Rattle.mux_station.proofs.user_calls.CallFrames.{opens_sent, state_sent_uih, state_given, fits_given, all_sent, all_given, probe_sent, probe_given}
@@ -193,12 +193,13 @@ given_data v (Some d) past e all low last =
     }
 
 -- what holds after the next was given on
-record Given_next (v : Station) (fs : List Frame) (past : List Act) : Type 0 where
-  fits : StationFits v past → StationFits (station_after v fs) (after_given v fs past)
-  lawful : StationFits v past → StationLawful (setting_of v) past → owed_frames (setting_of v) past ≡ [] → StationLawful (setting_of v) (after_given v fs past)
-  complete : StationFits v past → owed_frames (setting_of v) past ≡ [] → owed_frames (setting_of v) (after_given v fs past) ≡ []
+pub record Given_next (v : Station) (fs : List Frame) (past : List Act) : Type 0 where
+  pub fits : StationFits v past → StationFits (station_after v fs) (after_given v fs past)
+  pub lawful : StationFits v past → StationLawful (setting_of v) past → owed_frames (setting_of v) past ≡ [] → StationLawful (setting_of v) (after_given v fs past)
+  pub complete : StationFits v past → owed_frames (setting_of v) past ≡ [] → owed_frames (setting_of v) (after_given v fs past) ≡ []
 
-given_next : (v : Station) (fs : List Frame) (past : List Act) → v.queue ≡ fs → length v.channels ≡ 62 → 31 ≤ v.n1 → v.last < 62 → Given_next v fs past
+-- the next is given on in each past that the station fits, and a lawful and complete one stays so
+pub given_next : (v : Station) (fs : List Frame) (past : List Act) → v.queue ≡ fs → length v.channels ≡ 62 → 31 ≤ v.n1 → v.last < 62 → Given_next v fs past
 given_next v (f ∷ fs) past e all low last = record {
   fits = λ h. control_fits v f fs past e h;
   lawful = λ h l c. given_lawful (setting_of v) past l;
@@ -207,12 +208,3 @@ given_next v (f ∷ fs) past e all low last = record {
 given_next v [] past e all low last =
     let g = given_data v (next_turn v) past refl all low last in
     record { fits = g.fits; lawful = g.lawful; complete = g.complete }
-
--- a station gives its next frame on in each past that it fits, and a lawful and complete one stays so
-pub gives_on : (v : Station) → length v.channels ≡ 62 → 31 ≤ v.n1 → v.last < 62 → GivesOn v
-unfolding StationComplete
-gives_on v all low last = record {
-  fits = λ past h. (given_next v v.queue past refl all low last).fits h;
-  lawful = λ past h l c. (given_next v v.queue past refl all low last).lawful h l c;
-  complete = λ past h l c. (given_next v v.queue past refl all low last).complete h c;
-}

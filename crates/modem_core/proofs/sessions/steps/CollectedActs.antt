@@ -1,12 +1,24 @@
--- What was told and heard is kept, one act after the other.
-use Rattle.std.proofs.Common.{ap, sym, ◌∙◌, arith}
-use Rattle.std.proofs.lemmas.List.{append_assoc, append-nil, length-append}
-use Rattle.std.specs.Prelude.{◌≡◌, ◌+◌, ◌≤◌, List, [], ◌∷◌, ◌++◌, length, map, refl}
+-- What is told and heard waits.
+use Rattle.std.proofs.Common.{ap, sym, ◌∙◌, subst}
+use Rattle.std.proofs.lemmas.Bool.{or_parts}
+use Rattle.std.proofs.lemmas.List.{drop-map, take-append-drop, take-map}
+use Rattle.std.proofs.lemmas.List.Folds.{list_any-append}
+use Rattle.std.specs.Prelude.{◌≡◌, ◌+◌, ◌≤◌, ◌==◌, ◌&&◌, ◌||◌, Bool, true, false, List, [], ◌∷◌, ◌++◌, length, map, take, drop, refl, Option, Some, None, IfSome}
+use Rattle.std.specs.List.{list_any}
+use Rattle.mux_frame.specs.Frames.{Frame}
+use Rattle.modem_desk.specs.declared.request.Urc.{Urc}
 use Rattle.modem_desk.specs.declared.request.Outcome.{Outcome}
 use Rattle.modem_history.specs.Acts.{Act, Took, Got, Sent, Told, Heard, Tick, Lost, Held, Freed, Given}
 use Rattle.modem_history.specs.Sessions.{heard_as}
 use Rattle.modem_history.specs.Turns.{outcomes_told, lines_heard}
-use Rattle.modem_core.specs.WaitingLists.{WaitingLists, Puts}
+use Rattle.modem_queues.specs.declared.asker.Asker.{Asker}
+use Rattle.modem_queues.specs.Stops.{ends_stop, is_answered, is_end_of}
+use Rattle.modem_core.specs.declared.settling.Answered.{Answered}
+use Rattle.modem_core.specs.Cores.{Core}
+use Rattle.modem_core.specs.Doing.{Adds, GetsData, stop_in}
+use Rattle.modem_core.specs.Receiving.{Brings}
+use Rattle.modem_core.specs.Settling.{with_told}
+use Rattle.modem_core.specs.WaitingLists.{WaitingLists}
 use Rattle.modem_core.proofs.sessions.steps.ListenedLines.{heard_both}
 
 -- the outcomes of joined acts are joined
@@ -23,43 +35,84 @@ told_both (Held d ∷ xs) ys = told_both xs ys
 told_both (Freed d ∷ xs) ys = told_both xs ys
 told_both (Given ∷ xs) ys = told_both xs ys
 
--- with those that are still to come, what waits is what waited and all that was told and heard
-pub record KeepsSo (first now : WaitingLists) (all rest : List Act) : Type 0 where
-  pub outcomes : length first.outcomes + length (outcomes_told all) ≤ 128 → now.outcomes ++ outcomes_told rest ≡ first.outcomes ++ outcomes_told all
-  pub lines : length (lines_heard all) ≤ first.room → map heard_as now.lines ++ lines_heard rest ≡ map heard_as first.lines ++ lines_heard all
-  pub room : length (lines_heard all) ≤ first.room → length (lines_heard rest) ≤ now.room
+-- ## What data of an open connection brings
 
--- before the first act all are still to come
-pub keeps_first : (w : WaitingLists) (all : List Act) → KeepsSo w w all all
-keeps_first w all = record { outcomes = λ _. refl; lines = λ _. refl; room = λ h. h }
+-- what is told by it
+abbrev pub told_then : Option Answered → List Outcome
+told_then None = []
+told_then (Some a) = a.outcome ∷ []
 
--- the next act is put behind
-pub keeps_put : (first now next : WaitingLists) (all rest later : List Act) (a : Act) → rest ≡ a ∷ later → Puts now next a → KeepsSo first now all rest → KeepsSo first next all later
-keeps_put first now next all rest later a e p k =
-    let told : outcomes_told rest ≡ outcomes_told (a ∷ []) ++ outcomes_told later = ap outcomes_told e ∙ told_both (a ∷ []) later in
-    let heard : lines_heard rest ≡ lines_heard (a ∷ []) ++ lines_heard later = ap lines_heard e ∙ heard_both (a ∷ []) later in
-    let long : length (lines_heard rest) ≡ length (lines_heard (a ∷ [])) + length (lines_heard later) = ap length heard ∙ length-append (lines_heard (a ∷ [])) (lines_heard later) in
-    record {
-      outcomes = λ few.
-          let same = k.outcomes few in
-          let count : length now.outcomes + length (outcomes_told rest) ≡ length first.outcomes + length (outcomes_told all) =
-          sym (length-append now.outcomes (outcomes_told rest)) ∙ (ap length same ∙ length-append first.outcomes (outcomes_told all)) in
-          let parts : length (outcomes_told rest) ≡ length (outcomes_told (a ∷ [])) + length (outcomes_told later) = ap length told ∙ length-append (outcomes_told (a ∷ [])) (outcomes_told later) in
-          ap (λ (os : List Outcome). os ++ outcomes_told later) (p.outcomes (omega arith))
-          ∙ (append_assoc now.outcomes (outcomes_told (a ∷ [])) (outcomes_told later)
-          ∙ (ap (λ (os : List Outcome). now.outcomes ++ os) (sym told) ∙ same));
-      lines = λ fit.
-          let roomy = k.room fit in
-          ap (λ (hs : List Act). hs ++ lines_heard later) (p.lines (omega arith))
-          ∙ (append_assoc (map heard_as now.lines) (lines_heard (a ∷ [])) (lines_heard later)
-          ∙ (ap (λ (hs : List Act). map heard_as now.lines ++ hs) (sym heard) ∙ k.lines fit));
-      room = λ fit. let roomy = k.room fit in let left = p.room in omega arith;
-    }
+all_heard : (us : List Urc) → lines_heard (map heard_as us) ≡ map heard_as us
+all_heard [] = refl
+all_heard (u ∷ us) = ap (λ (acts : List Act). heard_as u ∷ acts) (all_heard us)
 
--- at last all that was told waits, where that is 128 at most
-pub kept_outcomes : (first now : WaitingLists) (all : List Act) → KeepsSo first now all [] → length first.outcomes + length (outcomes_told all) ≤ 128 → now.outcomes ≡ first.outcomes ++ outcomes_told all
-kept_outcomes first now all k few = sym (append-nil now.outcomes) ∙ k.outcomes few
+lines_untold : (us : List Urc) → outcomes_told (map heard_as us) ≡ []
+lines_untold [] = refl
+lines_untold (u ∷ us) = lines_untold us
 
--- and all that was heard, where there was room for it
-pub kept_lines : (first now : WaitingLists) (all : List Act) → KeepsSo first now all [] → length (lines_heard all) ≤ first.room → map heard_as now.lines ≡ map heard_as first.lines ++ lines_heard all
-kept_lines first now all k fit = sym (append-nil (map heard_as now.lines)) ∙ k.lines fit
+no_line_ends : (s : Asker) (us : List Urc) → list_any (is_end_of s) (map heard_as us) ≡ false
+no_line_ends s [] = refl
+no_line_ends s (u ∷ us) = no_line_ends s us
+
+-- an outcome among lines is no line
+heard_beside : (answered : Option Answered) (heard : List Act) → lines_heard (with_told answered heard) ≡ lines_heard heard
+heard_beside None heard = refl
+heard_beside (Some a) heard =
+    heard_both (take a.place heard) (Told a.outcome ∷ drop a.place heard)
+    ∙ (sym (heard_both (take a.place heard) (drop a.place heard)) ∙ ap lines_heard (take-append-drop a.place heard))
+
+-- and all that is told
+told_beside : (answered : Option Answered) (us : List Urc) → outcomes_told (with_told answered (map heard_as us)) ≡ told_then answered
+told_beside None us = lines_untold us
+told_beside (Some a) us =
+    let before : outcomes_told (take a.place (map heard_as us)) ≡ [] = ap outcomes_told (take-map heard_as a.place us) ∙ lines_untold (take a.place us) in
+    let behind : outcomes_told (drop a.place (map heard_as us)) ≡ [] = ap outcomes_told (drop-map heard_as a.place us) ∙ lines_untold (drop a.place us) in
+    told_both (take a.place (map heard_as us)) (Told a.outcome ∷ drop a.place (map heard_as us))
+    ∙ (ap (λ (os : List Outcome). os ++ a.outcome ∷ outcomes_told (drop a.place (map heard_as us))) before
+    ∙ ap (λ (os : List Outcome). a.outcome ∷ os) behind)
+
+ends_so : (s : Asker) (acts : List Act) (o : Outcome) → ends_stop o.answer ≡ false → list_any (is_end_of s) (Told o ∷ acts) ≡ list_any (is_end_of s) acts
+ends_so s acts o e = ap (λ (b : Bool). (((s.caller == o.caller) && (s.number == o.number)) && b) || list_any (is_end_of s) acts) e ∙ ap (λ (b : Bool). b || list_any (is_end_of s) acts) (and_false ((s.caller == o.caller) && (s.number == o.number)))
+  where
+    and_false : (b : Bool) → (b && false) ≡ false
+    and_false true = refl
+    and_false false = refl
+
+-- it ends no Stop
+ends_beside : (s : Asker) (answered : Option Answered) (us : List Urc) → IfSome answered (λ a. ends_stop a.outcome.answer ≡ false) → list_any (is_end_of s) (with_told answered (map heard_as us)) ≡ false
+ends_beside s None us e = no_line_ends s us
+ends_beside s (Some a) us e =
+    let before : list_any (is_end_of s) (take a.place (map heard_as us)) ≡ false = ap (list_any (is_end_of s)) (take-map heard_as a.place us) ∙ no_line_ends s (take a.place us) in
+    let behind : list_any (is_end_of s) (drop a.place (map heard_as us)) ≡ false = ap (list_any (is_end_of s)) (drop-map heard_as a.place us) ∙ no_line_ends s (drop a.place us) in
+    list_any-append (is_end_of s) (take a.place (map heard_as us)) (Told a.outcome ∷ drop a.place (map heard_as us))
+    ∙ (ap (λ (b : Bool). b || list_any (is_end_of s) (Told a.outcome ∷ drop a.place (map heard_as us))) before
+    ∙ (ends_so s (drop a.place (map heard_as us)) a.outcome e ∙ behind))
+
+-- what the lines and the answer of a frame told and announced waits behind what waited
+pub gets_data : (old new : Core) (f : Frame) (was now : WaitingLists) (answered : Option Answered) → Brings old new f (map heard_as was.lines) (with_told answered (map heard_as now.lines))
+    → IfSome answered (λ a. ends_stop a.outcome.answer ≡ false) → Adds was.outcomes now.outcomes (told_then answered) → GetsData old new was now (Got f)
+gets_data old new f was now answered b none adds = record {
+  acts = Got f ∷ b.said;
+  past = b.past;
+  holds = b.holds;
+  keeps = record {
+    outcomes = λ few. adds (subst (λ (os : List Outcome). length was.outcomes + length os ≤ 128) told few) ∙ ap (λ (os : List Outcome). was.outcomes ++ os) (sym told);
+    lines =
+        sym (all_heard now.lines)
+        ∙ (sym (heard_beside answered (map heard_as now.lines))
+        ∙ (ap lines_heard b.now_is
+        ∙ (heard_both (map heard_as was.lines) b.said ∙ ap (λ (acts : List Act). acts ++ lines_heard b.said) (all_heard was.lines))));
+  };
+  answered_is = by_stop (stop_in old);
+}
+  where
+    told : outcomes_told b.said ≡ told_then answered
+    told =
+        sym (ap (λ (os : List Outcome). os ++ outcomes_told b.said) (lines_untold was.lines))
+        ∙ (sym (told_both (map heard_as was.lines) b.said) ∙ (sym (ap outcomes_told b.now_is) ∙ told_beside answered now.lines))
+
+    by_stop : (stop : Option Asker) → is_answered stop (Got f ∷ b.said) ≡ false
+    by_stop None = refl
+    by_stop (Some s) =
+        (or_parts (list_any (is_end_of s) (map heard_as was.lines)) (list_any (is_end_of s) b.said)
+        (sym (list_any-append (is_end_of s) (map heard_as was.lines) b.said) ∙ (sym (ap (list_any (is_end_of s)) b.now_is) ∙ ends_beside s answered now.lines none))).1

@@ -3,19 +3,17 @@ use Rattle.std.proofs.Common.{ap, sym, ◌∙◌, subst}
 use Rattle.std.proofs.lemmas.Bool.{and_from, and_parts}
 use Rattle.std.proofs.lemmas.List.{append_assoc, append-nil}
 use Rattle.std.proofs.lemmas.List.Folds.{list_any-append}
-use Rattle.std.specs.Prelude.{◌≡◌, ℕ, ◌&&◌, ◌||◌, not, Bool, true, false, List, [], ◌∷◌, ◌++◌, map, find, refl, Option, Some, None, option_map, Ok, Err, if◌then◌else◌}
+use Rattle.std.specs.Prelude.{◌≡◌, ℕ, ◌&&◌, ◌||◌, not, Bool, true, false, List, [], ◌∷◌, ◌++◌, find, refl, Option, Some, None, option_map, Ok, Err, if◌then◌else◌}
 use Rattle.std.specs.List.{list_any}
 use Rattle.modem_desk.specs.declared.request.Request.{Request}
 use Rattle.modem_desk.specs.declared.request.Outcome.{Outcome}
-use Rattle.modem_history.specs.declared.act.Act as code
-use Rattle.modem_history.specs.Acts.{Act, Took, Got, Sent, Told, Heard, Tick, Lost, Held, Freed, Given, act_of, after, is_for, in_hand, without}
+use Rattle.modem_history.specs.Acts.{Act, Took, Got, Sent, Told, Heard, Tick, Lost, Held, Freed, Given, after, is_for, in_hand, without}
 use Rattle.modem_history.specs.Calls.{is_loss, is_lost}
 use Rattle.modem_history.specs.Wholes.{IsPrefixOf, outcomes, taken_requests}
 use Rattle.modem_history.specs.Sessions.{Beginning, SessionView, at_place}
 use Rattle.modem_history.specs.Turns.{outcomes_told}
 use Rattle.modem_history.proofs.calls.StatesAfterActs.{after_both}
 use Rattle.modem_history.proofs.requests.RequestsInHand.{found_tests}
-use Rattle.modem_queues.specs.declared.asker.Asker.{Asker}
 use Rattle.modem_driver.specs.declared.machine.course.Course.{Course}
 use Rattle.modem_driver.specs.declared.machine.course.Course.TheVariants.{GoesOn, Stopped, Ended}
 use Rattle.modem_driver.specs.declared.session.ending.Ended.TheVariants as ended
@@ -23,16 +21,6 @@ use Rattle.modem_driver.specs.declared.session.error.SessionFault.TheVariants as
 use Rattle.modem_driver.specs.Endings.{HasCome, HasEnded, KeepsEnd, course_after}
 use Rattle.modem_queues.specs.Stops.{asker_of, ends_stop, has_stopped, is_answered, is_end_of, is_stop, is_stopped_by}
 use Rattle.modem_core.proofs.sessions.steps.LongerHistories.{outcomes_after}
-
--- an act of the program tells that a Stop has ended just where the act of the history does
-pub any_of : (s : Asker) (acts : List code.Act) → list_any (λ (a : code.Act). is_end_of s (act_of a)) acts ≡ list_any (is_end_of s) (map act_of acts)
-any_of s [] = refl
-any_of s (a ∷ acts) = ap (λ (c : Bool). is_end_of s (act_of a) || c) (any_of s acts)
-
--- what is noted is the same for the same Stop and the same acts
-pub noted : (c new : Course) (o p : Option Asker) (xs ys : List code.Act) → new ≡ course_after c (is_answered o (map act_of xs)) → o ≡ p → xs ≡ ys → new ≡ course_after c (is_answered p (map act_of ys))
-noted c new o p xs ys e stop acts =
-    e ∙ (ap (λ (x : Option Asker). course_after c (is_answered x (map act_of xs))) stop ∙ ap (λ (zs : List code.Act). course_after c (is_answered p (map act_of zs))) acts)
 
 -- ## One of a list
 

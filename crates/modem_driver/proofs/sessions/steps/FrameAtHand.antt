@@ -14,7 +14,6 @@ use Rattle.modem_desk.specs.Ends.{DriverView}
 use Rattle.modem_history.specs.Acts.{Act, Got, after, wire}
 use Rattle.modem_history.specs.Calls.{calls, seen, is_lost}
 use Rattle.modem_history.specs.Sessions.{Beginning, LineView, FitsLoss, FitsReceived, driving, gots, heard_as}
-use Rattle.modem_history.specs.Turns.{lines_heard}
 use Rattle.modem_history.proofs.calls.CalledActs.{calls_said}
 use Rattle.modem_core.specs.Cores.{Core, Handles, GoesOn}
 use Rattle.modem_core.specs.Holding.{HoldsFit, KeepsHeld}
@@ -25,7 +24,10 @@ use Rattle.modem_core.specs.Running.{CoreIsIdle}
 use Rattle.modem_driver.specs.SessionStates.{Machine, seen_by, end_of}
 use Rattle.modem_driver.specs.TurnSteps.{Leads, Adds, AddsAll}
 use Rattle.modem_driver.specs.GettingSteps.{HasData, MachineGets}
+use Rattle.modem_core.specs.Doing.{GetsData}
 use Rattle.modem_core.specs.WaitingLists.{WaitingLists, Keeps}
+use Rattle.modem_driver.specs.declared.machine.course.Course.{Course}
+use Rattle.modem_driver.specs.declared.machine.course.Course.TheVariants as course
 use Rattle.modem_core.proofs.sessions.steps.LongerHistories.{gots_after, losses_after, lost_after}
 use Rattle.modem_driver.proofs.sessions.steps.CoreCalls.{FitsMachine, IsBare, KeepsMore, call_fits, few_told, may_come}
 use Rattle.modem_driver.proofs.sessions.polls.StopProgress.{come_noted, ended_after, grows_none}
@@ -49,12 +51,12 @@ record Gotten (b : Beginning) (l : LineView) (d : DriverView) (old new : Machine
   adds : (waiting : List Urc) → Adds old new waiting 1 (came f acts)
   got : gots (came f acts) ≡ f ∷ []
 
-gotten : (old : Machine) (core : Core) (fed : Deframing) (room : ℕ) (w : WaitingLists) (acts : List Act) (f : Frame)
-    → Handles old.core core (Got f) acts → KeepsHeld old.core core (Got f) acts → Keeps (record { outcomes = old.unplaced; lines = old.unannounced; room = room }) w acts → length (lines_heard acts) ≤ room
+gotten : (old : Machine) (core : Core) (fed : Deframing) (w : WaitingLists) (acts : List Act) (f : Frame)
+    → Handles old.core core (Got f) acts → KeepsHeld old.core core (Got f) acts → Keeps (record { outcomes = old.unplaced; lines = old.unannounced }) w acts
     → old.deframer.next ≡ Some f → fed.n1 ≡ old.deframer.n1 → HandsOver old.deframer fed
     → (b : Beginning) (l : LineView) (d : DriverView) (past : List Act) → FitsMachine b l d old past → Gotten b l d old (record old { core = core; deframer = fed; unplaced = w.outcomes; unannounced = w.lines; course = course_after old.course (is_answered (option_map asker_of (find is_stop old.core.hand)) acts) }) past f acts
 unfolding Handles KeepsHeld
-gotten old core fed room w acts f handles held keeps enough at_hand bound over b l d past fit =
+gotten old core fed w acts f handles held keeps at_hand bound over b l d past fit =
     let new : Machine = record old { core = core; deframer = fed; unplaced = w.outcomes; unannounced = w.lines; course = course_after old.course (is_answered (option_map asker_of (find is_stop old.core.hand)) acts) } in
     let s = driving b in
     let a = Got f in
@@ -67,7 +69,7 @@ gotten old core fed room w acts f handles held keeps enough at_hand bound over b
     let hold : HoldsFit core (after past (a ∷ more)) = subst (λ (xs : List Act). HoldsFit core (after past xs)) on.called (held s past may fit.inside.holds) in
     let keep : KeepsMore old new (a ∷ more) = subst (KeepsMore old new) on.called (record {
       outcomes = keeps.outcomes;
-      lines = keeps.lines enough;
+      lines = keeps.lines;
     }) in
     let lost : FitsLoss b (seen_by l (end_of d) new) (after past (a ∷ more)) = record {
       one = subst (λ (xs : List Act). length xs ≤ 1) (sym (losses_after more (a ∷ past) said)) fit.session.loss.one;
@@ -99,28 +101,36 @@ gotten old core fed room w acts f handles held keeps enough at_hand bound over b
     }
 
 -- the core handled it, and what that told and announced waits
-pub gets_moved : (old : Machine) (core : Core) (fed : Deframing) (room : ℕ) (w : WaitingLists) (acts : List Act) (f : Frame)
-    → Handles old.core core (Got f) acts → KeepsHeld old.core core (Got f) acts → Keeps (record { outcomes = old.unplaced; lines = old.unannounced; room = room }) w acts → length (lines_heard acts) ≤ room
+pub gets_moved : (old : Machine) (core : Core) (fed : Deframing) (w : WaitingLists) (acts : List Act) (f : Frame)
+    → Handles old.core core (Got f) acts → KeepsHeld old.core core (Got f) acts → Keeps (record { outcomes = old.unplaced; lines = old.unannounced }) w acts
     → old.deframer.next ≡ Some f → fed.n1 ≡ old.deframer.n1 → HandsOver old.deframer fed
     → MachineGets old (record old { core = core; deframer = fed; unplaced = w.outcomes; unannounced = w.lines; course = course_after old.course (is_answered (option_map asker_of (find is_stop old.core.hand)) acts) }) true
 unfolding MachineGets Leads AddsAll
-gets_moved old core fed room w acts f handles held keeps enough at_hand bound over l d = record {
+gets_moved old core fed w acts f handles held keeps at_hand bound over l d = record {
   acts = came f acts;
-  leads = λ b past fit. (gotten old core fed room w acts f handles held keeps enough at_hand bound over b l d past fit).fits;
-  adds = λ waiting b past fit. (gotten old core fed room w acts f handles held keeps enough at_hand bound over b l d past fit).adds waiting;
+  leads = λ b past fit. (gotten old core fed w acts f handles held keeps at_hand bound over b l d past fit).fits;
+  adds = λ waiting b past fit. (gotten old core fed w acts f handles held keeps at_hand bound over b l d past fit).adds waiting;
   moved_is = refl;
   still = λ e. absurd (let x : true ≡ false = e in cc);
-  got = λ b past fit moved. (gotten old core fed room w acts f handles held keeps enough at_hand bound over b l d past fit).got ∙ ap option_to_list (sym at_hand);
+  got = λ b past fit moved. (gotten old core fed w acts f handles held keeps at_hand bound over b l d past fit).got ∙ ap option_to_list (sym at_hand);
   ended = ended_after old.course (is_answered (option_map asker_of (find is_stop old.core.hand)) acts);
   no_room = λ g e. absurd (let x : true ≡ false = e in cc);
   stays = refl;
 }
 
--- where room was made before
-pub keeps_from : (m w : WaitingLists) (outcomes : List Outcome) (lines : List Urc) (acts : List Act) → m.outcomes ≡ outcomes → m.lines ≡ lines → Keeps m w acts → Keeps (record { outcomes = outcomes; lines = lines; room = m.room }) w acts
-keeps_from m w outcomes lines acts same_outcomes same_lines keeps =
-    subst (λ (os : List Outcome). Keeps (record { outcomes = os; lines = lines; room = m.room }) w acts) same_outcomes
-    (subst (λ (us : List Urc). Keeps (record { outcomes = m.outcomes; lines = us; room = m.room }) w acts) same_lines keeps)
+-- data of an open connection is handled: it ends no Stop
+pub gets_data : (old : Machine) (core : Core) (fed : Deframing) (w : WaitingLists) (f : Frame) → GetsData old.core core (record { outcomes = old.unplaced; lines = old.unannounced }) w (Got f)
+    → old.deframer.next ≡ Some f → fed.n1 ≡ old.deframer.n1 → HandsOver old.deframer fed
+    → MachineGets old (record old { core = core; deframer = fed; unplaced = w.outcomes; unannounced = w.lines }) true
+gets_data old core fed w f g at_hand bound over =
+    let same : course_after old.course (is_answered (option_map asker_of (find is_stop old.core.hand)) g.acts) ≡ old.course = ap (course_after old.course) g.answered_is ∙ unanswered old.course in
+    subst (λ (c : Course). MachineGets old (record old { core = core; deframer = fed; unplaced = w.outcomes; unannounced = w.lines; course = c }) true) same
+    (gets_moved old core fed w g.acts f g.past g.holds g.keeps at_hand bound over)
+  where
+    unanswered : (c : Course) → course_after c false ≡ c
+    unanswered course.GoesOn = refl
+    unanswered course.Stopped = refl
+    unanswered (course.Ended end) = refl
 
 -- ## Where it isn't handled
 

@@ -117,11 +117,11 @@ lost_ends s v =
     ∙ later_ends (Unit {0}) v (states_now s v (Lost ∷ [])) Lost v.waiting (λ r _. answer_ends v (states_now s v (Lost ∷ [])) r r.ask) (λ _. tt)
 
 -- all in hand are told, and what they are told waits
-pub loses : (old : Machine) (core : Core) (room : ℕ) (w : WaitingLists) (acts : List Act)
-    → Handles old.core core Lost acts → KeepsHeld old.core core Lost acts → Keeps (record { outcomes = old.unplaced; lines = old.unannounced; room = room }) w acts → old.faulty ≡ true → old.core.lost ≡ false
+pub loses : (old : Machine) (core : Core) (w : WaitingLists) (acts : List Act)
+    → Handles old.core core Lost acts → KeepsHeld old.core core Lost acts → Keeps (record { outcomes = old.unplaced; lines = old.unannounced }) w acts → old.faulty ≡ true → old.core.lost ≡ false
     → MachineLoses old (record old { core = core; unplaced = w.outcomes; unannounced = w.lines })
 unfolding MachineGoes Handles KeepsHeld
-loses old core room w acts handles held keeps faulty live =
+loses old core w acts handles held keeps faulty live =
     let new : Machine = record old { core = core; unplaced = w.outcomes; unannounced = w.lines } in
     record {
       acts = acts;
@@ -135,7 +135,7 @@ loses old core room w acts handles held keeps faulty live =
           let hold : HoldsFit core (after past (Lost ∷ more)) = subst (λ (xs : List Act). HoldsFit core (after past xs)) on.called (held s past (may_come b l d old past Lost f refl) f.inside.holds) in
           let keep : KeepsMore old new (Lost ∷ more) = subst (KeepsMore old new) on.called (record {
             outcomes = keeps.outcomes;
-            lines = keeps.lines (subst (λ (xs : List Act). length xs ≤ room) (sym none) (omega arith));
+            lines = keeps.lines;
           }) in
           let before : filter is_loss past ≡ [] = none_lost past (f.inside.fits.lost_is ∙ live) in
           let one : filter is_loss (after past (Lost ∷ more)) ≡ Lost ∷ [] = losses_after more (Lost ∷ past) said ∙ ap (λ (xs : List Act). Lost ∷ xs) before in
@@ -174,7 +174,7 @@ loses old core room w acts handles held keeps faulty live =
           let told : length (outcomes_told acts) ≡ length (outcomes_told (Lost ∷ more)) = ap (λ (xs : List Act). length (outcomes_told xs)) on.called in
           record {
             outcomes = keeps.outcomes (omega (arith, few, fewer, told));
-            lines = keeps.lines (subst (λ (xs : List Act). length xs ≤ room) (sym none) (omega arith));
+            lines = keeps.lines;
             may = λ us. ap (list_all (may_fail us)) on.called ∙ fail_all us more (said_may us more said);
             none_got = ap gots on.called ∙ said_none more said;
           };

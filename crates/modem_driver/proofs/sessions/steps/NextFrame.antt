@@ -24,14 +24,13 @@ use Rattle.modem_history.specs.Sessions.{Beginning, LineView, TakesWithRoom, dri
 use Rattle.modem_history.specs.Turns.{outcomes_told, lines_heard, may_act}
 use Rattle.modem_driver.specs.WaitingTicks.{AreDelays}
 use Rattle.modem_driver.specs.declared.machine.delays.Delay.{Delay}
-use Rattle.modem_core.specs.Cores.{Core}
 use Rattle.modem_core.specs.CoreGoing.{StandsIn, GoesOut, CoreGoesOn, gone_on}
 use Rattle.modem_history.specs.EveryTurn.{acts_out, octets_out, goes_in}
 use Rattle.modem_history.specs.GoingOut.{next_out, out_by, next_to_send, data_of, with_out, after_out}
 use Rattle.modem_core.specs.Holding.{HoldsFit, KeepsHeldOut}
 use Rattle.modem_core.specs.Running.{CoreIsIdle}
 use Rattle.modem_driver.specs.SessionStates.{Machine, seen_by, end_of}
-use Rattle.modem_driver.specs.TurnSteps.{SendsOn, AddsAll, Leads, is_more, turn_state, view_of}
+use Rattle.modem_driver.specs.TurnSteps.{AddsAll, Leads, is_more, turn_state, view_of}
 use Rattle.modem_driver.specs.SendingSteps.{MachineSends}
 use Rattle.modem_core.proofs.sessions.steps.LongerHistories.{has_listener}
 use Rattle.modem_driver.proofs.sessions.steps.CoreCalls.{FitsMachine, is_run}
@@ -290,22 +289,20 @@ send_busy old some l d = record {
         by_length false e = refl
 
 -- and where nothing is left to send
-pub send_none : (old : Machine) (core : Core) → core ≡ old.core → GoesOut old.core None → CoreIsIdle old.core → old.unwritten ≡ [] → MachineSends old (record old { core = core }) false
+pub send_none : (old : Machine) → GoesOut old.core None → CoreIsIdle old.core → old.unwritten ≡ [] → MachineSends old old false
 unfolding MachineSends Leads AddsAll GoesOut
-send_none old core same goes idle none l d =
-    subst (λ (v : Core). SendsOn (turn_state l d old) (turn_state l d (record old { core = v })) false) (sym same)
-    (record {
-      acts = [];
-      leads = λ b past fit. fit;
-      adds = λ waiting b past fit. record { outcomes = sym (append-nil old.unplaced); lines = sym (append-nil (map heard_as old.unannounced)); may = refl; few_got = omega arith };
-      moved_is = refl;
-      idle = λ e. (refl, (refl, idle));
-      none_left = λ e b past fit. sym (goes (driving b) past (stands_in b l d old past fit));
-      busy = λ m e. absurd (e none);
-      acts_are = λ b past fit. ap acts_out (nothing b past fit);
-      octets_are = λ b past fit. sym (append-nil old.unwritten) ∙ ap (λ (o : Option Outgoing). old.unwritten ++ octets_out o) (nothing b past fit);
-      stays = refl;
-    })
+send_none old goes idle none l d = record {
+  acts = [];
+  leads = λ b past fit. fit;
+  adds = λ waiting b past fit. record { outcomes = sym (append-nil old.unplaced); lines = sym (append-nil (map heard_as old.unannounced)); may = refl; few_got = omega arith };
+  moved_is = refl;
+  idle = λ e. (refl, (refl, idle));
+  none_left = λ e b past fit. sym (goes (driving b) past (stands_in b l d old past fit));
+  busy = λ m e. absurd (e none);
+  acts_are = λ b past fit. ap acts_out (nothing b past fit);
+  octets_are = λ b past fit. sym (append-nil old.unwritten) ∙ ap (λ (o : Option Outgoing). old.unwritten ++ octets_out o) (nothing b past fit);
+  stays = refl;
+}
   where
     nothing : (b : Beginning) (past : List Act) → FitsMachine b l d old past → None ≡ goes_in b (view_of (turn_state l d old)) past
     nothing b past fit = goes (driving b) past (stands_in b l d old past fit) ∙ ap (λ (xs : List ℕ). if length xs == 0 then next_out (driving b) past else None) (sym none)

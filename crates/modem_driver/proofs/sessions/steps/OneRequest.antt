@@ -64,12 +64,12 @@ record Taken (b : Beginning) (l : LineView) (later : DriverView) (old new : Mach
 abbrev acts_of : Request → List Act → List Act
 acts_of q acts = Took q ∷ drop 1 acts
 
-takes_all : (old : Machine) (core : Core) (room : ℕ) (q : Request) (w : WaitingLists) (acts : List Act) → old.core.station.role ≡ Initiator
-    → Handles old.core core (Took q) acts → KeepsHeld old.core core (Took q) acts → Keeps (record { outcomes = old.unplaced; lines = old.unannounced; room = room }) w acts
+takes_all : (old : Machine) (core : Core) (q : Request) (w : WaitingLists) (acts : List Act) → old.core.station.role ≡ Initiator
+    → Handles old.core core (Took q) acts → KeepsHeld old.core core (Took q) acts → Keeps (record { outcomes = old.unplaced; lines = old.unannounced }) w acts
     → (b : Beginning) (l : LineView) (d later : DriverView) (past : List Act) → FitsMachine b l d old past → TakesNext b l d later old q
     → Taken b l later old (record old { core = core; unplaced = w.outcomes; unannounced = w.lines }) past (acts_of q acts)
 unfolding Handles KeepsHeld
-takes_all old core room q w acts role handles held keeps b l d later past f next =
+takes_all old core q w acts role handles held keeps b l d later past f next =
     let new : Machine = record old { core = core; unplaced = w.outcomes; unannounced = w.lines } in
     let s = driving b in
     let v = seen_by l (end_of d) old in
@@ -88,11 +88,11 @@ takes_all old core room q w acts role handles held keeps b l d later past f next
     let hand = ap (length {A = Request}) f.inside.fits.hand_is in
     let one : length (in_hand past ++ q ∷ []) ≡ length (in_hand past) + 1 = length-append (in_hand past) (q ∷ []) in
     let none : lines_heard acts ≡ [] = ap lines_heard on.called ∙ lines_of_call s (seen s past) (Took q) in
-    let kept : Keeps (record { outcomes = old.unplaced; lines = old.unannounced; room = room }) w (Took q ∷ more) = subst (Keeps (record { outcomes = old.unplaced; lines = old.unannounced; room = room }) w) on.called keeps in
+    let kept : Keeps (record { outcomes = old.unplaced; lines = old.unannounced }) w (Took q ∷ more) = subst (Keeps (record { outcomes = old.unplaced; lines = old.unannounced }) w) on.called keeps in
     let silent : lines_heard (Took q ∷ more) ≡ [] = sym (ap lines_heard on.called) ∙ none in
     let unplaced : w.outcomes ≡ old.unplaced ++ outcomes_told more = kept.outcomes (omega arith) in
     let long : length w.outcomes ≡ length old.unplaced + length (outcomes_told more) = ap length unplaced ∙ length-append old.unplaced (outcomes_told more) in
-    let lines = kept.lines (subst (λ (xs : List Act). length xs ≤ room) (sym silent) (omega arith)) in
+    let lines = kept.lines in
     let are : acts_of q acts ≡ Took q ∷ more = ap (acts_of q) on.called in
     subst (Taken b l later old new past) (sym are) (record {
       fits = record {
@@ -134,13 +134,13 @@ takes_all old core room q w acts role handles held keeps b l d later past f next
     })
 
 -- the core took it, and what that told waits
-pub takes : (old : Machine) (core : Core) (room : ℕ) (q : Request) (w : WaitingLists) (acts : List Act) → old.core.station.role ≡ Initiator
-    → Handles old.core core (Took q) acts → KeepsHeld old.core core (Took q) acts → Keeps (record { outcomes = old.unplaced; lines = old.unannounced; room = room }) w acts
+pub takes : (old : Machine) (core : Core) (q : Request) (w : WaitingLists) (acts : List Act) → old.core.station.role ≡ Initiator
+    → Handles old.core core (Took q) acts → KeepsHeld old.core core (Took q) acts → Keeps (record { outcomes = old.unplaced; lines = old.unannounced }) w acts
     → MachineTakes old (record old { core = core; unplaced = w.outcomes; unannounced = w.lines }) q
-takes old core room q w acts role handles held keeps = record {
+takes old core q w acts role handles held keeps = record {
   acts = acts_of q acts;
-  goes = λ b l d later past f next. (takes_all old core room q w acts role handles held keeps b l d later past f next).fits;
-  adds = λ waiting b l d later past f next. (takes_all old core room q w acts role handles held keeps b l d later past f next).adds waiting;
+  goes = λ b l d later past f next. (takes_all old core q w acts role handles held keeps b l d later past f next).fits;
+  adds = λ waiting b l d later past f next. (takes_all old core q w acts role handles held keeps b l d later past f next).adds waiting;
   moves = refl;
   stays = refl;
 }

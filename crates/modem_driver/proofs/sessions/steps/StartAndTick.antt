@@ -81,11 +81,11 @@ tick_bare : (past : List Act) → IsBare Tick past
 tick_bare past = record { taken_is = refl; given_is = refl; hand_is = refl; room_is = λ h. h; turn_is = λ s h. (tt, h); told_is = λ more. refl; heard_is = λ more. refl }
 
 -- a tick: the core handled it, what it told waits, and its ticks are counted
-pub tick_goes : (old : Machine) (core : Core) (delays : List (Option Delay)) (room : ℕ) (w : WaitingLists) (acts : List Act)
-    → Handles old.core core Tick acts → KeepsHeld old.core core Tick acts → Keeps (record { outcomes = old.unplaced; lines = old.unannounced; room = room }) w acts → CountsTick old.delays delays old.core.hand → old.core.lost ≡ false
+pub tick_goes : (old : Machine) (core : Core) (delays : List (Option Delay)) (w : WaitingLists) (acts : List Act)
+    → Handles old.core core Tick acts → KeepsHeld old.core core Tick acts → Keeps (record { outcomes = old.unplaced; lines = old.unannounced }) w acts → CountsTick old.delays delays old.core.hand → old.core.lost ≡ false
     → MachineTicks old (record old { core = core; unplaced = w.outcomes; unannounced = w.lines; delays = delays; course = course_after old.course (is_answered (option_map asker_of (find is_stop old.core.hand)) acts) })
 unfolding MachineGoes Handles KeepsHeld
-tick_goes old core delays room w acts handles held keeps counts live =
+tick_goes old core delays w acts handles held keeps counts live =
     let new : Machine = record old { core = core; unplaced = w.outcomes; unannounced = w.lines; delays = delays; course = course_after old.course (is_answered (option_map asker_of (find is_stop old.core.hand)) acts) } in
     record {
       acts = acts;
@@ -100,7 +100,7 @@ tick_goes old core delays room w acts handles held keeps counts live =
           let hold : HoldsFit core (after past (Tick ∷ more)) = subst (λ (xs : List Act). HoldsFit core (after past xs)) on.called (held s past may f.inside.holds) in
           let keep : KeepsMore old new (Tick ∷ more) = subst (KeepsMore old new) on.called (record {
             outcomes = keeps.outcomes;
-            lines = keeps.lines (subst (λ (xs : List Act). length xs ≤ room) (sym none) (omega arith));
+            lines = keeps.lines;
           }) in
           let lost : FitsLoss b (seen_by l (end_of d) new) (after past (Tick ∷ more)) = record {
             one = subst (λ (xs : List Act). length xs ≤ 1) (sym (losses_after more (Tick ∷ past) said)) f.session.loss.one;

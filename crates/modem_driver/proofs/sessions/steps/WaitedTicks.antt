@@ -13,7 +13,8 @@ use Rattle.modem_desk.specs.Ends.{DriverView}
 use Rattle.modem_history.specs.Sessions.{Beginning, LineView}
 use Rattle.modem_driver.specs.Endpoints.{EndpointFits, EndpointState}
 use Rattle.modem_driver.specs.SessionStates.{FitsAll, Machine, SessionState}
-use Rattle.modem_driver.specs.WaitingTicks.{AreDelays, CountsTick, delay_after, delay_at, first_command, is_first, is_same, one_more, ticks_kept, ticks_shown, ticks_waited, waiting_ticks}
+use Rattle.serial_line.specs.Counts.{one_more}
+use Rattle.modem_driver.specs.WaitingTicks.{AreDelays, CountsTick, delay_after, delay_at, first_command, is_first, is_same, ticks_kept, ticks_shown, ticks_waited, waiting_ticks}
 use Rattle.modem_queues.specs.declared.asker.Asker.{Asker}
 use Rattle.modem_driver.specs.declared.machine.delays.Delay.{Delay}
 

@@ -1,6 +1,8 @@
 -- The frame is the one in front.
-use Rattle.std.specs.Prelude.{drop, refl}
-use Rattle.std.proofs.Common.{◌∙◌, sym, arith, get_or-drop}
+use Rattle.std.specs.Prelude.{Option, drop, refl, unwrap_or}
+use Rattle.std.proofs.Common.{◌∙◌, ap, sym, arith, get_or-drop}
+use Rattle.mux_frame.specs.declared.frame.Kind.{Kind}
+use Rattle.mux_frame.specs.declared.frame.Kind.TheVariants.{Uih}
 use Rattle.mux_station.proofs.queues.FrameOctets.{info_short, front_number, front_plain, front_built, part_of}
 use Rattle.mux_station.proofs.control_octets.frame_at.Goals as goal
 
@@ -39,7 +41,7 @@ invariant_of-result-2 c =
     let e = c.extent_at-extent.ensures in
     record {
       plain =
-          front_plain octets c.octets_from-info.result.items c.octet_at-control.result c.kind_of.result c.requires (get_or-drop c.args.place items 2 0 ∙ sym c.octet_at-control.ensures) c.kind_of.ensures
+          front_plain octets c.octets_from-info.result.items c.octet_at-control.result c.unwrap_or.result c.requires (get_or-drop c.args.place items 2 0 ∙ sym c.octet_at-control.ensures) (c.unwrap_or.ensures ∙ ap (λ (k : Option Kind). unwrap_or k Uih) c.kind_of.ensures)
           (part_of items c.octets_from-info.result.items c.args.place c.extent_at-extent.result.lead c.extent_at-extent.result.info octets refl e.lead e.info c.octets_from-info.ensures);
     }
 
@@ -48,5 +50,5 @@ returns c =
     let items = c.args.octets.now.items in
     let octets = drop c.args.place items in
     let e = c.extent_at-extent.ensures in
-    front_built octets c.octets_from-info.result.items c.octet_at-address.result c.octet_at-control.result c.kind_of.result (get_or-drop c.args.place items 1 0 ∙ sym c.octet_at-address.ensures) (get_or-drop c.args.place items 2 0 ∙ sym c.octet_at-control.ensures) c.kind_of.ensures
+    front_built octets c.octets_from-info.result.items c.octet_at-address.result c.octet_at-control.result c.unwrap_or.result (get_or-drop c.args.place items 1 0 ∙ sym c.octet_at-address.ensures) (get_or-drop c.args.place items 2 0 ∙ sym c.octet_at-control.ensures) (c.unwrap_or.ensures ∙ ap (λ (k : Option Kind). unwrap_or k Uih) c.kind_of.ensures)
     (part_of items c.octets_from-info.result.items c.args.place c.extent_at-extent.result.lead c.extent_at-extent.result.info octets refl e.lead e.info c.octets_from-info.ensures)

@@ -1,23 +1,19 @@
 -- What the frame called for waits, or the frame stays at hand.
-use Rattle.std.proofs.Common.{◌≡◌, List, ◌∷◌, ◌≤◌, length, ap, sym, ◌∙◌, subst, refl, false, true, arith}
-use Rattle.std.specs.Prelude.{map, find, option_map}
+use Rattle.std.proofs.Common.{◌≡◌, List, ap, sym, ◌∙◌, subst, refl, false, true}
 use Rattle.mux_frame.specs.Deframing.{HandsOver}
 use Rattle.mux_frame.specs.Frames.{frame_of}
 use Rattle.line_end.specs.LineEnds.{LineEnd}
-use Rattle.modem_history.specs.Acts.{Got, act_of}
-use Rattle.modem_history.specs.Turns.{lines_heard}
+use Rattle.modem_history.specs.Acts.{Got}
 use Rattle.modem_driver.specs.declared.machine.course.Course.{Course}
-use Rattle.modem_queues.specs.Stops.{asker_of, is_answered, is_stop}
+use Rattle.modem_queues.specs.Stops.{is_answered}
 use Rattle.modem_driver.specs.Endings.{course_after}
 use Rattle.modem_driver.specs.SessionStates.{Machine}
 use Rattle.modem_desk.specs.declared.request.Urc.{Urc}
 use Rattle.modem_core.specs.Doing.{acts_since, stop_in}
 use Rattle.modem_core.proofs.cores.DoneCalls.{keeps_since}
 use Rattle.modem_driver.specs.GettingSteps.{HasData, MachineGets}
-use Rattle.modem_driver.proofs.sessions.polls.StopProgress.{noted}
-use Rattle.modem_driver.proofs.sessions.steps.FrameAtHand.{gets_moved, gets_none, has_data, keeps_from, none_at_hand, stays_at_hand}
+use Rattle.modem_driver.proofs.sessions.steps.FrameAtHand.{gets_data, gets_moved, gets_none, has_data, none_at_hand, stays_at_hand}
 use Rattle.modem_driver.proofs.sessions.steps.MachineParts.{at_end, machine_of}
-use Rattle.modem_driver.proofs.frames.FollowingActs.{came_answers, few_heard, keeps_came}
 use Rattle.modem_driver.proofs.machine.Machine.get_one.Goals as goal
 
 pub returns-in_default-clause-gets : goal.returns-in_default-clause-gets
@@ -32,26 +28,16 @@ pub returns-clause-gets : goal.returns-clause-gets
 returns-clause-gets c =
     let k = c.self.inside in
     let old : Machine = machine_of k in
-    let core = c.follow.new.self in
-    let room = c.follow.new.waiting in
+    let core = c.get_data.new.core in
     let fed = c.advance-2.new.self.deframer in
-    let w = c.keep.new.self in
-    let f = frame_of c.in-Some.frame in
-    let e = c.in-Ok.ensures in
+    let w = c.get_data.new.self in
     let same = c.peek.follows.holds-at-none in
     let passed = c.advance-2.ensures.rest ∙ ap (λ (l : LineEnd). record l { deframer = fed }) same in
-    let stop = option_map asker_of (find is_stop k.core.hand) in
-    let said = c.follow.new.said.acts.items in
-    let more = map act_of said in
-    let acts = Got f ∷ more in
-    let course : c.note.new.self ≡ course_after k.course (is_answered stop acts) = noted k.course c.note.new.self c.stop-stop.result stop c.as_slice.result.now said c.note.ensures c.stop-stop.ensures c.as_slice.ensures.value ∙ ap (course_after k.course) (sym (came_answers stop f more)) in
-    let new : Course → LineEnd → Machine = λ x l. at_end (record old { core = core; unplaced = w.outcomes; unannounced = w.lines; course = x }) l in
-    let enough : length (lines_heard acts) ≤ room.room = few_heard said room.room e.room in
-    subst (λ (v : Machine). MachineGets v (new c.note.new.self c.advance-2.new.self) true) c.self.view_is
-    (subst (λ (l : LineEnd). MachineGets old (new c.note.new.self l) true) (sym passed)
-    (subst (λ (x : Course). MachineGets old (new x (record k.line_end { deframer = fed })) true) (sym course)
-    (gets_moved old core fed room.room w acts f e.past e.holds (keeps_from room w old.unplaced old.unannounced acts c.follow.ensures.outcomes c.follow.ensures.lines (keeps_came room w f more c.keep.ensures)) enough
-    (sym c.in-Some.ensures.frame) (c.advance-2.ensures.n1 ∙ ap (λ (l : LineEnd). l.deframer.n1) same) (subst (λ (l : LineEnd). HandsOver l.deframer fed) same c.advance-2.ensures.past))))
+    let new : LineEnd → Machine = λ l. at_end (record old { core = core; unplaced = w.outcomes; unannounced = w.lines }) l in
+    subst (λ (v : Machine). MachineGets v (new c.advance-2.new.self) true) c.self.view_is
+    (subst (λ (l : LineEnd). MachineGets old (new l) true) (sym passed)
+    (gets_data old core fed w (frame_of c.in-Some.frame) c.in-Ok.ensures.gets
+    (sym c.in-Some.ensures.frame) (c.advance-2.ensures.n1 ∙ ap (λ (l : LineEnd). l.deframer.n1) same) (subst (λ (l : LineEnd). HandsOver l.deframer fed) same c.advance-2.ensures.past)))
 
 pub returns-then-not-is_data-clause-gets : goal.returns-then-not-is_data-clause-gets
 returns-then-not-is_data-clause-gets c =
@@ -65,7 +51,6 @@ returns-then-not-is_data-clause-gets c =
     let passed = c.advance.ensures.rest ∙ ap (λ (l : LineEnd). record l { deframer = fed }) same in
     let does = c.in-Some-get.ensures.does in
     let acts = acts_since (Got f) k.core core does.told in
-    let size = length (lines_heard acts) in
     let course : c.go_on.new.self ≡ course_after k.course (is_answered (stop_in k.core) acts) = c.go_on.ensures ∙ ap (course_after k.course) does.answered_is in
     let new : Course → List Urc → LineEnd → Machine = λ x us l. at_end (record old { core = core; unplaced = w.outcomes; unannounced = us; course = x }) l in
     let after = course_after k.course (is_answered (stop_in k.core) acts) in
@@ -73,8 +58,8 @@ returns-then-not-is_data-clause-gets c =
     (subst (λ (l : LineEnd). MachineGets old (new c.go_on.new.self w.lines l) true) (sym passed)
     (subst (λ (x : Course). MachineGets old (new x w.lines (record k.line_end { deframer = fed })) true) (sym course)
     (subst (λ (us : List Urc). MachineGets old (new after us (record k.line_end { deframer = fed })) true) (sym c.get.ensures.lines)
-    (gets_moved old core fed size (record { outcomes = w.outcomes; lines = k.waiting.lines; room = size }) acts f does.past does.holds
-    (keeps_since (Got f) k.core core k.waiting.outcomes w.outcomes does.told k.waiting.lines size (λ xs. refl) (λ xs. refl) does.adds) (omega arith)
+    (gets_moved old core fed (record { outcomes = w.outcomes; lines = k.waiting.lines }) acts f does.past does.holds
+    (keeps_since (Got f) k.core core k.waiting.outcomes w.outcomes does.told k.waiting.lines (λ xs. refl) (λ xs. refl) does.adds)
     (sym c.in-Some.ensures.frame) (c.advance.ensures.n1 ∙ ap (λ (l : LineEnd). l.deframer.n1) same) (subst (λ (l : LineEnd). HandsOver l.deframer fed) same c.advance.ensures.past)))))
 
 pub returns-in_default-get-clause-gets : goal.returns-in_default-get-clause-gets
@@ -89,6 +74,6 @@ returns-in_default-get-clause-gets c =
     (subst (λ (l : LineEnd). MachineGets old (new l) false) (sym c.peek.follows.holds-at-none)
     (gets_none old core old.deframer w.outcomes w.lines (stays_at_hand old (frame_of c.in-Some.frame) c.in-Some.ensures.frame e.never_full e.no_room) e.stays refl e.untold c.get.ensures.lines))
 
-pub returns-in_default-follow-clause-at_hand : goal.returns-in_default-follow-clause-at_hand
-returns-in_default-follow-clause-at_hand c =
+pub returns-in_default-get_data-clause-at_hand : goal.returns-in_default-get_data-clause-at_hand
+returns-in_default-get_data-clause-at_hand c =
     subst HasData c.self.view_is (has_data (machine_of c.self.inside) (frame_of c.in-Some.frame) c.is_data.result c.in-Some.ensures.frame c.is_data.ensures.value c.if-not-is_data.false)

@@ -23,5 +23,5 @@ returns-clause-loses c =
     subst (λ (v : Machine). MachineLoses (record v { faulty = true }) (new w.lines c.fail.new.self)) c.self.view_is
     (subst (λ (l : LineEnd). MachineLoses failed (new w.lines l)) (sym c.fail.ensures)
     (subst (λ (us : List Urc). MachineLoses failed (record failed { core = core; unplaced = w.outcomes; unannounced = us })) (sym c.lose.ensures.lines)
-    (loses failed core 0 (record { outcomes = w.outcomes; lines = k.waiting.lines; room = 0 }) (acts_since Lost k.core core does.told) does.past does.holds
-    (keeps_since Lost k.core core k.waiting.outcomes w.outcomes does.told k.waiting.lines 0 (λ xs. refl) (λ xs. refl) does.adds) refl live)))
+    (loses failed core (record { outcomes = w.outcomes; lines = k.waiting.lines }) (acts_since Lost k.core core does.told) does.past does.holds
+    (keeps_since Lost k.core core k.waiting.outcomes w.outcomes does.told k.waiting.lines (λ xs. refl) (λ xs. refl) does.adds) refl live)))

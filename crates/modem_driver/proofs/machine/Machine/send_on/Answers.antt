@@ -1,5 +1,5 @@
 -- Octets wait, or nothing goes out, or the next frame does.
-use Rattle.std.proofs.Common.{◌≡◌, sym, ◌∙◌, subst, refl, [], false}
+use Rattle.std.proofs.Common.{◌≡◌, sym, ◌∙◌, subst, [], false}
 use Rattle.std.specs.Prelude.{◌≢◌}
 use Rattle.modem_driver.specs.SessionStates.{Machine}
 use Rattle.modem_driver.specs.SendingSteps.{MachineSends}
@@ -14,13 +14,13 @@ returns-then-not-is_written-clause-sends c =
     let some : old.unwritten ≢ [] = some_wait k.line_end.unwritten (sym c.is_written.ensures ∙ c.if-not-is_written.true) in
     subst (λ (v : Machine). MachineSends v v false) c.self.view_is (send_busy old some)
 
-pub returns-then-not-has_outgoing-clause-sends : goal.returns-then-not-has_outgoing-clause-sends
-returns-then-not-has_outgoing-clause-sends c =
+pub returns-in_default-clause-sends : goal.returns-in_default-clause-sends
+returns-in_default-clause-sends c =
     let k = c.self.inside in
     let old : Machine = machine_of k in
     let none : old.unwritten ≡ [] = none_wait k.line_end.unwritten (sym c.is_written.ensures ∙ c.if-not-is_written.false) in
     subst (λ (v : Machine). MachineSends v v false) c.self.view_is
-    (send_none old old.core refl (c.has_outgoing.ensures.none c.if-not-has_outgoing.true) (c.has_outgoing.ensures.idle c.if-not-has_outgoing.true) none)
+    (send_none old c.in_default.ensures.none c.in_default.ensures.idle none)
 
-pub send_next-requires : goal.send_next-requires
-send_next-requires c = subst (λ (v : Machine). v.unwritten ≡ []) c.self.view_is (none_wait c.self.inside.line_end.unwritten (sym c.is_written.ensures ∙ c.if-not-is_written.false))
+pub send_next-requires-clause-none : goal.send_next-requires-clause-none
+send_next-requires-clause-none c = subst (λ (v : Machine). v.unwritten ≡ []) c.self.view_is (none_wait c.self.inside.line_end.unwritten (sym c.is_written.ensures ∙ c.if-not-is_written.false))

@@ -22,6 +22,6 @@ returns c =
     record {
       takes = subst (λ (v : Machine). MachineTakes v (new w.lines) q) c.self.view_is
           (subst (λ (us : List Urc). MachineTakes old (new us) q) (sym c.take.ensures.lines)
-          (takes old core 0 q (record { outcomes = w.outcomes; lines = k.waiting.lines; room = 0 }) t.acts c.take.ensures.role t.past t.holds
-          (record { outcomes = t.adds; lines = λ fit. sym (append-nil (map heard_as k.waiting.lines)) ∙ ap (λ (hs : List Act). map heard_as k.waiting.lines ++ hs) (sym t.unheard) })));
+          (takes old core q (record { outcomes = w.outcomes; lines = k.waiting.lines }) t.acts c.take.ensures.role t.past t.holds
+          (record { outcomes = t.adds; lines = sym (append-nil (map heard_as k.waiting.lines)) ∙ ap (λ (hs : List Act). map heard_as k.waiting.lines ++ hs) (sym t.unheard) })));
     }

@@ -30,5 +30,5 @@ returns-clause-ticks c =
     subst (λ (v : Machine). MachineTicks v (new c.go_on.new.self w.lines)) c.self.view_is
     (subst (λ (x : Course). MachineTicks old (new x w.lines)) (sym course)
     (subst (λ (us : List Urc). MachineTicks old (new (course_after k.course (is_answered (stop_in k.core) acts)) us)) (sym c.tick-answered.ensures.lines)
-    (tick_goes old core delays 0 (record { outcomes = w.outcomes; lines = k.waiting.lines; room = 0 }) acts does.past does.holds
-    (keeps_since Tick k.core core k.waiting.outcomes w.outcomes does.told k.waiting.lines 0 (λ xs. refl) (λ xs. refl) does.adds) counts live)))
+    (tick_goes old core delays (record { outcomes = w.outcomes; lines = k.waiting.lines }) acts does.past does.holds
+    (keeps_since Tick k.core core k.waiting.outcomes w.outcomes does.told k.waiting.lines (λ xs. refl) (λ xs. refl) does.adds) counts live)))

@@ -4,39 +4,32 @@ use Rattle.std.proofs.Common.{◌∙◌, ap, arith}
 use Rattle.circular_buffer.specs.Buffer.{Buffer}
 use Rattle.mux_frame.specs.Frames.{Frame}
 use Rattle.mux_station.specs.Written.{written_length}
-use Rattle.mux_station.proofs.queues.ControlQueues.{seen_at, seen_taken, seen_none, none_is, front_whole, front_written, front_first, taken_read, taken_spelled, plain_short}
+use Rattle.mux_station.proofs.queues.ControlQueues.{seen_at, seen_taken, seen_some, front_whole, front_written, front_first, taken_read, taken_spelled, plain_short}
 use Rattle.mux_station.proofs.control_queue.ControlQueue.take.Goals as goal
-
-pub returns-then-self-eq0 : goal.returns-then-self-eq0
-returns-then-self-eq0 c =
-    let i = c.self.inside in
-    let q = c.args.self.now in (
-      (refl, λ _. tt, c.self.view_is ∙ seen_none q i.octets.items i.count i.octets.capacity c.self.view_is c.if-self-eq0.true),
-      record {
-        frame = none_is i.octets.items i.count c.self.invariant.spelled 0 (omega arith) ∙ seen_at q i.octets.items i.count i.octets.capacity c.self.view_is 0;
-        short = tt;
-        after = tt;
-      },
-    )
 
 pub frame_at-self-inside-requires : goal.frame_at-self-inside-requires
 frame_at-self-inside-requires c =
     let i = c.self.inside in
-    front_whole i.octets.items i.count c.self.invariant.spelled (omega arith)
+    front_whole i.octets.items i.count c.self.invariant.spelled (seen_some c.args.self.now i.octets.items i.count i.octets.capacity c.self.view_is c.requires)
 
 pub overflow_sub-len : goal.overflow_sub-len
 overflow_sub-len c =
     let i = c.self.inside in
-    let some : 0 < i.count = omega arith in
+    let some : 0 < i.count = seen_some c.args.self.now i.octets.items i.count i.octets.capacity c.self.view_is c.requires in
     let w = front_written i.octets.items i.count c.self.invariant.spelled some in
     let h = front_whole i.octets.items i.count c.self.invariant.spelled some in
     let same = ap written_length c.frame_at-self-inside.ensures in
     omega (arith, w, h.whole, same, c.written_len-length.ensures.octets, c.len.ensures.len)
 
-pub invariant_of-self-2 : goal.invariant_of-self-2
-invariant_of-self-2 c =
+pub overflow_sub-self : goal.overflow_sub-self
+overflow_sub-self c =
     let i = c.self.inside in
-    let some : 0 < i.count = omega arith in
+    let some : 0 < i.count = seen_some c.args.self.now i.octets.items i.count i.octets.capacity c.self.view_is c.requires in omega (arith, some)
+
+pub invariant_of-self : goal.invariant_of-self
+invariant_of-self c =
+    let i = c.self.inside in
+    let some : 0 < i.count = seen_some c.args.self.now i.octets.items i.count i.octets.capacity c.self.view_is c.requires in
     let w = front_written i.octets.items i.count c.self.invariant.spelled some in
     let h = front_whole i.octets.items i.count c.self.invariant.spelled some in
     let same = ap written_length c.frame_at-self-inside.ensures in
@@ -51,7 +44,7 @@ pub returns : goal.returns
 returns c =
     let i = c.self.inside in
     let q = c.args.self.now in
-    let some : 0 < i.count = omega arith in
+    let some : 0 < i.count = seen_some c.args.self.now i.octets.items i.count i.octets.capacity c.self.view_is c.requires in
     let w = front_written i.octets.items i.count c.self.invariant.spelled some in
     let h = front_whole i.octets.items i.count c.self.invariant.spelled some in
     let same = ap written_length c.frame_at-self-inside.ensures in

@@ -1,2 +1,0 @@
--- Frames that come: data of an open connection, and all others.
-pub mod FollowingActs
