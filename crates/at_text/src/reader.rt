@@ -151,6 +151,16 @@ impl LineReader {
         self.line.end(&[])
     }
 
+    /// Keeps octets that end no line, such as those that `run_len` counts. Requires that none of them is a line end.
+    pub fn keep(&mut self, octets: &[u8])
+        requires { list_any is_line_end octets.now ≡ false }
+        ensures kept { HasRead self.new (self.old ++ octets.now) }
+        ensures none { lines (self.old ++ octets.now) ≡ [] }
+        ensures before { HasRead self.old self.old }
+    {
+        self.line.keep(octets);
+    }
+
     /// Forgets the line that hasn't ended yet.
     pub fn reset(&mut self)
         ensures { HasRead self.new [] }

@@ -30,6 +30,17 @@ pub enum UrcKind {
 impl UrcKind {
     ghost use Rattle.at_text.specs.Kinds.{kind_place};
 
+    /// The kinds of the standards, and Other, each at its place.
+    pub const STANDARD: [UrcKind; 7] = [
+        UrcKind::Ring,
+        UrcKind::Cring,
+        UrcKind::Creg,
+        UrcKind::Cgreg,
+        UrcKind::Cgev,
+        UrcKind::Ciev,
+        UrcKind::Other,
+    ];
+
     /// The place of a kind: 0 to 6, those of the standards and Other, then from 7 on those of a dialect's own.
     pub fn place(self) -> usize
         ensures place { result ≡ kind_place self }

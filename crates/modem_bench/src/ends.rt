@@ -12,13 +12,11 @@ use bell::Bell;
 use modem_desk::{Caller, Desk, DriverEnd, Listener};
 use modem_driver::Session;
 use modem_sim::{Modem, ModemStart, Script, Sim};
+use mux_frame::N1;
 use results::{beside, both};
 use serial_line::{SerialLine, ThreadLine};
 use std::alloc::Global;
 use std::sync::Wait;
-
-/// Octets of information that a frame of a bench may have.
-const N1: u16 = 31;
 
 /// What a bench begins with.
 #[derive(Drop)]
@@ -69,7 +67,7 @@ fn make_session<L: SerialLine + Drop, R: Wait + Drop>(
     ensures begins { IfOk result (λ s. FitsAll (beginning_of 31 (L.seen line) driver) L.seen s []) }
     ensures same { IfOk result (λ s. (s.line ≡ line) × (s.driver ≡ driver)) }
 {
-    match Session::new(rt, alloc, line, driver, N1) {
+    match Session::new(rt, alloc, line, driver, N1::DEFAULT) {
         Ok(session) => Ok(session),
         Err(_) => Err(Fault::NoMemory),
     }
@@ -80,7 +78,7 @@ fn make_sim<L: SerialLine + Drop>(alloc: Global, line: L, script: Script) -> Res
     ensures { IfOk result (IsStarted L.seen line script) }
 {
     let modem = Modem::new(alloc, ModemStart::default());
-    match Sim::new(alloc, line, modem, script, N1) {
+    match Sim::new(alloc, line, modem, script, N1::DEFAULT) {
         Ok(sim) => Ok(sim),
         Err(_) => Err(Fault::NoMemory),
     }

@@ -57,7 +57,7 @@ pub data GivesOn : LineView → DriverView → EndpointState → EndpointState �
       → GivesOn l d e f before → TakesOctets (with_sent l before) d f g [] blocked → GivesOn l d e g before
 
 -- What an endpoint answers to input of no octets: nothing blocks it where no frame is at hand; OutputFirst where the frame at
--- hand lacks room; NoMemory where a frame is at hand.
+-- hand lacks room; NoMemory where data of an open connection is at hand.
 abbrev pub SaysOfFrames : EndpointState → Option Blocked → Type 0
 SaysOfFrames e blocked = MachineSays e.machine (Unit {0}) blocked
 

@@ -5,16 +5,6 @@ ghost use Rattle.modem_c.specs.Numbers.{is_in, kind_bit, kind_number, kinds_in, 
 use at_text::UrcKind;
 use std::alloc::{AllocError, Global};
 
-const KINDS: [UrcKind; 7] = [
-    UrcKind::Ring,
-    UrcKind::Cring,
-    UrcKind::Creg,
-    UrcKind::Cgreg,
-    UrcKind::Cgev,
-    UrcKind::Ciev,
-    UrcKind::Other,
-];
-
 /// The number of a kind: 1 to 7, and from 8 on that of a dialect's own.
 pub(crate) fn kind_number(kind: UrcKind) -> u16
     ensures { result ≡ kind_number kind }
@@ -55,7 +45,7 @@ fn chosen(alloc: Global, all: &[UrcKind], kinds: u8) -> Result<Vec<UrcKind>, All
 pub(crate) fn kinds_in(alloc: Global, kinds: u8) -> Result<Vec<UrcKind>, AllocError>
     ensures { IfOk result (λ v. v.items ≡ kinds_in kinds) }
 {
-    chosen(alloc, &KINDS, kinds)
+    chosen(alloc, &UrcKind::STANDARD, kinds)
 }
 
 /// Puts the kinds of a dialect's own that are in a set behind these.

@@ -17,7 +17,7 @@ use crate::pipe::Reading;
 use crate::pipe_set::Pipes;
 use crate::watch::info_cr;
 use mux_frame::laws::deframed;
-use mux_frame::{Deframer, Dlci, FrameView, Kind};
+use mux_frame::{Deframer, Dlci, FrameView, Kind, N1};
 use mux_station::Role;
 use std::alloc::{AllocError, Global};
 use std::marker::Model;
@@ -107,7 +107,7 @@ impl Relay {
         ensures others { OnErr result ((result ≡ Err error.BadN1) ⊎ ((result ≡ Err error.TooMany) ⊎ ((result ≡ Err error.ControlChannel)
             ⊎ ((result ≡ Err error.Twice) ⊎ (result ≡ Err error.NoMemory))))) }
     {
-        if n1 < 31 || n1 > 32767 {
+        if N1::new(n1).is_none() {
             return Err(DataError::BadN1);
         }
         let pipes = Pipes::new(alloc, role, named)?;

@@ -4,3 +4,4 @@ pub mod OfferedPieces
 pub mod ScriptSteps
 pub mod QueueRoom
 pub mod HandedOctets
+pub mod SilentFrames

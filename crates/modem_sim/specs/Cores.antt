@@ -13,6 +13,7 @@ use Rattle.mux_station.specs.declared.noted.Noted.TheVariants.{AllClosed}
 use Rattle.mux_frame.specs.declared.frame.Kind.TheVariants.{Sabm}
 use Rattle.mux_station.specs.Written.{is_on, is_data_frame}
 use Rattle.mux_station.specs.Messages.{cld, brings_command}
+use Rattle.serial_line.specs.Counts.{saturated}
 use Rattle.at_text.specs.Lines.{lines, kept_run}
 use Rattle.modem_sim.specs.Laws.{after_lines}
 use Rattle.modem_sim.specs.Pieces.{pieces_octets, replies}
@@ -37,10 +38,6 @@ pub record Core : Type 0 where
   pub come : ℕ
   pub steps : List Step
   pub closed : Bool
-
--- a count that stays at u64::MAX
-abbrev pub counted : ℕ → ℕ
-counted n = min n (2 ^ 64 - 1)
 
 -- steps without those that are passed over
 abbrev pub that_act : List Step → List Step
@@ -70,7 +67,7 @@ pub record Fits (e : End) (w : Wired) (c : Core) (past : List Act) : Type 0 wher
   pub free : call_owed past ≡ None
   pub modem_is : modem_after e past ≡ c.modem
   pub boxes_are : (d : ℕ) → d < 62 → FitsOpen e d past (box_at c d)
-  pub come_is : counted (length (heard past)) ≡ c.come
+  pub come_is : saturated (length (heard past)) ≡ c.come
   pub left_is : left e past ≡ that_act c.steps
   pub closed_is : is_closed_down past ≡ c.closed
   pub came_are : got past ≡ w.came
@@ -140,7 +137,7 @@ closes_all _ = false
 
 -- so many lines ended on this connection: holds that wait for them are over
 abbrev pub counted_in : Core → ℕ → ℕ → Core
-counted_in c d count = record c { boxes = map (box_heard d count) c.boxes; come = counted (c.come + count) }
+counted_in c d count = record c { boxes = map (box_heard d count) c.boxes; come = saturated (c.come + count) }
 
 -- the end with this modem and this box of a connection, on which so many lines ended
 abbrev pub kept_in : Core → ℕ → ModemState → Box → ℕ → Bool → Core
@@ -157,7 +154,7 @@ pub record Takes (old new : Core) (f : Frame) : Type 0 where
       new.boxes
       ≡ map (box_heard f.dlci (length (lines_in old f)))
       (slice_set old.boxes f.dlci (box_turned (opens_in old f) true (brought old f) (box_at old f.dlci)))
-  pub come_is : new.come ≡ counted (old.come + length (lines_in old f))
+  pub come_is : new.come ≡ saturated (old.come + length (lines_in old f))
   pub steps_are : new.steps ≡ old.steps
   pub closed_is : new.closed ≡ (old.closed || closes_in old f)
 

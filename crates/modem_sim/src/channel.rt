@@ -1,6 +1,7 @@
 //! What a simulated modem keeps of a connection.
-ghost use Rattle.std.specs.Prelude.{◌≡◌, ◌≤◌, ◌++◌, ℕ, List, length, map, take, drop, min, true, false, OnOk, OnErr, IfOk, IsErrOf};
-ghost use Rattle.at_text.specs.Lines.{lines, kept_run};
+ghost use Rattle.std.specs.Prelude.{◌≡◌, ◌≤◌, ◌++◌, ℕ, List, [], length, map, take, drop, min, true, false, OnOk, OnErr, IfOk, IsErrOf};
+ghost use Rattle.std.specs.List.{list_any};
+ghost use Rattle.at_text.specs.Lines.{is_line_end, lines, kept_run};
 ghost use Rattle.modem_sim.specs.Boxes.{fresh_box, box_taken, box_heard, box_announced, box_holding, is_released, queue_of, released};
 ghost use Rattle.modem_sim.specs.Outboxes.{any_call};
 ghost use Rattle.modem_sim.specs.Pieces.{pieces_octets, replies};
@@ -139,6 +140,17 @@ impl Channel {
             Some(_) => self.held = said,
             None => self.unsent = said,
         }
+    }
+
+    /// Keeps octets that end no line, to which nothing is said.
+    #[tactic(auto, using(crate::proofs::connections::OctetReplies::kept_again))]
+    pub(crate) fn keep(&mut self, octets: &[u8])
+        requires { list_any is_line_end octets.now ≡ false }
+        ensures run { kept_run self.old.run ≡ self.old.run }
+        ensures none { lines (self.old.run ++ octets.now) ≡ [] }
+        ensures kept { self.new ≡ record self.old { run = kept_run (self.old.run ++ octets.now) } }
+    {
+        self.reader.keep(octets);
     }
 
     /// Whether it is in a call.

@@ -107,7 +107,6 @@ impl SimCore {
     }
 
     /// Takes out the next frame for the line and lends it. It takes no memory.
-    #[tactic(auto, using(crate::proofs::ends::OfferedPieces::gives_out))]
     pub(crate) fn outgoing(&mut self) -> Option<Outgoing<'_>>
         ensures frame { option_map outgoing_of result
             ≡ option_map (with_freshness (length self.old.station.queue == 0))

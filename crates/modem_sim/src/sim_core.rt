@@ -1,5 +1,6 @@
 //! A simulated modem's end of the line, without the line.
-ghost use Rattle.std.specs.Prelude.{◌≡◌, ◌↔◌, ◌⊎◌, ◌<◌, ◌≤◌, ◌==◌, ◌&&◌, ◌++◌, ℕ, List, [], length, replicate, true, false, is_none, IfOk, OnOk, OnErr, IsErrOf};
+ghost use Rattle.std.specs.Prelude.{◌≡◌, ◌↔◌, ◌⊎◌, ◌<◌, ◌≤◌, ◌==◌, ◌&&◌, ◌||◌, ◌++◌, ℕ, List, [], length, replicate, slice_set, true, false, is_none, if◌then◌else◌, IfOk, OnOk, OnErr, IsErrOf};
+ghost use Rattle.std.specs.List.{list_any};
 ghost use Rattle.mux_frame.specs.Frames.{frame_of};
 ghost use Rattle.mux_frame.specs.Spelling.{most_info, IsBadN1};
 ghost use Rattle.mux_station.specs.States.{is_opened};
@@ -7,7 +8,7 @@ ghost use Rattle.mux_station.specs.Stations.{channel_at, new_station, seen_in, s
 ghost use Rattle.mux_station.specs.Sending.{got_refused};
 ghost use Rattle.mux_station.specs.Fitting.{StationFits as FitsThere};
 ghost use Rattle.mux_station.specs.Written.{is_data_frame, is_on};
-ghost use Rattle.at_text.specs.Lines.{kept_run};
+ghost use Rattle.at_text.specs.Lines.{is_line_end, kept_run, lines};
 ghost use Rattle.modem_sim.specs.Acts.{Act, end_of};
 ghost use Rattle.modem_sim.specs.Boxes.{fresh_box, queue_of, box_turned};
 ghost use Rattle.modem_sim.specs.Cores.{Fits, EndGoesOn, box_at, closes_all, kept_in, nothing_wired, opens_in, octets_in};
@@ -16,6 +17,7 @@ use crate::channel::{Answered, Channel, hear_all};
 use crate::error::SimError;
 use crate::modem::Modem;
 use crate::script::{Script, Step};
+use at_text::run_len;
 use mux_frame::{Dlci, FrameView, Kind};
 use mux_station::{ChannelState, Noted, Role, Station, StationError};
 use std::alloc::{AllocError, Global};
@@ -180,7 +182,8 @@ impl SimCore {
     }
 
     /// Takes a frame that came: executes the lines that end in it, and says the replies. False where the frames that it
-    /// calls for find no room; that changes nothing, as want of memory does. The condition is that of `Station::got`.
+    /// calls for find no room; that changes nothing, as want of memory does. Memory is taken only where the octets of a line end come. The
+    /// condition is that of `Station::got`.
     pub(crate) fn got(&mut self, frame: FrameView<'_>) -> Result<bool, SimError>
         requires { length frame.info.now ≤ most_info self.old.station.n1 frame.kind }
         ensures took { IfOk result
@@ -193,11 +196,15 @@ impl SimCore {
         ensures left { IfOk result (λ took. took ≡ false → self.new ≡ self.old) }
         ensures err { OnErr result (self.new ≡ self.old) }
         ensures no_memory { OnErr result (IsErrOf result SimError.NoMemory) }
+        ensures ends { OnErr result (list_any is_line_end (octets_in self.old (frame_of frame.entry)) ≡ true) }
         ensures steps { OnOk result (self.new.steps ≡ self.old.steps) }
         ensures n1 { self.new.station.n1 ≡ self.old.station.n1 }
     {
         let opens = self.opens(frame);
         let octets = self.octets_in(frame);
+        if run_len(octets) == octets.len() {
+            return Ok(self.got_no_line(frame, opens, octets));
+        }
         let running = self.is_open(Dlci::CONTROL);
         let mut modem = self.modem.copy()?;
         let channel = &self.channels[usize::from(frame.dlci.number())];
@@ -208,6 +215,52 @@ impl SimCore {
         let closes = closes_down(running, frame, noted);
         self.keep(frame.dlci, opens, modem, answered, closes);
         Ok(true)
+    }
+
+    /// Takes a frame that ends no line, and brings these octets to an open connection. It copies nothing.
+    fn got_no_line(&mut self, frame: FrameView<'_>, opens: bool, octets: &[u8]) -> bool
+        requires bound { length frame.info.now ≤ most_info self.old.station.n1 frame.kind }
+        requires opens { opens ≡ opens_in self.old (frame_of frame) }
+        requires octets { octets.now ≡ octets_in self.old (frame_of frame) }
+        requires none { list_any is_line_end octets.now ≡ false }
+        ensures took { result ≡ true → EndGoesOn self.old self.new (frame_of frame.entry) }
+        ensures room { result
+            ≡ is_none
+            (got_refused (setting_of self.old.station) (seen_in self.old.station)
+            (frame_of frame.entry)) }
+        ensures left { result ≡ false → self.new ≡ self.old }
+        ensures steps { self.new.steps ≡ self.old.steps }
+        ensures n1 { self.new.station.n1 ≡ self.old.station.n1 }
+    {
+        let running = self.is_open(Dlci::CONTROL);
+        let Ok(noted) = self.station.got(frame) else {
+            return false;
+        };
+        let closes = closes_down(running, frame, noted);
+        self.keep_octets(frame.dlci, opens, octets, closes);
+        true
+    }
+
+    /// Keeps octets that end no line, which a frame brought to its connection. That starts afresh where the frame opens it.
+    fn keep_octets(&mut self, dlci: Dlci, opens: bool, octets: &[u8], closes: bool)
+        requires { list_any is_line_end octets.now ≡ false }
+        ensures run { kept_run (box_at self.old dlci.number).run ≡ (box_at self.old dlci.number).run }
+        ensures none { lines ((box_at self.old dlci.number).run ++ octets.now) ≡ [] }
+        ensures kept { self.new ≡ record self.old {
+          boxes = slice_set self.old.boxes dlci.number
+              (if opens then fresh_box
+              else record (box_at self.old dlci.number) { run = kept_run ((box_at self.old dlci.number).run ++ octets.now) });
+          closed = self.old.closed || closes;
+        } }
+        ensures steps { self.new.steps ≡ self.old.steps }
+        ensures n1 { self.new.station.n1 ≡ self.old.station.n1 }
+    {
+        let here = &mut self.channels[usize::from(dlci.number())];
+        here.keep(octets);
+        if opens {
+            here.start();
+        }
+        self.closed = self.closed || closes;
     }
 
     /// Keeps what a frame brought to its connection, which starts afresh where the frame opens it.

@@ -47,8 +47,8 @@ fn octet_at(octets: &[u8], place: usize) -> Option<u8>
 }
 
 #[inline(always)]
-/// The kind of a control octet, whatever its P/F bit (27.010, 5.2.1.3).
-fn kind_of(control: u8) -> Option<Kind>
+/// The kind of a control octet, whatever its P/F bit (27.010, 5.2.1.3). `None` where it is of no kind.
+pub fn kind_of(control: u8) -> Option<Kind>
     ensures { result ≡ kind_in control }
 {
     // The most frequent ones, in one comparison.

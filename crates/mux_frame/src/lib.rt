@@ -31,6 +31,7 @@ pub use dlci::Dlci;
 pub use error::FrameError;
 pub use frame::{FrameBuf, FrameView, Kind};
 pub use info::Info;
+pub use judge::kind_of;
 pub use n1::N1;
 pub use probe::ProbeData;
 pub use write::write_frame;

@@ -11,6 +11,9 @@ pub struct N1 {
 }
 
 impl N1 {
+    /// The octets of N1 where none are given (27.007, 5.7).
+    pub const DEFAULT: u16 = 31;
+
     /// N1 of so many octets; `None` unless they are 31 to 32767.
     pub fn new(octets: u16) -> Option<N1>
         ensures none { IsNone result ↔ IsBadN1 octets }

@@ -35,7 +35,8 @@ use Rattle.modem_sim.specs.Heard.{heard, texts_of, texts_with, modem_after}
 use Rattle.modem_sim.specs.Boxes.{Box, Brought, FitsOpen, fresh_box, queue_of, box_turned, box_heard}
 use Rattle.modem_sim.specs.Doing.{call_owed, done, is_closed_down}
 use Rattle.modem_sim.specs.Histories.{EachAllowed, got, sent}
-use Rattle.modem_sim.specs.Cores.{Core, Wired, IsLater, Fits, EndGoesOn, Takes, box_at, brought, closes_in, closes_all, counted, kept_in, lines_in, octets_in, opens_in, wire_after, after_wire_act, nothing_wired, that_act}
+use Rattle.serial_line.specs.Counts.{saturated}
+use Rattle.modem_sim.specs.Cores.{Core, Wired, IsLater, Fits, EndGoesOn, Takes, box_at, brought, closes_in, closes_all, kept_in, lines_in, octets_in, opens_in, wire_after, after_wire_act, nothing_wired, that_act}
 use Rattle.modem_sim.proofs.connections.BoxesAfterFrame.{IsBrought, box_goes_on, count_goes_on, modem_goes_on, texts_are, box_still, sent_still}
 
 -- the station's past goes on by the frames that are sent
@@ -243,7 +244,7 @@ opens_are e w c past f fits =
     let zero = opened_is e w c past 0 (lit< tt) fits in
     ap (λ (o : Bool). is_on Sabm f.dlci f && ((f.dlci == 0) || o)) zero
 
-capped : (m n : ℕ) (a : Bool) → nat_le (2 ^ 64 - 1) m ≡ a → counted (m + n) ≡ counted (counted m + n)
+capped : (m n : ℕ) (a : Bool) → nat_le (2 ^ 64 - 1) m ≡ a → saturated (m + n) ≡ saturated (saturated m + n)
 capped m n a is = omega arith
 
 -- whether it closes down
@@ -291,11 +292,11 @@ takes_goes_on old new f small all kept takes e w past fits =
           let heard_so = ap (λ n. box_heard f.dlci n (box_turned (opens_now Responder d (wire past) (station.Got f)) (f.dlci == d) (brought old f) (box_at old d))) count in
           box-sent_after e fs (Wire (station.Got f) ∷ past) d (box_at new d)
           (subst OpenWith (sym (turned ∙ heard_so)) (box_goes_on e past f (brought old f) d (box_at old d) (is_brought e w old past f small kept fits) (fits.boxes_are d d_small)));
-      come_is = ap (λ hs. counted (length hs)) heard_is
-          ∙ ap counted (count_goes_on past f)
+      come_is = ap (λ hs. saturated (length hs)) heard_is
+          ∙ ap saturated (count_goes_on past f)
           ∙ capped (length (heard past)) (length (texts_with past f)) (nat_le (2 ^ 64 - 1) (length (heard past))) refl
-          ∙ ap (λ n. counted (n + length (texts_with past f))) fits.come_is
-          ∙ ap (λ n. counted (old.come + n)) (sym count)
+          ∙ ap (λ n. saturated (n + length (texts_with past f))) fits.come_is
+          ∙ ap (λ n. saturated (old.come + n)) (sym count)
           ∙ sym takes.come_is;
       left_is = ap (λ ds. drop (length ds) (that_act e.steps)) (done-sent_after fs (Wire (station.Got f) ∷ past)) ∙ fits.left_is ∙ ap that_act (sym takes.steps_are);
       closed_is = closed-sent_after fs (Wire (station.Got f) ∷ past)
@@ -361,7 +362,7 @@ kept_takes old mid new f m reader said calls opens closes ended same handles ope
           ∙ ap (λ r. map (box_heard f.dlci ended) (slice_set old.boxes f.dlci (box_turned (opens_in old f) true (record { run = r; said = octets; calls = calls }) (box_at old f.dlci)))) run
           ∙ ap (λ y. map (box_heard f.dlci ended) (slice_set old.boxes f.dlci (box_turned (opens_in old f) true (record { run = (brought old f).run; said = octets; calls = y }) (box_at old f.dlci)))) called
           ∙ ap (λ n. map (box_heard f.dlci n) (slice_set old.boxes f.dlci (box_turned (opens_in old f) true (brought old f) (box_at old f.dlci)))) count;
-      come_is = ap (λ (c : Core). c.come) is ∙ ap (λ (c : Core). counted (c.come + ended)) same ∙ ap (λ n. counted (old.come + n)) count;
+      come_is = ap (λ (c : Core). c.come) is ∙ ap (λ (c : Core). saturated (c.come + ended)) same ∙ ap (λ n. saturated (old.come + n)) count;
       steps_are = ap (λ (c : Core). c.steps) is ∙ ap (λ (c : Core). c.steps) same;
       closed_is = ap (λ (c : Core). c.closed) is ∙ ap (λ (c : Core). c.closed || closes) same ∙ ap (λ (b : Bool). old.closed || b) closed;
     }

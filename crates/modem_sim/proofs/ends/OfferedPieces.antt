@@ -25,7 +25,8 @@ use Rattle.modem_sim.specs.Outboxes.{Outbox, empty_box, outbox, said_after, drop
 use Rattle.modem_sim.specs.Boxes.{Box, Waited, BoxFits, FitsOpen, fresh_box, lasting, is_released, released}
 use Rattle.modem_sim.specs.Doing.{left, is_closed_down, closes_down}
 use Rattle.modem_sim.specs.Histories.{EachAllowed, Allows, got, sent}
-use Rattle.modem_sim.specs.Cores.{Core, Wired, IsLater, GoesFrom, GivesFrom, Goes, GivesOut, IsGivenOn, Fits, holds_over, after_wire_act, wire_after, boxed, box_at, counted, from_queue, sent_now, that_act, over}
+use Rattle.serial_line.specs.Counts.{saturated}
+use Rattle.modem_sim.specs.Cores.{Core, Wired, IsLater, GoesFrom, GivesFrom, Goes, GivesOut, IsGivenOn, Fits, holds_over, after_wire_act, wire_after, boxed, box_at, from_queue, sent_now, that_act, over}
 use Rattle.modem_sim.specs.Stills.{Offering}
 use Rattle.modem_sim.proofs.connections.BoxesAfterFrame.{box_still, called_still, given_still, sent_still}
 use Rattle.modem_sim.proofs.ends.EndAfterFrame.{sent_queued, wire-sent_after, heard-sent_after, owed-sent_after, allowed-sent_after, box-sent_after, done-sent_after, closed-sent_after, got-sent_after, box_here, opened_is}
@@ -242,7 +243,7 @@ pub record Stands (e : End) (w : Wired) (c : Core) (past : List Act) : Type 0 wh
   pub allowed : EachAllowed e past
   pub modem_is : modem_after e past ≡ c.modem
   pub boxes_are : (d : ℕ) → d < 62 → FitsOpen e d past (box_at c d)
-  pub come_is : counted (length (heard past)) ≡ c.come
+  pub come_is : saturated (length (heard past)) ≡ c.come
   pub left_is : left e past ≡ that_act c.steps
   pub closed_is : is_closed_down past ≡ c.closed
   pub came_are : got past ≡ w.came
@@ -296,7 +297,7 @@ called_goes e w old new past call boxes calls allowed fit stood =
       boxes_are = λ d small.
           let At : Box → Type 0 = λ b. FitsOpen e d (after_wire_act e past a) b in
           subst At (sym (ap (λ (c : Core). box_at c d) calls.rest_is)) (box-sent_after e fs (Wire a ∷ past) d (slice_index_or boxes d fresh_box) (fit d small));
-      come_is = ap (λ hs. counted (length hs)) heard_is ∙ stood.come_is ∙ sym (ap (λ (c : Core). c.come) calls.rest_is);
+      come_is = ap (λ hs. saturated (length hs)) heard_is ∙ stood.come_is ∙ sym (ap (λ (c : Core). c.come) calls.rest_is);
       left_is = ap (λ ds. drop (length ds) (that_act e.steps)) (done-sent_after fs (Wire a ∷ past)) ∙ stood.left_is ∙ ap that_act (sym (ap (λ (c : Core). c.steps) calls.rest_is));
       closed_is = closed-sent_after fs (Wire a ∷ past)
           ∙ ap (λ (b : Bool). closes_down past a || b) stood.closed_is

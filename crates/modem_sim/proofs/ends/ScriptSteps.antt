@@ -26,7 +26,8 @@ use Rattle.modem_sim.specs.Outboxes.{Outbox, outbox, hold_on, is_holding}
 use Rattle.modem_sim.specs.Boxes.{Box, BoxFits, FitsOpen, fresh_box, is_released, released, box_announced, box_holding}
 use Rattle.modem_sim.specs.Doing.{acts, call_of, done, is_free, left, named_by, closes_down}
 use Rattle.modem_sim.specs.Histories.{Allows, MayDo, IsAsked}
-use Rattle.modem_sim.specs.Cores.{AtStation, HasNoneToDo, HasPassed, asks_nothing, asks, Refuses, Core, Wired, GoesFrom, Goes, Fits, after_wire_act, are_free_in, are_open_in, boxes_done, closes_by, counted, that_act}
+use Rattle.serial_line.specs.Counts.{saturated}
+use Rattle.modem_sim.specs.Cores.{AtStation, HasNoneToDo, HasPassed, asks_nothing, asks, Refuses, Core, Wired, GoesFrom, Goes, Fits, after_wire_act, are_free_in, are_open_in, boxes_done, closes_by, that_act}
 use Rattle.modem_sim.proofs.law_proofs.Histories.{spelled-append}
 use Rattle.modem_sim.proofs.connections.BoxesAfterFrame.{box_still, called_still, was_open}
 use Rattle.modem_sim.proofs.ends.EndAfterFrame.{box_here, later-sent_after, only_sent, opened_is}
@@ -243,7 +244,7 @@ first_passed : (step : Step) (later : List Step) → acts step.act ≡ false →
 first_passed step later is = ap (λ (b : Bool). if b then step ∷ that_act later else that_act later) is
 
 -- so many lines have come, also where the count stays at its end
-enough : (n after come : ℕ) → counted n ≡ come → nat_le after come ≡ true → nat_le after n ≡ true
+enough : (n after come : ℕ) → saturated n ≡ come → nat_le after come ≡ true → nat_le after n ≡ true
 enough n after come is less =
     let low : after ≤ come = grind (arith, nat_tests) in
     let high : after ≤ n = omega arith in

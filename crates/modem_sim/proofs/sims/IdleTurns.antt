@@ -35,7 +35,8 @@ use Rattle.modem_sim.specs.Pieces.{pieces_octets}
 use Rattle.modem_sim.specs.Outboxes.{outbox}
 use Rattle.modem_sim.specs.Doing.{call_of, named_by}
 use Rattle.modem_sim.specs.Histories.{got}
-use Rattle.modem_sim.specs.Cores.{are_free_in, for_calls, Core, Fits, HasNoneToDo, IsHandedOn, Waits, box_at, Wired, are_open_in, counted, for_lines, for_openings, for_room, none_left, that_act, waits}
+use Rattle.serial_line.specs.Counts.{saturated}
+use Rattle.modem_sim.specs.Cores.{are_free_in, for_calls, Core, Fits, HasNoneToDo, IsHandedOn, Waits, box_at, Wired, are_open_in, for_lines, for_openings, for_room, none_left, that_act, waits}
 use Rattle.modem_sim.specs.Sims.{SimMachine, SimMachineFits, SimState}
 use Rattle.modem_sim.specs.Turns.{Exchange, IsAtRest, IsIdle, IsLeft, StepIsRefused, NoneCanBeDone, WantsMemory, at_rest, frame_at_hand, has_room_for, hold_is_over, line_is_full, step_is_due}
 use Rattle.modem_sim.specs.Stills.{HasNoneToTake, LeavesUndone, StoodStill, leaves_frame, leaves_octets, leaves_step}
@@ -48,7 +49,7 @@ use Rattle.modem_sim.proofs.connections.ControlChannel.{none_given, says_none}
 
 -- ## Steps
 
-too_early : (n after come : ℕ) → counted n ≡ come → come < after → after < 2 ^ 64 → nat_le after n ≡ true → ⊥
+too_early : (n after come : ℕ) → saturated n ≡ come → come < after → after < 2 ^ 64 → nat_le after n ≡ true → ⊥
 too_early n after come is less small late =
     let low : after ≤ n = grind (arith, nat_tests) in
     omega (arith, is, less, small, low)
@@ -149,7 +150,7 @@ none_at_hand e came went k past queue none fits (Some f) is =
 
 -- ## Want of memory
 
-late_enough : (n after come : ℕ) → counted n ≡ come → after ≤ come → nat_le after n ≡ true
+late_enough : (n after come : ℕ) → saturated n ≡ come → after ≤ come → nat_le after n ≡ true
 late_enough n after come is late = let low : after ≤ n = omega (arith, is, late) in grind (arith, nat_tests)
 
 some_hand : (o : Option Frame) (e : End) (k : SimMachine) (past : List Act) → k.deframer.next ≡ o → k.deframer.next ≢ None → IsLeft e k past

@@ -6,6 +6,7 @@ use Rattle.mux_station.specs.States.{is_opened}
 use Rattle.mux_station.specs.Written.{is_on}
 use Rattle.modem_sim.specs.Cores.{Core, EndGoesOn, closes_all, closes_in, octets_in, opens_in}
 use Rattle.modem_sim.proofs.ends.EndAfterFrame.{got_goes_on, closing_noted, kept_of}
+use Rattle.modem_sim.proofs.ends.SilentFrames.{ends_a_line}
 use Rattle.modem_sim.proofs.sim_core.SimCore.got.Goals as goal
 
 pub keep-requires : goal.keep-requires
@@ -41,3 +42,7 @@ returns-clause-took c = λ _.
     c.in_ok-modem.ensures c.in_ok-answered.ensures.run c.in_ok-answered.ensures.state c.in_ok-answered.ensures.ended c.in_ok-answered.ensures.kept c.in_ok-answered.ensures.said c.in_ok-answered.ensures.calls
     c.in-Ok.ensures.past
     c.keep.ensures.kept)
+
+pub returns-in_err-answered-clause-ends : goal.returns-in_err-answered-clause-ends
+returns-in_err-answered-clause-ends c =
+    ends_a_line c.from_residual-in_err-answered.result c.octets_in-octets.result.now _ c.run_len.result c.run_len.ensures.within c.if-run_len-octets.false c.run_len.ensures.end c.octets_in-octets.ensures
