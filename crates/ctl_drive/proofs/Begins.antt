@@ -47,10 +47,10 @@ begins look rules n1 line d s users fits same new whole subscribed shown none_as
 }
 
 -- the same, and it was driven to its end
-pub drove_from : {X : Type 0} (look : X → LineView) (rules : Rules) (n1 : ℕ) (line last : X) (s : SessionState X) (users : Users) (input before after silent said : Option (List ℕ)) (p : PlanView) (end : Option DriveFault) (was_bad : Bool) (left : Settled)
-    → Begins look rules n1 line s users → HasDriven look s users (plan_begun input) p before after silent said end left last → was_bad ≡ p.was_bad
-    → DroveFrom look rules n1 line last input before after silent said end was_bad left
-drove_from {X} look rules n1 line last s users input before after silent said p end was_bad left b driven bad =
+pub drove_from : {X : Type 0} (look : X → LineView) (rules : Rules) (n1 period : ℕ) (line last : X) (s : SessionState X) (users : Users) (input before after silent said : Option (List ℕ)) (p : PlanView) (end : Option DriveFault) (was_bad : Bool) (left : Settled)
+    → Begins look rules n1 line s users → HasDriven look period s users (plan_begun input) p before after silent said end left last → was_bad ≡ p.was_bad
+    → DroveFrom look rules n1 period line last input before after silent said end was_bad left
+drove_from {X} look rules n1 period line last s users input before after silent said p end was_bad left b driven bad =
     let asks : AsksOn (plan_begun input) p users.caller.submitted driven.ends.ended.caller.submitted silent said =
     asks_then _ p p users.caller.submitted driven.mid.caller.submitted driven.ends.ended.caller.submitted silent said said driven.asks
     (asks_same p p driven.mid.caller.submitted driven.ends.ended.caller.submitted said refl (λ d. ap (submitted_on d) driven.ends.submits_none)) in
@@ -73,33 +73,33 @@ drove_from {X} look rules n1 line last s users input before after silent said p 
     }
 
 -- what it named
-named_by : {X : Type 0} (look : X → LineView) (rules : Rules) (n1 : ℕ) (first last : X) (input before after silent said : Option (List ℕ)) (end : Option DriveFault) (was_bad : Bool) (left : Settled)
-    → DroveFrom look rules n1 first last input before after silent said end was_bad left → NamesRead input silent said
-named_by look rules n1 first last input before after silent said end was_bad left h =
+named_by : {X : Type 0} (look : X → LineView) (rules : Rules) (n1 period : ℕ) (first last : X) (input before after silent said : Option (List ℕ)) (end : Option DriveFault) (was_bad : Bool) (left : Settled)
+    → DroveFrom look rules n1 period first last input before after silent said end was_bad left → NamesRead input silent said
+named_by look rules n1 period first last input before after silent said end was_bad left h =
     names_read input h.through h.driven.ends.ended.caller.submitted silent said h.read
 
 -- the same of what a drive that has begun came to
-pub from_if : {X : Type 0} (look : X → LineView) (rules : Rules) (n1 : ℕ) (line : X) (s : SessionState X) (users : Users) (input before after silent said : Option (List ℕ)) (r : Result (X × Driven) DriveFault)
-    → Begins look rules n1 line s users → IfOk r (λ r. DrivesInput look s users input before after silent said r.1.fault r.1.was_bad r.1.left r.0)
-    → IfOk r (λ r. DroveFrom look rules n1 line r.0 input before after silent said r.1.fault r.1.was_bad r.1.left)
-from_if look rules n1 line s users input before after silent said (Ok x) b h =
-    drove_from look rules n1 line x.0 s users input before after silent said h.through x.1.fault x.1.was_bad x.1.left b h.driven h.bad_is
-from_if look rules n1 line s users input before after silent said (Err why) b h = tt
+pub from_if : {X : Type 0} (look : X → LineView) (rules : Rules) (n1 period : ℕ) (line : X) (s : SessionState X) (users : Users) (input before after silent said : Option (List ℕ)) (r : Result (X × Driven) DriveFault)
+    → Begins look rules n1 line s users → IfOk r (λ r. DrivesInput look period s users input before after silent said r.1.fault r.1.was_bad r.1.left r.0)
+    → IfOk r (λ r. DroveFrom look rules n1 period line r.0 input before after silent said r.1.fault r.1.was_bad r.1.left)
+from_if look rules n1 period line s users input before after silent said (Ok x) b h =
+    drove_from look rules n1 period line x.0 s users input before after silent said h.through x.1.fault x.1.was_bad x.1.left b h.driven h.bad_is
+from_if look rules n1 period line s users input before after silent said (Err why) b h = tt
 
 -- where the multiplexer was entered before, the line was driven so
-pub drove_if : {X : Type 0} (look : X → LineView) (rules : Rules) (text : List ℕ) (n1 : ℕ) (first line : X) (input before after silent said : Option (List ℕ)) (r : Result (X × Driven) DriveFault)
-    → HasEntered n1 text (look first) (look line) → IfOk r (λ r. DroveFrom look rules n1 line r.0 input before after silent said r.1.fault r.1.was_bad r.1.left)
-    → IfOk r (λ r. Drove look rules text n1 first r.0 input before after silent said r.1.fault r.1.was_bad r.1.left)
-drove_if look rules text n1 first line input before after silent said (Ok x) entered h = record { first = line; entered = entered; from = h }
-drove_if look rules text n1 first line input before after silent said (Err why) entered h = tt
+pub drove_if : {X : Type 0} (look : X → LineView) (rules : Rules) (text : List ℕ) (n1 period : ℕ) (first line : X) (input before after silent said : Option (List ℕ)) (r : Result (X × Driven) DriveFault)
+    → HasEntered n1 text (look first) (look line) → IfOk r (λ r. DroveFrom look rules n1 period line r.0 input before after silent said r.1.fault r.1.was_bad r.1.left)
+    → IfOk r (λ r. Drove look rules text n1 period first r.0 input before after silent said r.1.fault r.1.was_bad r.1.left)
+drove_if look rules text n1 period first line input before after silent said (Ok x) entered h = record { first = line; entered = entered; from = h }
+drove_if look rules text n1 period first line input before after silent said (Err why) entered h = tt
 
 -- however it ended, the bad ones of the lines that were read were named
-pub named_if : {X : Type 0} (look : X → LineView) (rules : Rules) (n1 : ℕ) (first : X) (users : Users) (input before after silent said : Option (List ℕ)) (r : Result (X × Driven) DriveFault)
-    → IfOk r (λ r. DroveFrom look rules n1 first r.0 input before after silent said r.1.fault r.1.was_bad r.1.left) → users.caller.submitted ≡ [] → OnErr r (StopsOn (plan_begun input) users.caller.submitted silent said)
+pub named_if : {X : Type 0} (look : X → LineView) (rules : Rules) (n1 period : ℕ) (first : X) (users : Users) (input before after silent said : Option (List ℕ)) (r : Result (X × Driven) DriveFault)
+    → IfOk r (λ r. DroveFrom look rules n1 period first r.0 input before after silent said r.1.fault r.1.was_bad r.1.left) → users.caller.submitted ≡ [] → OnErr r (StopsOn (plan_begun input) users.caller.submitted silent said)
     → NamesRead input silent said
-named_if look rules n1 first users input before after silent said (Ok x) h none stops =
-    named_by look rules n1 first x.0 input before after silent said x.1.fault x.1.was_bad x.1.left h
-named_if look rules n1 first users input before after silent said (Err why) h none stops =
+named_if look rules n1 period first users input before after silent said (Ok x) h none stops =
+    named_by look rules n1 period first x.0 input before after silent said x.1.fault x.1.was_bad x.1.left h
+named_if look rules n1 period first users input before after silent said (Err why) h none stops =
     names_stopped input (plan_begun input) users.caller.submitted silent said refl none stops
 
 -- ## The desk that is opened

@@ -84,15 +84,15 @@ names_ends input silent named said ends h k = record { named = named; names = h;
 -- ## A drive
 
 -- a drive without a fault, then a turn of each file, until all is written, and a word of each: the line was driven with files
-pub drives_files : {X Y : Type 0} (look : X → LineView) (file_look : Y → LineView) (rules : Rules) (text : List ℕ) (n1 : ℕ) (line last : X) (files : List (FileState Y))
+pub drives_files : {X Y : Type 0} (look : X → LineView) (file_look : Y → LineView) (rules : Rules) (text : List ℕ) (n1 period : ℕ) (line last : X) (files : List (FileState Y))
     (driven in_the_end : FiledState X Y) (input before after silent named said : Option (List ℕ)) (end : Option DriveFault) (was_bad : Bool) (left : Settled)
-    → DroveData look file_look rules text n1 line files driven input before after silent named end was_bad left → end ≡ None → HadTurns look file_look driven in_the_end.files
+    → DroveData look file_look rules text n1 period line files driven input before after silent named end was_bad left → end ≡ None → HadTurns look file_look driven in_the_end.files
     → HasMoved look file_look in_the_end → All IsWritten in_the_end.files → in_the_end.line.line ≡ last → SaysEnds in_the_end.line.relay.pipes in_the_end.files named said
-    → DroveFiles look file_look rules text n1 line last files input before after silent said was_bad left
-drives_files look file_look rules text n1 line last files driven in_the_end input before after silent named said end was_bad left drove none turns moved written last_is ends = record {
+    → DroveFiles look file_look rules text n1 period line last files input before after silent said was_bad left
+drives_files look file_look rules text n1 period line last files driven in_the_end input before after silent named said end was_bad left drove none turns moved written last_is ends = record {
   driven = driven;
   named = named;
-  drove = subst (λ (x : Option DriveFault). DroveData look file_look rules text n1 line files driven input before after silent named x was_bad left) none drove;
+  drove = subst (λ (x : Option DriveFault). DroveData look file_look rules text n1 period line files driven input before after silent named x was_bad left) none drove;
   in_the_end = in_the_end;
   turns = turns;
   moved = moved;
@@ -102,17 +102,17 @@ drives_files look file_look rules text n1 line last files driven in_the_end inpu
 }
 
 -- the same through a capture that didn't fail
-pub files_captured : {X Y : Type 0} (look : X → LineView) (file_look : Y → LineView) (rules : Rules) (text : List ℕ) (n1 : ℕ) (line : X) (first : CaptureState)
+pub files_captured : {X Y : Type 0} (look : X → LineView) (file_look : Y → LineView) (rules : Rules) (text : List ℕ) (n1 period : ℕ) (line : X) (first : CaptureState)
     (wrapped last : CapturedState X) (files : List (FileState Y)) (input before after silent said : Option (List ℕ)) (end : Option DriveFault) (was_bad : Bool) (left : Settled) (failed : Bool)
-    → (end ≡ None → DroveFiles (λ (l : CapturedState X). look l.line) file_look rules text n1 wrapped last files input before after silent said was_bad left)
+    → (end ≡ None → DroveFiles (λ (l : CapturedState X). look l.line) file_look rules text n1 period wrapped last files input before after silent said was_bad left)
     → wrapped ≡ captured_line line first → (end ≡ None) × (failed ≡ false) → failed ≡ last.capture.failed → CapturesUnlessFailed (look last.line).received (look last.line).sent last.capture
-    → DroveFilesCaptured look file_look rules text n1 line files input before after silent said was_bad left
-files_captured {X} look file_look rules text n1 line first wrapped last files input before after silent said end was_bad left failed drove same both failed_is captures = record {
+    → DroveFilesCaptured look file_look rules text n1 period line files input before after silent said was_bad left
+files_captured {X} look file_look rules text n1 period line first wrapped last files input before after silent said end was_bad left failed drove same both failed_is captures = record {
   first = first;
   last = last;
   drove =
       subst
-      (λ (x : CapturedState X). DroveFiles (λ (l : CapturedState X). look l.line) file_look rules text n1 x last files input before after silent said was_bad left)
+      (λ (x : CapturedState X). DroveFiles (λ (l : CapturedState X). look l.line) file_look rules text n1 period x last files input before after silent said was_bad left)
       same (drove both.0);
   captures = captures (sym failed_is ∙ both.1);
 }
@@ -127,15 +127,15 @@ none_full : (b : Bool) (a c : Option (List ℕ)) → SaysFull b a c → b ≡ tr
 none_full b a c h e = none_said a c h.full (h.none.0 e) h.said
 
 -- it ended without a fault
-pub ran_files : (device capture : List ℕ) (b : Bool) (rules : Rules) (text : List ℕ) (n1 : ℕ) (files : List (FileState StreamState))
+pub ran_files : (device capture : List ℕ) (b : Bool) (rules : Rules) (text : List ℕ) (n1 period : ℕ) (files : List (FileState StreamState))
     (before after silent ended filled said : Option (List ℕ)) (r last : Result Driven DriveFault) (is_written : Bool) (n : ℕ)
-    → IfOk r (λ d. d.fault ≡ None → DroveFilesDevice b rules text n1 files before after silent ended d.was_bad d.left) → SaysFull is_written ended filled
+    → IfOk r (λ d. d.fault ≡ None → DroveFilesDevice b rules text n1 period files before after silent ended d.was_bad d.left) → SaysFull is_written ended filled
     → EndsWith is_written r last → SaysEnd device capture last filled said → n ≡ end_status last → n ≢ 1
-    → RanFiles b rules text n1 files before after silent said (n == 2)
-ran_files device capture b rules text n1 files before after silent ended filled said (Err why) (Err w) is_written n h full ends s is other = absurd (other is)
-ran_files device capture b rules text n1 files before after silent ended filled said (Err why) (Ok d) is_written n h full ends s is other = cc
-ran_files device capture b rules text n1 files before after silent ended filled said (Ok d) (Err w) is_written n h full ends s is other = absurd (other is)
-ran_files device capture b rules text n1 files before after silent ended filled said (Ok d) (Ok x) is_written n h full ends s is other =
+    → RanFiles b rules text n1 period files before after silent said (n == 2)
+ran_files device capture b rules text n1 period files before after silent ended filled said (Err why) (Err w) is_written n h full ends s is other = absurd (other is)
+ran_files device capture b rules text n1 period files before after silent ended filled said (Err why) (Ok d) is_written n h full ends s is other = cc
+ran_files device capture b rules text n1 period files before after silent ended filled said (Ok d) (Err w) is_written n h full ends s is other = absurd (other is)
+ran_files device capture b rules text n1 period files before after silent ended filled said (Ok d) (Ok x) is_written n h full ends s is other =
     let by = by_status x.fault x.was_bad n is other in
     let whole = ends.2 by.0 in
     let no_more : SaysFaultIf device capture None s.between said = subst (λ (e : Option DriveFault). SaysFaultIf device capture e s.between said) by.0 s.why in
@@ -146,7 +146,7 @@ ran_files device capture b rules text n1 files before after silent ended filled 
     record {
       left = d.left;
       ended = ended;
-      drove = subst (λ (w : Bool). DroveFilesDevice b rules text n1 files before after silent ended w d.left) (sym (by.1 ∙ ends.0)) (h whole.0);
+      drove = subst (λ (w : Bool). DroveFilesDevice b rules text n1 period files before after silent ended w d.left) (sym (by.1 ∙ ends.0)) (h whole.0);
       left_said = left;
     }
 
@@ -217,17 +217,17 @@ pub files_by_capture : (device capture path : List ℕ) (data_paths : List DataP
 files_by_capture device capture path data_paths silent said is h = subst (λ (p : List ℕ). EndsFilesByFault device p data_paths silent said) is h
 
 -- a line between two rings was driven with files between rings
-pub drove_files_device : (b c : Bool) (rules : Rules) (text : List ℕ) (n1 : ℕ) (line : StreamState) (files opened : List (FileState StreamState)) (before after silent said : Option (List ℕ)) (r : Result Driven DriveFault)
+pub drove_files_device : (b c : Bool) (rules : Rules) (text : List ℕ) (n1 period : ℕ) (line : StreamState) (files opened : List (FileState StreamState)) (before after silent said : Option (List ℕ)) (r : Result Driven DriveFault)
     → b ≡ c → line ≡ new_stream None None Ended → files ≡ opened
     → IfOk r
     (λ d. d.fault ≡ None
-    → DroveFilesLine b stream_view stream_view rules text n1 line files None before after silent said d.was_bad d.left)
-    → IfOk r (λ d. d.fault ≡ None → DroveFilesDevice c rules text n1 opened before after silent said d.was_bad d.left)
-drove_files_device b c rules text n1 line files opened before after silent said r same is are h =
+    → DroveFilesLine b stream_view stream_view rules text n1 period line files None before after silent said d.was_bad d.left)
+    → IfOk r (λ d. d.fault ≡ None → DroveFilesDevice c rules text n1 period opened before after silent said d.was_bad d.left)
+drove_files_device b c rules text n1 period line files opened before after silent said r same is are h =
     subst
     (λ (x : Bool × StreamState × List (FileState StreamState)). IfOk r
     (λ d. d.fault ≡ None
-    → DroveFilesLine x.0 stream_view stream_view rules text n1 x.1 x.2 None before after silent said d.was_bad d.left))
+    → DroveFilesLine x.0 stream_view stream_view rules text n1 period x.1 x.2 None before after silent said d.was_bad d.left))
     (λ i. (same i, is i, are i)) h
 
 -- the path of the capture is the one that is given, or empty

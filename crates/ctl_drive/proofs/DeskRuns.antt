@@ -55,8 +55,8 @@ parted : (first : SessionView) (calls : List SessionCall) → seen_by_calls firs
 parted first [] = refl
 parted first (c ∷ calls) = refl
 
-module _ {X : Type 0} (look : X → LineView) (rules : Rules) (n1 : ℕ) (first last : X) (input before after silent said : Option (List ℕ)) (end : Option DriveFault) (was_bad : Bool) (left : Settled)
-    (d : DroveFrom look rules n1 first last input before after silent said end was_bad left) where
+module _ {X : Type 0} (look : X → LineView) (rules : Rules) (n1 period : ℕ) (first last : X) (input before after silent said : Option (List ℕ)) (end : Option DriveFault) (was_bad : Bool) (left : Settled)
+    (d : DroveFrom look rules n1 period first last input before after silent said end was_bad left) where
   one_of : HasOne look (beginning_by (dialect_of rules) n1 (look first) d.session.driver) d.session d.driven.stopped d.driven.drives.calls.calls
   unfolding OneSession
   one_of = one_session look (beginning_by (dialect_of rules) n1 (look first) d.session.driver) d.session d.driven.stopped d.driven.drives.calls.calls d.begins.fits d.driven.drives.calls.called
@@ -138,7 +138,7 @@ module _ {X : Type 0} (look : X → LineView) (rules : Rules) (n1 : ℕ) (first 
       ap (λ (ys : List Urc). ys ++ of_kind k d.driven.ends.offline.unannounced) took ∙ (ap (λ (us : List Urc). l.heard ++ of_kind k us) d.driven.ends.placed.lines ∙ append-nil l.heard) in
       sym (ap (map heard_as) whole) ∙ e
 
-  runs_desk : RunsDesk look rules n1 first last input before after silent said end was_bad left d
+  runs_desk : RunsDesk look rules n1 period first last input before after silent said end was_bad left d
   unfolding IsDeskHeadline
   runs_desk = record {
     spell = spell_of;
@@ -160,4 +160,4 @@ module _ {X : Type 0} (look : X → LineView) (rules : Rules) (n1 : ℕ) (first 
 -- each drive is one session of its desk, which was settled, and has the headline
 pub drives_settle : {X : Type 0} (look : X → LineView) → DrivesSettle look
 unfolding DrivesSettle
-drives_settle look rules n1 first last input before after silent said end was_bad left d = runs_desk look rules n1 first last input before after silent said end was_bad left d
+drives_settle look rules n1 period first last input before after silent said end was_bad left d = runs_desk look rules n1 period first last input before after silent said end was_bad left d

@@ -1,6 +1,7 @@
 -- How a drive ends.
-use Rattle.std.specs.Prelude.{◌≡◌, ℕ, List, [], ◌∷◌, ◌++◌, map, refl, slice_index_or, vec_items, Option, Result, Ok, Err, IfOk, IsOk, OnErr, OnOk}
+use Rattle.std.specs.Prelude.{◌≡◌, ℕ, List, [], ◌∷◌, ◌++◌, map, refl, slice_index_or, vec_items, Option, None, Result, Ok, Err, IfOk, IsOk, OnErr, OnOk}
 use Rattle.std.proofs.Common.{ap, sym, subst, ◌∙◌, append-nil, true≢false}
+use Rattle.std.specs.declared.time.Instant.{Instant}
 use Rattle.modem_desk.specs.declared.request.Outcome.{Outcome}
 use Rattle.modem_desk.specs.Ends.{AreSubscribed, DeskId, DriverView, IsWhole, Place, Subscription, place_of, subscription_of}
 use Rattle.modem_history.specs.EveryTurn.{GivesSome}
@@ -123,11 +124,12 @@ ends_drive look s users ended given away f before after t same left desk turns g
 }
 
 -- the session went on, ended so, and then the drive did
-pub has_driven : {X : Type 0} (look : X → LineView) (s t u : SessionState X) (users mid kept : Users) (p q : PlanView) (before between after said more : Option (List ℕ)) (end : Option DriveFault) (left : Settled) (last : X)
-    → DrivesOn look s t → GoOn before between users mid → AsksOn p q users.caller.submitted mid.caller.submitted said more → HasEndedBy t.machine.course q end
-    → u ≡ t → kept ≡ mid → EndsDrive look u kept between after left → last ≡ u.line → HasDriven look s users p q before after said more end left last
-has_driven {X} look s t u users mid kept p q before between after said more end left last drives goes asks by same stays ends line = record {
+pub has_driven : {X : Type 0} (look : X → LineView) (period : ℕ) (last_tick : Option Instant) (s t u : SessionState X) (users mid kept : Users) (p q : PlanView) (before between after said more : Option (List ℕ)) (end : Option DriveFault) (left : Settled) (last : X)
+    → DrivesOn look period s None t last_tick → GoOn before between users mid → AsksOn p q users.caller.submitted mid.caller.submitted said more → HasEndedBy t.machine.course q end
+    → u ≡ t → kept ≡ mid → EndsDrive look u kept between after left → last ≡ u.line → HasDriven look period s users p q before after said more end left last
+has_driven {X} look period last_tick s t u users mid kept p q before between after said more end left last drives goes asks by same stays ends line = record {
   stopped = t;
+  last_tick = last_tick;
   drives = drives;
   line_is = sym (line ∙ ap (λ (x : SessionState X). x.line) same);
   mid = mid;

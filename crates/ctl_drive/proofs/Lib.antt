@@ -9,6 +9,7 @@ pub mod Aparts
 pub mod QueueTexts
 pub mod Lines
 pub mod Besides
+pub mod Looking
 pub mod NextTurns
 mod WantedStates
 pub mod Drives

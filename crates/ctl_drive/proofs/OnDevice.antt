@@ -23,11 +23,11 @@ pub has_begun : (before : Option (List ℕ)) (c : CaptureState) → HasCaptured 
 has_begun before c h = record { before = before; captured = h }
 
 -- without a fault
-pub well : {X : Type 0} (look : X → LineView) (rules : Rules) (text : List ℕ) (n1 : ℕ) (line last : X) (input before after silent said : Option (List ℕ)) (end : Option DriveFault) (was_bad : Bool) (left : Settled)
-    → Drove look rules text n1 line last input before after silent said end was_bad left → end ≡ None → DroveWell look rules text n1 line input before after silent said was_bad left
-well look rules text n1 line last input before after silent said end was_bad left h none = record {
+pub well : {X : Type 0} (look : X → LineView) (rules : Rules) (text : List ℕ) (n1 period : ℕ) (line last : X) (input before after silent said : Option (List ℕ)) (end : Option DriveFault) (was_bad : Bool) (left : Settled)
+    → Drove look rules text n1 period line last input before after silent said end was_bad left → end ≡ None → DroveWell look rules text n1 period line input before after silent said was_bad left
+well look rules text n1 period line last input before after silent said end was_bad left h none = record {
   last = last;
-  drove = subst (λ (e : Option DriveFault). Drove look rules text n1 line last input before after silent said e was_bad left) none h;
+  drove = subst (λ (e : Option DriveFault). Drove look rules text n1 period line last input before after silent said e was_bad left) none h;
 }
 
 -- what a drive with a capture came to
@@ -38,24 +38,24 @@ pub record Caught {X : Type 0} (look : X → LineView) (line : X) (first : Captu
   pub captures : CapturesUnlessFailed (look last.line).received (look last.line).sent last.capture
 
 -- a drive without a fault, through a capture that didn't fail, captured all that passed
-pub well_captured : {X : Type 0} (look : X → LineView) (rules : Rules) (text : List ℕ) (n1 : ℕ) (line : X) (first : CaptureState) (wrapped last : CapturedState X) (input before after silent said : Option (List ℕ)) (end : Option DriveFault) (was_bad : Bool) (left : Settled) (failed : Bool)
-    → Drove (λ (l : CapturedState X). look l.line) rules text n1 wrapped last input before after silent said end was_bad left → Caught look line first wrapped last end failed
-    → DroveCaptured look rules text n1 line input before after silent said was_bad left
-well_captured {X} look rules text n1 line first wrapped last input before after silent said end was_bad left failed h c = record {
+pub well_captured : {X : Type 0} (look : X → LineView) (rules : Rules) (text : List ℕ) (n1 period : ℕ) (line : X) (first : CaptureState) (wrapped last : CapturedState X) (input before after silent said : Option (List ℕ)) (end : Option DriveFault) (was_bad : Bool) (left : Settled) (failed : Bool)
+    → Drove (λ (l : CapturedState X). look l.line) rules text n1 period wrapped last input before after silent said end was_bad left → Caught look line first wrapped last end failed
+    → DroveCaptured look rules text n1 period line input before after silent said was_bad left
+well_captured {X} look rules text n1 period line first wrapped last input before after silent said end was_bad left failed h c = record {
   first = first;
   last = last;
   drove =
-      subst (λ (x : CapturedState X × Option DriveFault). Drove (λ (l : CapturedState X). look l.line) rules text n1 x.0 last input before after silent said x.1 was_bad left)
+      subst (λ (x : CapturedState X × Option DriveFault). Drove (λ (l : CapturedState X). look l.line) rules text n1 period x.0 last input before after silent said x.1 was_bad left)
       (λ i. (c.wrapped_is i, c.both.0 i)) h;
   captures = c.captures (sym c.failed_is ∙ c.both.1);
 }
 
 -- a line between two rings was driven
-pub drove_device : (b : Bool) (rules : Rules) (text : List ℕ) (n1 : ℕ) (line : StreamState) (before after silent said : Option (List ℕ)) (r : Result Driven DriveFault) → line ≡ new_stream None None Ended
-    → IfOk r (λ d. d.fault ≡ None → DroveLine b stream_view rules text n1 line None before after silent said d.was_bad d.left)
-    → IfOk r (λ d. d.fault ≡ None → DroveDevice b rules text n1 before after silent said d.was_bad d.left)
-drove_device b rules text n1 line before after silent said r same h =
-    subst (λ (x : StreamState). IfOk r (λ d. d.fault ≡ None → DroveLine b stream_view rules text n1 x None before after silent said d.was_bad d.left)) same h
+pub drove_device : (b : Bool) (rules : Rules) (text : List ℕ) (n1 period : ℕ) (line : StreamState) (before after silent said : Option (List ℕ)) (r : Result Driven DriveFault) → line ≡ new_stream None None Ended
+    → IfOk r (λ d. d.fault ≡ None → DroveLine b stream_view rules text n1 period line None before after silent said d.was_bad d.left)
+    → IfOk r (λ d. d.fault ≡ None → DroveDevice b rules text n1 period before after silent said d.was_bad d.left)
+drove_device b rules text n1 period line before after silent said r same h =
+    subst (λ (x : StreamState). IfOk r (λ d. d.fault ≡ None → DroveLine b stream_view rules text n1 period x None before after silent said d.was_bad d.left)) same h
 
 -- ## The status
 
@@ -66,17 +66,17 @@ by_status None true n is other = (refl, ap (λ (k : ℕ). k == 2) is)
 by_status None false n is other = (refl, ap (λ (k : ℕ). k == 2) is)
 
 -- it ended without a fault, and said what was left
-pub ran_well : (device capture : List ℕ) (b : Bool) (rules : Rules) (text : List ℕ) (n1 : ℕ) (before after silent named said : Option (List ℕ)) (r : Result Driven DriveFault) (n : ℕ)
-    → IfOk r (λ d. d.fault ≡ None → DroveDevice b rules text n1 before after silent named d.was_bad d.left) → SaysEnd device capture r named said → n ≡ end_status r → n ≢ 1
-    → RanDevice b rules text n1 before after silent said (n == 2)
-ran_well device capture b rules text n1 before after silent named said (Err why) n h s is other = absurd (other is)
-ran_well device capture b rules text n1 before after silent named said (Ok d) n h s is other =
+pub ran_well : (device capture : List ℕ) (b : Bool) (rules : Rules) (text : List ℕ) (n1 period : ℕ) (before after silent named said : Option (List ℕ)) (r : Result Driven DriveFault) (n : ℕ)
+    → IfOk r (λ d. d.fault ≡ None → DroveDevice b rules text n1 period before after silent named d.was_bad d.left) → SaysEnd device capture r named said → n ≡ end_status r → n ≢ 1
+    → RanDevice b rules text n1 period before after silent said (n == 2)
+ran_well device capture b rules text n1 period before after silent named said (Err why) n h s is other = absurd (other is)
+ran_well device capture b rules text n1 period before after silent named said (Ok d) n h s is other =
     let by = by_status d.fault d.was_bad n is other in
     let no_more : SaysFaultIf device capture None s.between said = subst (λ (e : Option DriveFault). SaysFaultIf device capture e s.between said) by.0 s.why in
     record {
       left = d.left;
       named = named;
-      drove = subst (λ (w : Bool). DroveDevice b rules text n1 before after silent named w d.left) (sym by.1) (h by.0);
+      drove = subst (λ (w : Bool). DroveDevice b rules text n1 period before after silent named w d.left) (sym by.1) (h by.0);
       left_said = subst (λ (w : Option (List ℕ)). AreSaid named w (left_texts (length d.left.left.items))) (sym no_more) s.left;
     }
 

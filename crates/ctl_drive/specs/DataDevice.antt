@@ -22,11 +22,11 @@ use Rattle.ctl_drive.specs.declared.running.Driven.{Driven}
 -- A line with files was driven without a fault. Then each file had a turn, and all that was read of the connections went to the
 -- files; what came of each was said. In the end the line is as it is last.
 pub record DroveFiles {X Y : Type 0} (look : X → LineView) (file_look : Y → LineView)
-    (rules : Rules) (text : List ℕ) (n1 : ℕ) (line last : X) (files : List (FileState Y))
+    (rules : Rules) (text : List ℕ) (n1 period : ℕ) (line last : X) (files : List (FileState Y))
     (input before after silent said : Option (List ℕ)) (was_bad : Bool) (left : Settled) : Type 0 where
   pub driven : FiledState X Y
   pub named : Option (List ℕ)
-  pub drove : DroveData look file_look rules text n1 line files driven input before after silent named None was_bad left
+  pub drove : DroveData look file_look rules text n1 period line files driven input before after silent named None was_bad left
   pub in_the_end : FiledState X Y
   pub turns : HadTurns look file_look driven in_the_end.files
   pub moved : HasMoved look file_look in_the_end
@@ -36,38 +36,38 @@ pub record DroveFiles {X Y : Type 0} (look : X → LineView) (file_look : Y → 
 
 -- on some line in the end
 pub record DroveFilesWell {X Y : Type 0} (look : X → LineView) (file_look : Y → LineView)
-    (rules : Rules) (text : List ℕ) (n1 : ℕ) (line : X) (files : List (FileState Y))
+    (rules : Rules) (text : List ℕ) (n1 period : ℕ) (line : X) (files : List (FileState Y))
     (input before after silent said : Option (List ℕ)) (was_bad : Bool) (left : Settled) : Type 0 where
   pub last : X
-  pub drove : DroveFiles look file_look rules text n1 line last files input before after silent
+  pub drove : DroveFiles look file_look rules text n1 period line last files input before after silent
       said was_bad left
 
 -- the same with a capture, which has a packet for each frame that all octets received, and all sent, are read as
 pub record DroveFilesCaptured {X Y : Type 0} (look : X → LineView) (file_look : Y → LineView)
-    (rules : Rules) (text : List ℕ) (n1 : ℕ) (line : X) (files : List (FileState Y))
+    (rules : Rules) (text : List ℕ) (n1 period : ℕ) (line : X) (files : List (FileState Y))
     (input before after silent said : Option (List ℕ)) (was_bad : Bool) (left : Settled) : Type 0 where
   pub first : CaptureState
   pub last : CapturedState X
-  pub drove : DroveFiles (λ l. look l.line) file_look rules text n1
+  pub drove : DroveFiles (λ l. look l.line) file_look rules text n1 period
       (captured_line line first) last files input before after silent said was_bad left
   pub captures : CapturesAll (look last.line).received (look last.line).sent last.capture
 
 -- with a capture where one is wanted
 abbrev pub DroveFilesLine : (captures : Bool) {X Y : Type 0} (look : X → LineView) (file_look : Y → LineView)
-    (rules : Rules) (text : List ℕ) (n1 : ℕ) (line : X) (files : List (FileState Y))
+    (rules : Rules) (text : List ℕ) (n1 period : ℕ) (line : X) (files : List (FileState Y))
     (input before after silent said : Option (List ℕ)) (was_bad : Bool) (left : Settled) → Type 0
-DroveFilesLine false look file_look rules text n1 line files input before after silent said was_bad left =
-    DroveFilesWell look file_look rules text n1 line files input before after silent said was_bad left
-DroveFilesLine true look file_look rules text n1 line files input before after silent said was_bad left =
-    DroveFilesCaptured look file_look rules text n1 line files input before after silent said was_bad left
+DroveFilesLine false look file_look rules text n1 period line files input before after silent said was_bad left =
+    DroveFilesWell look file_look rules text n1 period line files input before after silent said was_bad left
+DroveFilesLine true look file_look rules text n1 period line files input before after silent said was_bad left =
+    DroveFilesCaptured look file_look rules text n1 period line files input before after silent said was_bad left
 
 -- ## On a device
 
 -- A line between two rings, on which nothing had happened, was driven so, and files between rings with it.
-abbrev pub DroveFilesDevice : (captures : Bool) (rules : Rules) (text : List ℕ) (n1 : ℕ) (files : List (FileState StreamState))
+abbrev pub DroveFilesDevice : (captures : Bool) (rules : Rules) (text : List ℕ) (n1 period : ℕ) (files : List (FileState StreamState))
     (before after silent said : Option (List ℕ)) (was_bad : Bool) (left : Settled) → Type 0
-DroveFilesDevice captures rules text n1 files before after silent said was_bad left =
-    DroveFilesLine captures stream_view stream_view rules text n1
+DroveFilesDevice captures rules text n1 period files before after silent said was_bad left =
+    DroveFilesLine captures stream_view stream_view rules text n1 period
     (new_stream None None Ended) files None before after silent said was_bad left
 
 -- ## How it ends
@@ -80,11 +80,11 @@ EndsWith is_written (Err why) ended = ended ≡ Err why
 
 -- A device was driven so with files, without a fault. What came of each file was said behind the bad lines, and then how many requests
 -- were left, if any were.
-pub record RanFiles (captures : Bool) (rules : Rules) (text : List ℕ) (n1 : ℕ) (files : List (FileState StreamState))
+pub record RanFiles (captures : Bool) (rules : Rules) (text : List ℕ) (n1 period : ℕ) (files : List (FileState StreamState))
     (before after silent said : Option (List ℕ)) (was_bad : Bool) : Type 0 where
   pub left : Settled
   pub ended : Option (List ℕ)
-  pub drove : DroveFilesDevice captures rules text n1 files before after silent ended was_bad left
+  pub drove : DroveFilesDevice captures rules text n1 period files before after silent ended was_bad left
   pub left_said : AreSaid ended said (left_texts (length left.left.items))
 
 -- The bad ones of the lines that were read were named, and what came of files was said, and which have more to write; then it was said

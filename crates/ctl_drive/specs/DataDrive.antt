@@ -12,12 +12,12 @@ use Rattle.ctl_drive.specs.declared.fault.DriveFault.{DriveFault}
 -- them. In the end all that a file gave was given to its connection's lane, in order, but for what waits, and what was read of the
 -- lane went to the file, in order, but for what waits.
 pub record DroveData {X Y : Type 0} (look : X → LineView) (file_look : Y → LineView) (rules : Rules)
-    (text : List ℕ) (n1 : ℕ) (line : X) (files : List (FileState Y)) (last : FiledState X Y)
+    (text : List ℕ) (n1 period : ℕ) (line : X) (files : List (FileState Y)) (last : FiledState X Y)
     (input before after silent said : Option (List ℕ)) (end : Option DriveFault) (was_bad : Bool) (left : Settled) : Type 0 where
   pub now : X
   pub entered : HasEntered n1 text (look line) (look now)
   pub relay : Relay
   pub first : FiledState X Y
   pub begins : BeginsFiled look now relay n1 files first
-  pub from : DroveFrom filed_view rules n1 first last input before after silent said end was_bad left
+  pub from : DroveFrom filed_view rules n1 period first last input before after silent said end was_bad left
   pub moved : HasMoved look file_look last

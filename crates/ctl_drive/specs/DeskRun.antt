@@ -22,9 +22,9 @@ HeardAll listeners past =
 -- The desk's run of a drive: its only session began with the drive's codes and N1 on its line, and was seen so between the
 -- drive's polls and ticks; its desk was settled with the drive's callers and listeners, and with what the drive was given. All that
 -- its listeners took was printed, and they took every line that was heard.
-pub record RunsDesk {X : Type 0} (look : X → LineView) (rules : Rules) (n1 : ℕ) (first last : X)
+pub record RunsDesk {X : Type 0} (look : X → LineView) (rules : Rules) (n1 period : ℕ) (first last : X)
     (input before after silent said : Option (List ℕ)) (end : Option DriveFault) (was_bad : Bool) (left : Settled)
-    (d : DroveFrom look rules n1 first last input before after silent said end was_bad left) : Type 0 where
+    (d : DroveFrom look rules n1 period first last input before after silent said end was_bad left) : Type 0 where
   pub spell : Spell
   pub start_is : spell.start ≡ beginning_by (dialect_of rules) n1 (look first) d.session.driver
   pub seen_are : spell.session ∷ spell.earlier
@@ -48,7 +48,7 @@ pub record RunsDesk {X : Type 0} (look : X → LineView) (rules : Rules) (n1 : �
 -- the law: each drive is a settled run of its desk, and has the headline
 unfoldable pub DrivesSettle : {X : Type 0} → (X → LineView) → Type 0
 DrivesSettle {X} look =
-    (rules : Rules) (n1 : ℕ) (first last : X) (input before after silent said : Option (List ℕ))
+    (rules : Rules) (n1 period : ℕ) (first last : X) (input before after silent said : Option (List ℕ))
     (end : Option DriveFault) (was_bad : Bool) (left : Settled)
-    (d : DroveFrom look rules n1 first last input before after silent said end was_bad left)
-    → RunsDesk look rules n1 first last input before after silent said end was_bad left d
+    (d : DroveFrom look rules n1 period first last input before after silent said end was_bad left)
+    → RunsDesk look rules n1 period first last input before after silent said end was_bad left d

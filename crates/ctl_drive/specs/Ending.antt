@@ -2,6 +2,7 @@
 use Rattle.std.specs.Prelude.{◌≡◌, ◌==◌, ℕ, Bool, true, false, List, [], ◌∷◌, Option, None, Some, Ok, Err, length, map, vec_items}
 use Rattle.std.specs.List.{list_all}
 use Rattle.std.specs.declared.alloc.Global.{Global}
+use Rattle.std.specs.declared.time.Instant.{Instant}
 use Rattle.std.specs.declared.vec.Vec.{Vec}
 use Rattle.modem_desk.specs.declared.request.Urc.{Urc}
 use Rattle.modem_desk.specs.declared.settling.Settled.{Settled}
@@ -102,12 +103,13 @@ SaysBy said p (Some fault.HungUp) = (why : SessionFault) × (said ≡ progress.E
 SaysBy said p (Some fault.Input) = p.input.failed ≡ true
 SaysBy said p (Some _) = Unit {0}
 
--- The session went on by polls and ticks while its users submitted what the input asks, took and printed, and bad lines were named;
+-- The session went on by polls, and by ticks of this period, while its users submitted what the input asks, took and printed, and bad lines were named;
 -- it or the drive ended so, its line as it is last; and then all was settled.
-pub record HasDriven {X : Type 0} (look : X → LineView) (s : SessionState X) (users : Users) (p q : PlanView)
+pub record HasDriven {X : Type 0} (look : X → LineView) (period : ℕ) (s : SessionState X) (users : Users) (p q : PlanView)
     (before after said more : Option (List ℕ)) (end : Option DriveFault) (settled : Settled) (last : X) : Type 0 where
   pub stopped : SessionState X
-  pub drives : DrivesOn look s stopped
+  pub last_tick : Option Instant
+  pub drives : DrivesOn look period s None stopped last_tick
   pub line_is : stopped.line ≡ last
   pub mid : Users
   pub between : Option (List ℕ)

@@ -16,34 +16,34 @@ use Rattle.ctl_drive.specs.declared.fault.DriveFault.{DriveFault}
 use Rattle.ctl_drive.specs.declared.running.Driven.{Driven}
 
 -- a line was driven without a fault
-pub record DroveWell {X : Type 0} (look : X → LineView) (rules : Rules) (text : List ℕ) (n1 : ℕ) (line : X)
+pub record DroveWell {X : Type 0} (look : X → LineView) (rules : Rules) (text : List ℕ) (n1 period : ℕ) (line : X)
     (input before after silent said : Option (List ℕ)) (was_bad : Bool) (left : Settled) : Type 0 where
   pub last : X
-  pub drove : Drove look rules text n1 line last input before after silent said None was_bad left
+  pub drove : Drove look rules text n1 period line last input before after silent said None was_bad left
 
 -- the same with a capture, which has a packet for each frame that all octets received, and all sent, are read as
-pub record DroveCaptured {X : Type 0} (look : X → LineView) (rules : Rules) (text : List ℕ) (n1 : ℕ) (line : X)
+pub record DroveCaptured {X : Type 0} (look : X → LineView) (rules : Rules) (text : List ℕ) (n1 period : ℕ) (line : X)
     (input before after silent said : Option (List ℕ)) (was_bad : Bool) (left : Settled) : Type 0 where
   pub first : CaptureState
   pub last : CapturedState X
-  pub drove : Drove (λ l. look l.line) rules text n1 (captured_line line first) last input before after silent said None was_bad left
+  pub drove : Drove (λ l. look l.line) rules text n1 period (captured_line line first) last input before after silent said None was_bad left
   pub captures : CapturesAll (look last.line).received (look last.line).sent last.capture
 
 -- a line was driven without a fault, with a capture where one is wanted
-abbrev pub DroveLine : (captures : Bool) {X : Type 0} (look : X → LineView) (rules : Rules) (text : List ℕ) (n1 : ℕ) (line : X)
+abbrev pub DroveLine : (captures : Bool) {X : Type 0} (look : X → LineView) (rules : Rules) (text : List ℕ) (n1 period : ℕ) (line : X)
     (input before after silent said : Option (List ℕ)) (was_bad : Bool) (left : Settled) → Type 0
-DroveLine false look rules text n1 line input before after silent said was_bad left =
-    DroveWell look rules text n1 line input before after silent said was_bad left
-DroveLine true look rules text n1 line input before after silent said was_bad left =
-    DroveCaptured look rules text n1 line input before after silent said was_bad left
+DroveLine false look rules text n1 period line input before after silent said was_bad left =
+    DroveWell look rules text n1 period line input before after silent said was_bad left
+DroveLine true look rules text n1 period line input before after silent said was_bad left =
+    DroveCaptured look rules text n1 period line input before after silent said was_bad left
 
 -- A line between two rings, on which nothing had happened, was driven so without a fault, with the lines of an input that came
 -- through a ring, and with a capture where one is wanted. What the device behind the rings did, and what the input had, is nobody's
 -- to say.
-abbrev pub DroveDevice : (captures : Bool) (rules : Rules) (text : List ℕ) (n1 : ℕ) (before after silent said : Option (List ℕ))
+abbrev pub DroveDevice : (captures : Bool) (rules : Rules) (text : List ℕ) (n1 period : ℕ) (before after silent said : Option (List ℕ))
     (was_bad : Bool) (left : Settled) → Type 0
-DroveDevice captures rules text n1 before after silent said was_bad left =
-    DroveLine captures stream_view rules text n1 (new_stream None None Ended) None before after silent said was_bad left
+DroveDevice captures rules text n1 period before after silent said was_bad left =
+    DroveLine captures stream_view rules text n1 period (new_stream None None Ended) None before after silent said was_bad left
 
 -- ## How it ends
 
@@ -75,11 +75,11 @@ SaysEnd device capture (Ok driven) before after = SaysDriven device capture driv
 SaysEnd device capture (Err why) before after = SaysFault (path_for device capture why) why before after
 
 -- A device was driven so without a fault, and how many requests were left was said behind the bad lines, if any were.
-pub record RanDevice (captures : Bool) (rules : Rules) (text : List ℕ) (n1 : ℕ) (before after silent said : Option (List ℕ))
+pub record RanDevice (captures : Bool) (rules : Rules) (text : List ℕ) (n1 period : ℕ) (before after silent said : Option (List ℕ))
     (was_bad : Bool) : Type 0 where
   pub left : Settled
   pub named : Option (List ℕ)
-  pub drove : DroveDevice captures rules text n1 before after silent named was_bad left
+  pub drove : DroveDevice captures rules text n1 period before after silent named was_bad left
   pub left_said : AreSaid named said (left_texts (length left.left.items))
 
 -- The bad ones of the lines that were read were named, then it was said how many requests were left, if any were, and then why the

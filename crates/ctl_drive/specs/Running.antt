@@ -57,24 +57,24 @@ plan_begun input = record {
 }
 
 -- a session went on to its end with the lines of this input
-pub record DrivesInput {X : Type 0} (look : X → LineView) (s : SessionState X) (users : Users)
+pub record DrivesInput {X : Type 0} (look : X → LineView) (period : ℕ) (s : SessionState X) (users : Users)
     (input before after silent said : Option (List ℕ)) (end : Option DriveFault) (was_bad : Bool) (left : Settled) (last : X) : Type 0 where
   pub through : PlanView
-  pub driven : HasDriven look s users (plan_begun input) through before after silent said end left last
+  pub driven : HasDriven look period s users (plan_begun input) through before after silent said end left last
   pub bad_is : was_bad ≡ through.was_bad
 
--- A session with this N1 and the codes of these rules began on the line, went on, and ended, and all that came for its users was
+-- A session with this N1 and the codes of these rules began on the line, went on with ticks of this period, and ended, and all that came for its users was
 -- printed. The commands that were submitted, and told before the end, are of each connection the first of those that the lines are which
 -- were read, in order and each once, and the bad ones of those lines were named: was_bad says whether there was any. Before each of them
 -- the caller had taken what an opening of its connection was told, and before a Stop all outcomes. Without a fault all lines of the
 -- input were read. The line is as it is last.
-pub record DroveFrom {X : Type 0} (look : X → LineView) (rules : Rules) (n1 : ℕ) (first last : X)
+pub record DroveFrom {X : Type 0} (look : X → LineView) (rules : Rules) (n1 period : ℕ) (first last : X)
     (input before after silent said : Option (List ℕ)) (end : Option DriveFault) (was_bad : Bool) (left : Settled) : Type 0 where
   pub session : SessionState X
   pub users : Users
   pub begins : Begins look rules n1 first session users
   pub through : PlanView
-  pub driven : HasDriven look session users (plan_begun input) through before after silent said end left last
+  pub driven : HasDriven look period session users (plan_begun input) through before after silent said end left last
   pub read : HasAsked input through driven.ends.ended.caller.submitted silent said
   pub opens_first : OpensFirst driven.ends.ended.caller
   pub stops_last : StopsLast driven.ends.ended.caller
@@ -82,8 +82,8 @@ pub record DroveFrom {X : Type 0} (look : X → LineView) (rules : Rules) (n1 : 
   pub asked : end ≡ None → ReadsAll input driven.ends.ended.caller.submitted was_bad silent said
 
 -- the multiplexer was entered by this text, and then the line was driven so
-pub record Drove {X : Type 0} (look : X → LineView) (rules : Rules) (text : List ℕ) (n1 : ℕ) (line last : X)
+pub record Drove {X : Type 0} (look : X → LineView) (rules : Rules) (text : List ℕ) (n1 period : ℕ) (line last : X)
     (input before after silent said : Option (List ℕ)) (end : Option DriveFault) (was_bad : Bool) (left : Settled) : Type 0 where
   pub first : X
   pub entered : HasEntered n1 text (look line) (look first)
-  pub from : DroveFrom look rules n1 first last input before after silent said end was_bad left
+  pub from : DroveFrom look rules n1 period first last input before after silent said end was_bad left

@@ -1,5 +1,5 @@
 -- What a drive prints, as it comes: what its lines are told, and what is announced.
-use Rattle.std.specs.Prelude.{◌≡◌, ℕ, ◌+◌, ◌<◌, ◌≤◌, ◌==◌, Bool, true, List, [], ◌∷◌, ◌++◌, All, Option, None, Some, drop, filter, get_or, flat_map, length, map, set, slice_index_or, take, if◌then◌else◌}
+use Rattle.std.specs.Prelude.{◌≡◌, ◌≢◌, ℕ, ◌+◌, ◌<◌, ◌≤◌, ◌==◌, Bool, true, false, List, [], ◌∷◌, ◌++◌, All, Option, None, Some, drop, filter, get_or, flat_map, length, map, set, slice_index_or, take, if◌then◌else◌}
 use Rattle.std.specs.List.{list_any}
 use Rattle.std.specs.Io.KnownBytes.{Appends}
 use Rattle.modem_desk.specs.declared.request.Answer.{Answer}
@@ -156,3 +156,40 @@ abbrev pub after_control : Control → Answer → List ChannelState → List Cha
 after_control (control.Open d) a states = set states d.number (opened_by a)
 after_control (control.Close d) a states = states
 after_control control.Stop a states = states
+
+-- ## What is looked for
+
+-- the listener at this place
+abbrev pub listener_at : Users → ℕ → ListenerView → ListenerView
+listener_at u i l = get_or u.listeners.items i l
+
+-- The listener at this place took a line; or it knew of none that waits, and knows of none now. Every other one stays.
+pub record LooksAt (old new : Users) (place : ℕ) (took : Bool) : Type 0 where
+  pub some : took ≡ true → (l : ListenerView) → length (listener_at new place l).heard ≡ length (listener_at old place l).heard + 1
+  pub none : took ≡ false → (l : ListenerView) → ((listener_at old place l).seen ≡ []) × ((listener_at new place l).seen ≡ [])
+  pub kept : took ≡ false → (l : ListenerView) → (listener_at new place l).heard ≡ (listener_at old place l).heard
+  pub others : (i : ℕ) (l : ListenerView) → i ≢ place → listener_at new i l ≡ listener_at old i l
+  pub caller : new.caller ≡ old.caller
+
+-- some listener took a line
+pub record HeardMore (old new : Users) : Type 0 where
+  pub at : ℕ
+  pub more : (l : ListenerView) → length (listener_at old at l).heard < length (listener_at new at l).heard
+
+-- some of the first so many listeners took a line; or none of them knew of one that waits, nor does one now
+pub record LooksThrough (old new : Users) (count : ℕ) (took : Bool) : Type 0 where
+  pub some : took ≡ true → HeardMore old new
+  pub none : took ≡ false → (i : ℕ) (l : ListenerView) → i < count → ((listener_at old i l).seen ≡ []) × ((listener_at new i l).seen ≡ [])
+  pub others : (i : ℕ) (l : ListenerView) → count ≤ i → listener_at new i l ≡ listener_at old i l
+  pub caller : new.caller ≡ old.caller
+
+-- an outcome was taken; or the caller knew of none that waits, and knows of none now
+pub record LooksForOutcome (old new : Users) (took : Bool) : Type 0 where
+  pub some : took ≡ true → length new.caller.got ≡ length old.caller.got + 1
+  pub none : took ≡ false → (old.caller.seen ≡ []) × (new.caller.seen ≡ [])
+  pub listeners : new.listeners ≡ old.listeners
+
+-- nobody knows of an outcome or a line that waits
+pub record KnowNone (u : Users) : Type 0 where
+  pub outcomes : u.caller.seen ≡ []
+  pub lines : (i : ℕ) (l : ListenerView) → i < length u.listeners.items → (listener_at u i l).seen ≡ []

@@ -1,10 +1,12 @@
 //! A drive on a device, with files beside connections that carry data, from the paths to the status.
 ghost use Rattle.std.specs.Prelude.{◌≡◌, ◌≢◌, ◌≤◌, ◌==◌, [], All, IfOk, IfSome, None, false, is_some, map, true};
+ghost use Rattle.std.specs.Duration.{as_nanos};
 ghost use Rattle.data_files.specs.Files.{IsFresh, dlcis};
 ghost use Rattle.modem_data.specs.PipeSets.{numbers};
 ghost use Rattle.ctl_drive.specs.CapturedLine.{HasBegun};
 ghost use Rattle.ctl_drive.specs.DataDevice.{DroveFiles, DroveFilesCaptured, DroveFilesDevice, DroveFilesLine, DroveFilesWell, EndsFilesByFault, EndsWith, RanFiles};
 ghost use Rattle.file_threads.specs.DataPaths.{opened_files};
+ghost use Rattle.ctl_drive.specs.Driving.{period_of};
 ghost use Rattle.ctl_drive.specs.Entry.{entry_for, given_text};
 ghost use Rattle.ctl_drive.specs.FileEnds.{NamesEnds};
 ghost use Rattle.ctl_drive.specs.OnDevice.{capture_path};
@@ -77,7 +79,8 @@ where
     requires fresh { All (IsFresh P.seen) files.items }
     requires named { dlcis files.items ≡ numbers settings.data.now }
     ensures drove { IfOk result (λ r. r.1.fault ≡ None → DroveFiles L.seen P.seen settings.entry.dialect.now
-        (entry_for (given_text settings.entry.entry) settings.entry.n1) settings.entry.n1 line r.0 files.items (I.remaining input)
+        (entry_for (given_text settings.entry.entry) settings.entry.n1) settings.entry.n1
+        (period_of (as_nanos settings.entry.tick)) line r.0 files.items (I.remaining input)
         (W.contents output.old) (W.contents output.new) (E.contents faults.old) (E.contents faults.new) r.1.was_bad r.1.left) }
     ensures names { NamesEnds (I.remaining input) (E.contents faults.old) (E.contents faults.new) }
 {
@@ -127,7 +130,8 @@ where
     requires fresh { All (IsFresh P.seen) files.items }
     requires named { dlcis files.items ≡ numbers settings.data.now }
     ensures drove { IfOk result (λ d. d.fault ≡ None → DroveFilesWell L.seen P.seen settings.entry.dialect.now
-        (entry_for (given_text settings.entry.entry) settings.entry.n1) settings.entry.n1 line files.items (I.remaining input)
+        (entry_for (given_text settings.entry.entry) settings.entry.n1) settings.entry.n1
+        (period_of (as_nanos settings.entry.tick)) line files.items (I.remaining input)
         (W.contents output.old) (W.contents output.new) (E.contents faults.old) (E.contents faults.new) d.was_bad d.left) }
     ensures names { NamesEnds (I.remaining input) (E.contents faults.old) (E.contents faults.new) }
 {
@@ -164,7 +168,8 @@ where
     requires none { ((L.seen line).received ≡ []) × ((L.seen line).sent ≡ []) }
     requires begun { HasBegun capture }
     ensures drove { IfOk result (λ d. d.fault ≡ None → DroveFilesCaptured L.seen P.seen settings.entry.dialect.now
-        (entry_for (given_text settings.entry.entry) settings.entry.n1) settings.entry.n1 line files.items (I.remaining input)
+        (entry_for (given_text settings.entry.entry) settings.entry.n1) settings.entry.n1
+        (period_of (as_nanos settings.entry.tick)) line files.items (I.remaining input)
         (W.contents output.old) (W.contents output.new) (E.contents faults.old) (E.contents faults.new) d.was_bad d.left) }
     ensures names { NamesEnds (I.remaining input) (E.contents faults.old) (E.contents faults.new) }
 {
@@ -201,7 +206,8 @@ where
     requires none { ((L.seen line).received ≡ []) × ((L.seen line).sent ≡ []) }
     requires begun { IfSome capture HasBegun }
     ensures drove { IfOk result (λ d. d.fault ≡ None → DroveFilesLine (is_some capture) L.seen P.seen settings.entry.dialect.now
-        (entry_for (given_text settings.entry.entry) settings.entry.n1) settings.entry.n1 line files.items (I.remaining input)
+        (entry_for (given_text settings.entry.entry) settings.entry.n1) settings.entry.n1
+        (period_of (as_nanos settings.entry.tick)) line files.items (I.remaining input)
         (W.contents output.old) (W.contents output.new) (E.contents faults.old) (E.contents faults.new) d.was_bad d.left) }
     ensures names { NamesEnds (I.remaining input) (E.contents faults.old) (E.contents faults.new) }
 {
@@ -236,6 +242,7 @@ where
     requires { files.items ≡ opened_files false data_paths.now }
     ensures drove { IfOk result (λ d. d.fault ≡ None → DroveFilesDevice (is_some (given_text settings.entry.capture))
         settings.entry.dialect.now (entry_for (given_text settings.entry.entry) settings.entry.n1) settings.entry.n1
+        (period_of (as_nanos settings.entry.tick))
         (opened_files false data_paths.now) (W.contents output.old) (W.contents output.new) (E.contents faults.old) (E.contents faults.new)
         d.was_bad d.left) }
     ensures names { NamesEnds None (E.contents faults.old) (E.contents faults.new) }
@@ -301,7 +308,8 @@ where
     E: Write,
     ensures status { result ≤ 2 }
     ensures drove { result ≢ 1 → RanFiles (is_some (given_text settings.entry.capture)) settings.entry.dialect.now
-        (entry_for (given_text settings.entry.entry) settings.entry.n1) settings.entry.n1 (opened_files false data_paths.now)
+        (entry_for (given_text settings.entry.entry) settings.entry.n1) settings.entry.n1
+        (period_of (as_nanos settings.entry.tick)) (opened_files false data_paths.now)
         (W.contents output.old) (W.contents output.new) (E.contents faults.old) (E.contents faults.new) (result == 2) }
     ensures fault { result ≡ 1 → EndsFilesByFault path.now (capture_path settings.entry.capture) data_paths.now
         (E.contents faults.old) (E.contents faults.new) }

@@ -1,10 +1,12 @@
 //! A drive on a line some of whose connections carry the data of files.
 ghost use Rattle.std.specs.Prelude.{◌≡◌, All, IfOk};
+ghost use Rattle.std.specs.Duration.{as_nanos};
 ghost use Rattle.modem_data.specs.Hops.{BeginsRelay};
 ghost use Rattle.modem_data.specs.PipeSets.{numbers};
 ghost use Rattle.data_files.specs.Files.{BeginsFiled, IsFresh, dlcis};
 ghost use Rattle.ctl_drive.specs.Asking.{NamesRead};
 ghost use Rattle.ctl_drive.specs.DataDrive.{DroveData};
+ghost use Rattle.ctl_drive.specs.Driving.{period_of};
 ghost use Rattle.ctl_drive.specs.Entry.{entry_for, given_text};
 
 use crate::fault::DriveFault;
@@ -84,7 +86,8 @@ where
     requires fresh { All (IsFresh P.seen) files.items }
     requires named { dlcis files.items ≡ numbers settings.data.now }
     ensures drove { IfOk result (λ r. DroveData L.seen P.seen settings.entry.dialect.now
-        (entry_for (given_text settings.entry.entry) settings.entry.n1) settings.entry.n1 line files.items r.0
+        (entry_for (given_text settings.entry.entry) settings.entry.n1) settings.entry.n1
+        (period_of (as_nanos settings.entry.tick)) line files.items r.0
         (I.remaining input) (W.contents output.old) (W.contents output.new) (E.contents faults.old) (E.contents faults.new)
         r.1.fault r.1.was_bad r.1.left) }
     ensures names { NamesRead (I.remaining input) (E.contents faults.old) (E.contents faults.new) }

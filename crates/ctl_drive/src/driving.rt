@@ -2,11 +2,11 @@
 ghost use Rattle.std.specs.Prelude.{◌≡◌, ◌<◌, true, false, IfOk, OnErr, OnOk, Option, None, Some};
 ghost use Rattle.std.specs.Duration.{as_nanos};
 ghost use Rattle.ctl_drive.specs.Asking.{AsksOn, StopsOn};
-ghost use Rattle.ctl_drive.specs.Driving.{DrivesOn, IsDue, IsNotDue};
+ghost use Rattle.ctl_drive.specs.Driving.{DrivesOn, IsDue, IsNotDue, TicksOnce};
 ghost use Rattle.ctl_drive.specs.Ending.{HasEndedBy, IsToldFault, KeepsGiven, SaysBy};
 ghost use Rattle.ctl_drive.specs.declared.driving.Went.TheVariants as went;
 ghost use Rattle.ctl_drive.specs.declared.fault.DriveFault.{DriveFault};
-ghost use Rattle.ctl_drive.specs.Showing.{GoOn};
+ghost use Rattle.ctl_drive.specs.Showing.{GoOn, KnowNone};
 ghost use Rattle.ctl_drive.specs.Turns.{MayRest};
 ghost use Rattle.modem_driver.specs.declared.session.polling.Progress.TheVariants.{Idle};
 
@@ -37,7 +37,9 @@ impl Ticks {
     /// A tick each `period`, or each millisecond where that is no time at all.
     pub fn new(period: Duration) -> Ticks
         ensures given { 0 < as_nanos period → result ≡ record { period = period; last = None } }
+        ensures none { as_nanos period ≡ 0 → as_nanos result.period ≡ 1000000 }
         ensures some { 0 < as_nanos result.period }
+        ensures unbegun { result.last ≡ None }
     {
         let period = if period.is_zero() {
             Duration::from_millis(1)
@@ -89,10 +91,11 @@ impl Ticks {
     }
 }
 
-/// A tick where one is due, unless it is refused.
-#[tactic(auto, using(crate::proofs::Drives::drives_none, crate::proofs::Drives::ticked))]
+/// A tick where one is due, unless it is refused, and none else.
+#[tactic(auto, using(crate::proofs::Drives::ticked))]
 fn tick_if<L: SerialLine, R: Wait + Drop>(session: &mut Session<L, R>, due: bool)
-    ensures { DrivesOn L.seen session.old session.new }
+    ensures due { due ≡ true → TicksOnce L.seen session.old session.new }
+    ensures none { due ≡ false → session.new ≡ session.old }
 {
     if due {
         let _ = session.tick();
@@ -100,7 +103,6 @@ fn tick_if<L: SerialLine, R: Wait + Drop>(session: &mut Session<L, R>, due: bool
 }
 
 /// A tick where one is due, and a poll.
-#[tactic(auto, using(crate::proofs::Drives::drives_by, crate::proofs::Drives::drives_then))]
 fn poll<L: SerialLine, R: Wait + Drop, K: Clock>(
     clock: &K,
     session: &mut Session<L, R>,
@@ -108,7 +110,7 @@ fn poll<L: SerialLine, R: Wait + Drop, K: Clock>(
 ) -> Progress
     requires { 0 < as_nanos ticks.old.period }
     ensures period { ticks.new.period ≡ ticks.old.period }
-    ensures drives { DrivesOn L.seen session.old session.new }
+    ensures drives { DrivesOn L.seen (as_nanos ticks.old.period) session.old ticks.old.last session.new ticks.new.last }
     ensures ends { KeepsGiven result session.new.machine.course }
 {
     let wanted = session.wants_tick();
@@ -135,6 +137,7 @@ pub fn show<I: Read, W: Write, K: Clock>(
     ensures goes { OnOk result (GoOn (W.contents output.old) (W.contents output.new) users.old users.new) }
     ensures same { plan.new ≡ plan.old }
     ensures submits_none { OnOk result (users.new.caller.submitted ≡ users.old.caller.submitted) }
+    ensures none { IfOk result (λ shown. shown.any ≡ false → KnowNone users.old) }
     ensures why { IfOk result (λ shown. IsToldFault shown.fault) }
 {
     let lines = users.show_lines(alloc, output)?;
@@ -204,6 +207,7 @@ fn answer<R: Wait + Clock, I: Read, W: Write, E: Write>(
     ensures stops { OnErr result (StopsOn plan.old users.old.caller.submitted (E.contents faults.old) (E.contents faults.new)) }
     ensures ends { IfOk result (λ w. (end : Option DriveFault) → w ≡ went.Ends end → SaysBy said plan.new end) }
     ensures rests { IfOk result (λ w. w ≡ went.Rests → MayRest plan.new users.new) }
+    ensures none { IfOk result (λ w. w ≡ went.Rests → KnowNone users.old) }
 {
     let shown = show(rt, alloc, users, plan, output)?;
     if let Some(fault) = shown.fault {
@@ -229,13 +233,14 @@ fn round<L: SerialLine, R: Wait + Clock + Drop, I: Read, W: Write, E: Write>(
 ) -> Result<Went, DriveFault>
     requires { 0 < as_nanos ticks.old.period }
     ensures period { ticks.new.period ≡ ticks.old.period }
-    ensures drives { DrivesOn L.seen session.old session.new }
+    ensures drives { DrivesOn L.seen (as_nanos ticks.old.period) session.old ticks.old.last session.new ticks.new.last }
     ensures goes { OnOk result (GoOn (W.contents output.old) (W.contents output.new) users.old users.new) }
     ensures asks { OnOk result (AsksOn plan.old plan.new users.old.caller.submitted users.new.caller.submitted
         (E.contents faults.old) (E.contents faults.new)) }
     ensures stops { OnErr result (StopsOn plan.old users.old.caller.submitted (E.contents faults.old) (E.contents faults.new)) }
     ensures ends { IfOk result (λ w. (end : Option DriveFault) → w ≡ went.Ends end → HasEndedBy session.new.machine.course plan.new end) }
     ensures rests { IfOk result (λ w. w ≡ went.Rests → MayRest plan.new users.new) }
+    ensures none { IfOk result (λ w. w ≡ went.Rests → KnowNone users.old) }
 {
     let said = poll(rt, session, ticks);
     answer(rt, alloc, said, users, plan, output, faults)
@@ -254,8 +259,9 @@ fn rest<L: SerialLine, R: Wait + Clock + Drop>(
 }
 
 /// Goes on until the multiplexer has ended, or the drive ends by a fault. It prints all that came by then, and gives the
-/// fault, if there was one. Refused with NoMemory, Output or GaveUp. Requires that the period of `ticks` isn't 0.
-#[tactic(auto, using(crate::proofs::Lines::stays, crate::proofs::Lines::goes_then, crate::proofs::Drives::drives_none, crate::proofs::Drives::drives_then))]
+/// fault, if there was one. A tick is made just where one is due by `ticks`. Refused with NoMemory, Output or GaveUp. Requires that the
+/// period of `ticks` isn't 0.
+#[tactic(auto, using(crate::proofs::Lines::stays, crate::proofs::Lines::goes_then))]
 pub fn drive_on<L: SerialLine, R: Wait + Clock + Drop, I: Read, W: Write, E: Write>(
     rt: &R,
     alloc: Global,
@@ -268,7 +274,8 @@ pub fn drive_on<L: SerialLine, R: Wait + Clock + Drop, I: Read, W: Write, E: Wri
     faults: &mut E,
 ) -> Result<Option<DriveFault>, DriveFault>
     requires { 0 < as_nanos ticks.old.period }
-    ensures drives { DrivesOn L.seen session.old session.new }
+    ensures period { ticks.new.period ≡ ticks.old.period }
+    ensures drives { DrivesOn L.seen (as_nanos ticks.old.period) session.old ticks.old.last session.new ticks.new.last }
     ensures goes { OnOk result (GoOn (W.contents output.old) (W.contents output.new) users.old users.new) }
     ensures asks { OnOk result (AsksOn plan.old plan.new users.old.caller.submitted users.new.caller.submitted
         (E.contents faults.old) (E.contents faults.new)) }

@@ -41,4 +41,4 @@ pub use fault::{DriveFault, GiveUp};
 pub use file_threads::DataPath;
 pub use on_device::{drive_run, drive_threaded};
 pub use running::{Driven, drive_over};
-pub use settings::{DEFAULT_N1, Settings};
+pub use settings::Settings;

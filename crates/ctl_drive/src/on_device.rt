@@ -1,9 +1,11 @@
 //! A drive on a device, from its path to its status.
 ghost use Rattle.std.specs.Prelude.{◌≡◌, ◌≢◌, ◌≤◌, ◌==◌, [], false, IfOk, IfSome, None, is_some};
+ghost use Rattle.std.specs.Duration.{as_nanos};
 ghost use Rattle.ctl_drive.specs.Asking.{NamesRead};
 ghost use Rattle.serial_line.specs.StreamLine.{new_stream};
 ghost use Rattle.serial_line.specs.declared.stream_line.ZeroRead.TheVariants.{Ended};
 ghost use Rattle.ctl_drive.specs.CapturedLine.{CapturesUnlessFailed, HasBegun};
+ghost use Rattle.ctl_drive.specs.Driving.{period_of};
 ghost use Rattle.ctl_drive.specs.Entry.{entry_for, given_text};
 ghost use Rattle.ctl_drive.specs.OnDevice.{DroveCaptured, DroveDevice, DroveLine, DroveWell, EndsByFault, RanDevice, capture_path};
 
@@ -94,7 +96,8 @@ where
     W: Write,
     E: Write,
     ensures drove { IfOk result (λ d. d.fault ≡ None → DroveWell L.seen settings.entry.dialect.now
-        (entry_for (given_text settings.entry.entry) settings.entry.n1) settings.entry.n1 line (I.remaining input)
+        (entry_for (given_text settings.entry.entry) settings.entry.n1) settings.entry.n1
+        (period_of (as_nanos settings.entry.tick)) line (I.remaining input)
         (W.contents output.old) (W.contents output.new) (E.contents faults.old) (E.contents faults.new) d.was_bad d.left) }
     ensures named { NamesRead (I.remaining input) (E.contents faults.old) (E.contents faults.new) }
 {
@@ -157,7 +160,8 @@ where
     requires fresh { ((L.seen line).received ≡ []) × ((L.seen line).sent ≡ []) }
     requires begun { HasBegun capture }
     ensures drove { IfOk result (λ d. d.fault ≡ None → DroveCaptured L.seen settings.entry.dialect.now
-        (entry_for (given_text settings.entry.entry) settings.entry.n1) settings.entry.n1 line (I.remaining input)
+        (entry_for (given_text settings.entry.entry) settings.entry.n1) settings.entry.n1
+        (period_of (as_nanos settings.entry.tick)) line (I.remaining input)
         (W.contents output.old) (W.contents output.new) (E.contents faults.old) (E.contents faults.new) d.was_bad d.left) }
     ensures named { NamesRead (I.remaining input) (E.contents faults.old) (E.contents faults.new) }
 {
@@ -188,7 +192,8 @@ where
     requires fresh { ((L.seen line).received ≡ []) × ((L.seen line).sent ≡ []) }
     requires begun { IfSome capture HasBegun }
     ensures drove { IfOk result (λ d. d.fault ≡ None → DroveLine (is_some capture) L.seen settings.entry.dialect.now
-        (entry_for (given_text settings.entry.entry) settings.entry.n1) settings.entry.n1 line (I.remaining input)
+        (entry_for (given_text settings.entry.entry) settings.entry.n1) settings.entry.n1
+        (period_of (as_nanos settings.entry.tick)) line (I.remaining input)
         (W.contents output.old) (W.contents output.new) (E.contents faults.old) (E.contents faults.new) d.was_bad d.left) }
     ensures named { NamesRead (I.remaining input) (E.contents faults.old) (E.contents faults.new) }
 {
@@ -259,7 +264,8 @@ where
     E: Write,
     requires { IfSome capture HasBegun }
     ensures drove { IfOk result (λ d. d.fault ≡ None → DroveDevice (is_some capture) settings.entry.dialect.now
-        (entry_for (given_text settings.entry.entry) settings.entry.n1) settings.entry.n1 (W.contents output.old)
+        (entry_for (given_text settings.entry.entry) settings.entry.n1) settings.entry.n1
+        (period_of (as_nanos settings.entry.tick)) (W.contents output.old)
         (W.contents output.new) (E.contents faults.old) (E.contents faults.new) d.was_bad d.left) }
     ensures named { NamesRead None (E.contents faults.old) (E.contents faults.new) }
 {
@@ -293,6 +299,7 @@ where
     E: Write,
     ensures drove { IfOk result (λ d. d.fault ≡ None → DroveDevice (is_some (given_text settings.entry.capture))
         settings.entry.dialect.now (entry_for (given_text settings.entry.entry) settings.entry.n1) settings.entry.n1
+        (period_of (as_nanos settings.entry.tick))
         (W.contents output.old) (W.contents output.new) (E.contents faults.old) (E.contents faults.new) d.was_bad d.left) }
     ensures named { NamesRead None (E.contents faults.old) (E.contents faults.new) }
 {
@@ -326,7 +333,8 @@ where
     E: Write,
     ensures status { result ≤ 2 }
     ensures drove { result ≢ 1 → RanDevice (is_some (given_text settings.entry.capture)) settings.entry.dialect.now
-        (entry_for (given_text settings.entry.entry) settings.entry.n1) settings.entry.n1 (W.contents output.old)
+        (entry_for (given_text settings.entry.entry) settings.entry.n1) settings.entry.n1
+        (period_of (as_nanos settings.entry.tick)) (W.contents output.old)
         (W.contents output.new) (E.contents faults.old) (E.contents faults.new) (result == 2) }
     ensures fault { result ≡ 1 → EndsByFault path.now (capture_path settings.entry.capture)
         (E.contents faults.old) (E.contents faults.new) }

@@ -1,11 +1,12 @@
 //! A drive, from its line to its end.
-ghost use Rattle.std.specs.Prelude.{◌≡◌, ◌<◌, [], ◌∷◌, ℕ, List, Option, IfOk, OnErr, OnOk, map};
+ghost use Rattle.std.specs.Prelude.{◌≡◌, ◌<◌, [], ◌∷◌, ℕ, List, None, Option, IfOk, OnErr, OnOk, map};
 ghost use Rattle.std.specs.Duration.{as_nanos};
 ghost use Rattle.modem_desk.specs.Ends.{AreSubscribed, IsWhole, place_of, subscription_of};
 ghost use Rattle.at_text.specs.Rules.{dialect_of};
 ghost use Rattle.modem_driver.specs.SessionStates.{FitsAll, beginning_by};
 ghost use Rattle.ctl_drive.specs.Asking.{NamesRead, StopsOn};
 ghost use Rattle.ctl_drive.specs.Channels.{KeepsOrder};
+ghost use Rattle.ctl_drive.specs.Driving.{period_of};
 ghost use Rattle.ctl_drive.specs.Ending.{HasDriven};
 ghost use Rattle.ctl_drive.specs.Entry.{entry_for, given_text};
 ghost use Rattle.ctl_drive.specs.Running.{Begins, DrivesInput, Drove, DroveFrom, HasEntered, IsNewDesk, kinds_by, plan_begun};
@@ -36,17 +37,6 @@ use std::time::Duration;
 /// Seconds that an entry waits for an answer, in each of its three tries.
 const ENTRY_SECONDS: u64 = 3;
 
-/// The kinds of lines of the standards, and Other.
-const KINDS: [UrcKind; 7] = [
-    UrcKind::Ring,
-    UrcKind::Cring,
-    UrcKind::Creg,
-    UrcKind::Cgreg,
-    UrcKind::Cgev,
-    UrcKind::Ciev,
-    UrcKind::Other,
-];
-
 /// What a drive came to.
 #[derive(Drop)]
 pub struct Driven {
@@ -63,7 +53,7 @@ pub struct Driven {
 fn kinds_of(alloc: Global, dialect: &Dialect) -> Result<Vec<UrcKind>, AllocError>
     ensures { IfOk result (λ kinds. kinds.items ≡ kinds_by dialect.now) }
 {
-    let mut kinds = KINDS.to_vec(alloc)?;
+    let mut kinds = UrcKind::STANDARD.to_vec(alloc)?;
     let most = dialect.count() as u8;
     for number in 0..most {
         let kind = UrcKind::Own(number);
@@ -173,9 +163,10 @@ where
     W: Write,
     E: Write,
     requires ticks { 0 < as_nanos ticks.old.period }
+    requires unbegun { ticks.old.last ≡ None }
     requires whole { IsWhole session.driver.desk (map place_of (users.caller ∷ [])) }
     requires subscribed { AreSubscribed session.driver.desk (map subscription_of users.listeners.items) }
-    ensures driven { IfOk result (λ r. HasDriven L.seen
+    ensures driven { IfOk result (λ r. HasDriven L.seen (as_nanos ticks.old.period)
         session users plan.old plan.new (W.contents output.old) (W.contents output.new) (E.contents faults.old)
         (E.contents faults.new) r.1 r.0.1 r.0.0) }
     ensures stops { OnErr result (StopsOn plan.old users.caller.submitted (E.contents faults.old) (E.contents faults.new)) }
@@ -226,7 +217,7 @@ where
     E: Write,
     requires whole { IsWhole session.driver.desk (map place_of (users.caller ∷ [])) }
     requires subscribed { AreSubscribed session.driver.desk (map subscription_of users.listeners.items) }
-    ensures driven { IfOk result (λ r. DrivesInput L.seen
+    ensures driven { IfOk result (λ r. DrivesInput L.seen (period_of (as_nanos settings.entry.tick))
         session users (I.remaining input) (W.contents output.old) (W.contents output.new) (E.contents faults.old)
         (E.contents faults.new) r.1.fault r.1.was_bad r.1.left r.0) }
     ensures stops { OnErr result (StopsOn (plan_begun (I.remaining input)) users.caller.submitted (E.contents faults.old)
@@ -283,7 +274,8 @@ where
     W: Write,
     E: Write,
     ensures drove { IfOk result (λ r. DroveFrom L.seen
-        settings.entry.dialect.now settings.entry.n1 line r.0 (I.remaining input) (W.contents output.old) (W.contents output.new)
+        settings.entry.dialect.now settings.entry.n1
+        (period_of (as_nanos settings.entry.tick)) line r.0 (I.remaining input) (W.contents output.old) (W.contents output.new)
         (E.contents faults.old) (E.contents faults.new) r.1.fault r.1.was_bad r.1.left) }
     ensures named { NamesRead (I.remaining input) (E.contents faults.old) (E.contents faults.new) }
 {
@@ -326,7 +318,8 @@ where
     W: Write,
     E: Write,
     ensures drove { IfOk result (λ r. Drove L.seen
-        settings.entry.dialect.now (entry_for (given_text settings.entry.entry) settings.entry.n1) settings.entry.n1 line r.0
+        settings.entry.dialect.now (entry_for (given_text settings.entry.entry) settings.entry.n1) settings.entry.n1
+        (period_of (as_nanos settings.entry.tick)) line r.0
         (I.remaining input) (W.contents output.old) (W.contents output.new) (E.contents faults.old) (E.contents faults.new)
         r.1.fault r.1.was_bad r.1.left) }
     ensures named { NamesRead (I.remaining input) (E.contents faults.old) (E.contents faults.new) }

@@ -5,13 +5,10 @@ ghost use Rattle.std.specs.String.{string_bytes};
 ghost use Rattle.ctl_drive.specs.Entry.{entry_for, entry_text, given_text};
 
 use at_text::Dialect;
-use mux_frame::Dlci;
+use mux_frame::{Dlci, N1};
 use std::alloc::{AllocError, Global};
 use std::fmt::Write;
 use std::time::Duration;
-
-/// N1 where the modem is told none (27.007, 5.7).
-pub const DEFAULT_N1: u16 = 31;
 
 /// Seconds that a connection may be without an answer where no time is given.
 const QUIET_SECONDS: u64 = 120;
@@ -52,7 +49,7 @@ fn usual_entry(alloc: Global, n1: u16) -> Result<String, AllocError>
 {
     let mut text = String::new(alloc);
     text.push_str("AT+CMUX=0")?;
-    if n1 != DEFAULT_N1 {
+    if n1 != N1::DEFAULT {
         write!(text, ",0,,{n1}")?;
     }
     text.push_str("\r")?;

@@ -1,6 +1,6 @@
 //! Prints what came for the callers and listeners of the desk.
-ghost use Rattle.std.specs.Prelude.{◌≡◌, ◌<◌, None, length, OnOk};
-ghost use Rattle.ctl_drive.specs.Showing.{GoOn, TellsLine, after_control};
+ghost use Rattle.std.specs.Prelude.{◌≡◌, ◌<◌, None, is_some, length, IfOk, OnOk};
+ghost use Rattle.ctl_drive.specs.Showing.{GoOn, LooksAt, LooksForOutcome, LooksThrough, TellsLine, after_control};
 
 use crate::fault::DriveFault;
 use crate::pieces::{write_line, write_outcome};
@@ -55,6 +55,7 @@ impl Users {
     ) -> Result<Option<Told>, DriveFault>
         ensures goes { OnOk result (GoOn (W.contents output.old) (W.contents output.new) self.old self.new) }
         ensures submits_none { OnOk result (self.new.caller.submitted ≡ self.old.caller.submitted) }
+        ensures looks { IfOk result (λ told. LooksForOutcome self.old self.new (is_some told)) }
     {
         let Some(outcome) = self.caller.take() else {
             return Ok(None);
@@ -83,6 +84,7 @@ impl Users {
         ensures goes { OnOk result (GoOn (W.contents output.old) (W.contents output.new) self.old self.new) }
         ensures submits_none { OnOk result (self.new.caller.submitted ≡ self.old.caller.submitted) }
         ensures as_many { OnOk result (length self.new.listeners.items ≡ length self.old.listeners.items) }
+        ensures looks { IfOk result (LooksAt self.old self.new place) }
     {
         match self.listeners[place].take() {
             Some(line) => {
@@ -102,6 +104,7 @@ impl Users {
     ) -> Result<bool, DriveFault>
         ensures goes { OnOk result (GoOn (W.contents output.old) (W.contents output.new) self.old self.new) }
         ensures submits_none { OnOk result (self.new.caller.submitted ≡ self.old.caller.submitted) }
+        ensures looks { IfOk result (LooksThrough self.old self.new (length self.old.listeners.items)) }
     {
         let mut any = false;
         for place in 0..self.listeners.len() {

@@ -116,4 +116,4 @@ IsBadBy options BadOption.Pin = (31 ≤ options.n1) × (options.n1 ≤ 32767) ×
 
 -- N1 isn't 31 to 32767, or the PIN isn't 4 to 8 digits
 abbrev pub HasBadOption : SimOptions → Type 0
-HasBadOption options = (options.n1 < 31) ⊎ ((32767 < options.n1) ⊎ (has_bad_pin options.pin ≡ true))
+HasBadOption options = IsBadN1 options.n1 ⊎ (has_bad_pin options.pin ≡ true)

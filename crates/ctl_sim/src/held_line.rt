@@ -3,9 +3,8 @@ ghost use Rattle.std.specs.Prelude.{IfOk, IsOk, OnErr, OnOk, [], ◌++◌, ◌+�
 ghost use Rattle.serial_line.specs.Counts.{one_more, counted_if_none};
 ghost use Rattle.ctl_sim.specs.HeldLine.{held_side, held_view, new_held};
 
-use crate::history::History;
 use data_files::HandedLine;
-use serial_line::{LineFault, SerialLine};
+use serial_line::{History, LineFault, SerialLine, count_if_none};
 use std::alloc::{AllocError, Global};
 use std::marker::Model;
 
@@ -41,15 +40,6 @@ impl Model for HeldLine {
     } };
 
     ghost invariant = { λ l. l.read ≤ vec_len l.coming };
-}
-
-// Counts a call that could move so many octets and moved `count`, if it moved none though it could.
-fn count_if_none(calls: &mut u64, could: usize, count: usize)
-    ensures { calls.new ≡ counted_if_none could count calls.old }
-{
-    if could > 0 && count == 0 {
-        *calls = calls.saturating_add(1);
-    }
 }
 
 impl HeldLine {

@@ -4,7 +4,7 @@
 //! # Layout
 //!
 //! - `serving`, `writing`, `fault`: a modem on a reader and a writer. `server`: the same, octets in and octets out.
-//! - `plain`, `entry`: plain lines. `mux`, `held_line`, `history`: in the multiplexer. `steps`: scripts.
+//! - `plain`, `entry`: plain lines. `mux`, `held_line`: in the multiplexer. `steps`: scripts.
 //! - `watching`, `parts`: captures.
 //! - `data_serving`, `data_client`, `data_line`, `data_saying`, `data_fault`: the same with files beside connections.
 #![tactic(auto)]
@@ -17,7 +17,6 @@ mod data_serving;
 mod entry;
 mod fault;
 mod held_line;
-mod history;
 mod mux;
 mod parts;
 mod plain;

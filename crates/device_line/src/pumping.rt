@@ -1,9 +1,10 @@
 //! Reads a device into its ring.
-ghost use Rattle.std.specs.Prelude.{◌≡◌, ◌≢◌, [], None, Some, length, IsTrue, MatchOption};
+ghost use Rattle.std.specs.Prelude.{◌≡◌, ◌≢◌, ◌≤◌, ◌<◌, ◌+◌, ◌⊎◌, [], None, Some, length, IsTrue, MatchOption};
 ghost use Rattle.std.specs.Io.KnownBytes.{IsAtEnd};
 ghost use Rattle.rtrb.specs.Ring.{sent, SameProducer};
 ghost use Rattle.device_line.specs.Flows.{FlowsIn};
 ghost use Rattle.device_line.specs.declared.FlowEnd.TheVariants.{Stopped, Ended};
+ghost use Rattle.serial_line.specs.declared.stream_line.ZeroRead.TheVariants.{Ended as EndOfInput, Quiet};
 
 use crate::{FlowEnd, is_passing};
 use bell::Bell;
@@ -66,7 +67,13 @@ fn empty_read<K: Clock>(
     start: Option<Instant>,
     zero: ZeroRead,
     empty: &mut u32,
-) -> Option<FlowEnd> {
+) -> Option<FlowEnd>
+    ensures ended { (result ≡ None) ⊎ (result ≡ Some Ended) }
+    ensures end { zero ≡ EndOfInput → result ≡ Some Ended }
+    ensures quiet { result ≡ Some Ended → (zero ≡ EndOfInput) ⊎ ((7 ≤ empty.old) × (8 ≤ empty.new)) }
+    ensures counted { zero ≡ Quiet → empty.new ≤ empty.old + 1 }
+    ensures few { result ≡ None → empty.new < 8 }
+{
     *empty = match zero {
         ZeroRead::Ended => HANG_UP,
         ZeroRead::Quiet if came_at_once(clock, start) => empty.saturating_add(1),

@@ -3,3 +3,5 @@ pub mod Stops
 pub mod TextFiles
 pub mod ShownFiles
 mod WordRows
+pub mod Refused
+pub mod DriveTicks

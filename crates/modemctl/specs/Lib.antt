@@ -7,3 +7,4 @@ pub mod Sims
 pub mod Words
 pub mod Shows
 pub mod SimData
+pub mod Refusals

@@ -1,23 +1,24 @@
 //! The words of the program.
 ghost use Rattle.std.specs.Prelude.{◌≡◌, ◌≢◌, ◌<◌, ◌≤◌, ◌⊎◌, Bool, [], Some, IfOk, false, codes, is_some, true};
 ghost use Rattle.clap.specs.Words.{first_value, found_of, kind_of, subcommand_name_of, subcommand_rows_of};
-ghost use Rattle.ctl_run.specs.Printed.{IsBenched, IsPrinted};
 ghost use Rattle.ctl_run.specs.Statuses.{stop_line};
 ghost use Rattle.ctl_run.specs.Stopping.{HasGivenUp};
 ghost use Rattle.ctl_sim.specs.Leaving.{SaysBad};
 ghost use Rattle.ctl_sim.specs.Serving.{IsServed};
 ghost use Rattle.ctl_sim.specs.Watching.{CapturesClient};
 ghost use Rattle.ctl_text.specs.Writing.{IsBegun};
-ghost use Rattle.modemctl.specs.Benches.{PrintsBench, PrintsFrames, PrintsReplay, plain_script};
+ghost use Rattle.modemctl.specs.Benches.{PrintsBench, PrintsFrames, PrintsReplay};
 ghost use Rattle.modemctl.specs.Dialects.{IsShut};
 ghost use Rattle.modemctl.specs.Drives.{PrintsDrive};
 ghost use Rattle.modemctl.specs.Files.{NamesCause};
+ghost use Rattle.modemctl.specs.Refusals.{RefusesBench, RefusesFrames, RefusesReplay, RefusesShow, SaysUndriven};
 ghost use Rattle.modemctl.specs.Sims.{FailsClient, HasNoCapture, IsNotBegun, LeavesClient, LeavesWith, RefusesClient, RefusesWith, ServesClient, ServesWith, files_given, files_matched, number_line};
 ghost use Rattle.modemctl.specs.SimData.{AreForSim, LeavesData, SaysNoPaths, ServesData, names_files};
 ghost use Rattle.modemctl.specs.Shows.{IsShutFile, PrintsShow, SaysUnshown, TellsShow, all_in};
 ghost use Rattle.modemctl.specs.Words.{fault_in, met_in, raw_in, AreFor, AsksNoHelp, HasNoNumber, is_explained, texts_of};
 
 mod answers;
+mod benches;
 mod commands;
 mod data_paths;
 mod dialects;
@@ -33,16 +34,16 @@ mod sim_data;
 mod sims;
 mod text_files;
 
+use benches::bench_plain;
 use clap::error::ErrorKind;
 use clap::{ArgMatches, Error};
 use commands::program;
-use ctl_run::{Stop, bench_run_explained, frames_run_explained, give_up};
+use ctl_run::{Stop, frames_run_explained, give_up};
 use ctl_sim::{SimOptions, sim_captured, sim_run};
 use ctl_text::say_line;
 use dialects::replay_words;
 use driving::drive_words;
 use files::{capture_at, refuse_capture};
-use modem_sim::{Script, Steps};
 use numbers::{Numbers, numbers_of};
 use reasons::wants_reason;
 use show_texts::Progress;
@@ -123,44 +124,6 @@ fn refuse<E: Write>(faults: &mut E, option: &str) -> u8
         " takes a number in decimal, without a sign and leading zeros",
     );
     2
-}
-
-/// Runs a bench with a simulated modem that does nothing of its own accord.
-fn bench_plain<R, I: Read, W: Write, E: Write>(
-    rt: &R,
-    alloc: Global,
-    numbers: Numbers,
-    input: &mut I,
-    output: &mut W,
-    faults: &mut E,
-    explained: bool,
-) -> u8
-where
-    R: Threads + Wait + RandomSource + AllocGlobal + Copy + Send + Drop + 'static,
-    ensures status { result ≤ 2 }
-    ensures bad { result ≡ 2 → output.new ≡ output.old }
-    ensures done { result ≡ 0 → IsPrinted (IsBenched numbers.callers numbers.cut plain_script)
-        (I.remaining input.old) (W.contents output.old) (W.contents output.new) }
-    ensures nothing { result ≡ 1 → HasGivenUp explained output.old output.new (E.contents faults.old)
-        (E.contents faults.new) result }
-    ensures silent { result ≡ 0 → faults.new ≡ faults.old }
-{
-    let script = Script {
-        echo: false,
-        steps: Steps::from(Vec::new(alloc)),
-    };
-    let cut = usize::from(numbers.cut);
-    bench_run_explained(
-        rt,
-        alloc,
-        input,
-        output,
-        faults,
-        numbers.callers,
-        cut,
-        script,
-        explained,
-    )
 }
 
 /// Is a modem for a client, with a capture where the words name a file for it.
@@ -336,6 +299,23 @@ where
         → TellsShow (R.text_of rt.now) (raw_in (subcommand_rows_of matches.now) (codes "raw"))
         (raw_in (subcommand_rows_of matches.now) (codes "file")) progress.old.shown progress.new result }
     ensures untold { progress.old.is_on ≡ false → progress.new ≡ progress.old }
+    ensures frames_bad { result ≡ 2 → subcommand_name_of matches.now ≡ Some (codes "frames")
+        → RefusesFrames (is_explained terminal (subcommand_rows_of matches.now)) (subcommand_rows_of matches.now) (I.remaining input.old)
+        (E.contents faults.old) (E.contents faults.new) }
+    ensures replay_bad { result ≡ 2 → subcommand_name_of matches.now ≡ Some (codes "replay")
+        → RefusesReplay (is_explained terminal (subcommand_rows_of matches.now)) (subcommand_rows_of matches.now) (I.remaining input.old)
+        (E.contents faults.old) (E.contents faults.new) }
+    ensures bench_bad { result ≡ 2 → subcommand_name_of matches.now ≡ Some (codes "bench")
+        → RefusesBench (is_explained terminal (subcommand_rows_of matches.now)) (subcommand_rows_of matches.now) (I.remaining input.old)
+        (E.contents faults.old) (E.contents faults.new) }
+    ensures show_bad { result ≡ 2 → subcommand_name_of matches.now ≡ Some (codes "show")
+        → RefusesShow (raw_in (subcommand_rows_of matches.now) (codes "dialect")) (raw_in (subcommand_rows_of matches.now) (codes "raw"))
+        (raw_in (subcommand_rows_of matches.now) (codes "file")) (E.contents faults.old) (E.contents faults.new) }
+    ensures drive_fault { result ≡ 1 → subcommand_name_of matches.now ≡ Some (codes "drive")
+        → SaysUndriven (raw_in (subcommand_rows_of matches.now) (codes "dialect")) (raw_in (subcommand_rows_of matches.now) (codes "device"))
+        (raw_in (subcommand_rows_of matches.now) (codes "capture")) (raw_in (subcommand_rows_of matches.now) (codes "arm"))
+        (all_in (subcommand_rows_of matches.now) (codes "data")) (all_in (subcommand_rows_of matches.now) (codes "text"))
+        (E.contents faults.old) (E.contents faults.new) }
     ensures others { subcommand_name_of matches.now ≢ Some (codes "show") → progress.new ≡ progress.old }
 {
     let Some((name, given)) = matches.subcommand() else {
@@ -465,6 +445,23 @@ where
         → TellsShow (R.text_of rt.now) (raw_in (met_in (texts_of words.now)) (codes "raw"))
         (raw_in (met_in (texts_of words.now)) (codes "file")) progress.old.shown progress.new result }
     ensures untold { progress.old.is_on ≡ false → progress.new ≡ progress.old }
+    ensures frames_bad { result ≡ 2 → AreFor (codes "frames") (texts_of words.now)
+        → RefusesFrames (is_explained terminal (met_in (texts_of words.now))) (met_in (texts_of words.now)) (I.remaining input.old)
+        (E.contents faults.old) (E.contents faults.new) }
+    ensures replay_bad { result ≡ 2 → AreFor (codes "replay") (texts_of words.now)
+        → RefusesReplay (is_explained terminal (met_in (texts_of words.now))) (met_in (texts_of words.now)) (I.remaining input.old)
+        (E.contents faults.old) (E.contents faults.new) }
+    ensures bench_bad { result ≡ 2 → AreFor (codes "bench") (texts_of words.now)
+        → RefusesBench (is_explained terminal (met_in (texts_of words.now))) (met_in (texts_of words.now)) (I.remaining input.old)
+        (E.contents faults.old) (E.contents faults.new) }
+    ensures show_bad { result ≡ 2 → AreFor (codes "show") (texts_of words.now)
+        → RefusesShow (raw_in (met_in (texts_of words.now)) (codes "dialect")) (raw_in (met_in (texts_of words.now)) (codes "raw"))
+        (raw_in (met_in (texts_of words.now)) (codes "file")) (E.contents faults.old) (E.contents faults.new) }
+    ensures drive_fault { result ≡ 1 → AreFor (codes "drive") (texts_of words.now)
+        → SaysUndriven (raw_in (met_in (texts_of words.now)) (codes "dialect")) (raw_in (met_in (texts_of words.now)) (codes "device"))
+        (raw_in (met_in (texts_of words.now)) (codes "capture")) (raw_in (met_in (texts_of words.now)) (codes "arm"))
+        (all_in (met_in (texts_of words.now)) (codes "data")) (all_in (met_in (texts_of words.now)) (codes "text"))
+        (E.contents faults.old) (E.contents faults.new) }
     ensures others { (AreFor (codes "show") (texts_of words.now) → ⊥) → progress.new ≡ progress.old }
 {
     let command = match program(alloc) {

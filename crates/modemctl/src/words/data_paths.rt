@@ -185,6 +185,8 @@ pub fn with_connect<E: Write>(dialect: Dialect, faults: &mut E) -> Result<Dialec
     ensures rules { IfOk result (λ rules. rules ≡ drive_rules true dialect) }
     ensures silent { OnOk result (faults.new ≡ faults.old) }
     ensures bad { IfErr result (λ status. (0 < status) × (status ≤ 2)) }
+    ensures said { IfErr result (λ status. status ≡ 1
+        → IsBegun (E.contents faults.old) (E.contents faults.new) (stop_line StopOf.NoMemory)) }
 {
     let mut dialect = dialect;
     match dialect.add_final(Form::Prefix, b"CONNECT") {

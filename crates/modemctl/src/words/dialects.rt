@@ -4,6 +4,7 @@ ghost use Rattle.clap.specs.Words.{first_value, found_of, rule_of};
 ghost use Rattle.ctl_text.specs.DialectNames.{dialect_with_name};
 ghost use Rattle.modemctl.specs.Dialects.{GivesRules, IsGivenDialect, IsReadyOrRead, IsShut, PrintsActs};
 ghost use Rattle.modemctl.specs.Files.{IsNoText, NamesCause, text_status};
+ghost use Rattle.modemctl.specs.Refusals.{RefusesScript};
 ghost use Rattle.modemctl.specs.Words.{dialect_rule};
 
 use crate::words::file_faults::refuse_text;
@@ -124,6 +125,8 @@ where
     ensures done { result ≡ 0 → PrintsActs (R.text_of rt.now) (first_value (found_of matches.now) (codes "dialect")) n1
         (I.remaining input.old) (W.contents output.old) (W.contents output.new) }
     ensures shut { IsShut (R.is_shut rt.now) (first_value (found_of matches.now) (codes "dialect")) → result ≡ 1 }
+    ensures refused { result ≡ 2 → RefusesScript explained (first_value (found_of matches.now) (codes "dialect")) n1
+        (I.remaining input.old) (E.contents faults.old) (E.contents faults.new) }
     ensures nothing { result ≡ 1
         → NamesCause explained (first_value (found_of matches.now) (codes "dialect")) output.old output.new (E.contents faults.old)
         (E.contents faults.new) result }

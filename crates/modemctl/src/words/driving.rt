@@ -1,10 +1,17 @@
 //! The words of a drive.
-ghost use Rattle.std.specs.Prelude.{◌≡◌, ◌<◌, ◌≤◌, ◌⊎◌, IfErr, IfOk, IsErr, OnOk, codes, false, is_some, true};
-ghost use Rattle.clap.specs.Words.{app_of, first_value, found_of, rule_of};
+ghost use Rattle.std.specs.Prelude.{◌≡◌, ◌<◌, ◌≤◌, ◌⊎◌, ◌*◌, IfErr, IfOk, IsErr, OnOk, codes, false, is_some, true};
+ghost use Rattle.std.specs.Duration.{as_nanos};
+ghost use Rattle.clap.specs.Words.{app_of, first_value, found_of, one_text, rule_of};
+ghost use Rattle.ctl_drive.specs.Driving.{period_of};
 ghost use Rattle.ctl_drive.specs.Entry.{entry_for, given_text};
+ghost use Rattle.ctl_run.specs.Statuses.{stop_line};
+ghost use Rattle.ctl_run.specs.declared.stop.Stop.TheVariants as StopOf;
+ghost use Rattle.ctl_text.specs.Writing.{IsBegun};
 ghost use Rattle.modemctl.specs.Dialects.{IsShut};
-ghost use Rattle.modemctl.specs.Drives.{DrivesWith, IsDriveDialect, RanWith};
+ghost use Rattle.modemctl.specs.Drives.{DrivesWith, IsDriveDialect, IsTick, RanWith};
 ghost use Rattle.modemctl.specs.Files.{IsNoText, NamesCause};
+ghost use Rattle.modemctl.specs.Refusals.{EndsDriven, SaysUndriven};
+ghost use Rattle.modemctl.specs.Shows.{given_for};
 ghost use Rattle.modemctl.specs.Words.{device_rule, drive_app, entry_rule, is_set, quiet_rule, tick_rule};
 
 use crate::words::commands::{add, new_command};
@@ -115,8 +122,11 @@ struct Times {
     quiet_for: Option<Duration>,
 }
 
+#[tactic(auto, using(crate::proofs::DriveTicks::ticks_of))]
 /// The times that the words give. Refused: the option of which the text is no number.
-fn times_of(matches: &ArgMatches<'_>) -> Result<Times, &'static str> {
+fn times_of(matches: &ArgMatches<'_>) -> Result<Times, &'static str>
+    ensures { IfOk result (λ times. IsTick (one_text (found_of matches.now) (codes "tick")) (as_nanos times.tick)) }
+{
     let Ok(tick) = number_of(matches, "tick", DEFAULT_TICK) else {
         return Err("tick");
     };
@@ -129,6 +139,7 @@ fn times_of(matches: &ArgMatches<'_>) -> Result<Times, &'static str> {
     })
 }
 
+#[tactic(auto, using(crate::proofs::Refused::no_text_one, crate::proofs::Refused::memory_one))]
 /// The codes of the drive that the words give: where data begins behind a CONNECT line, a line that begins so ends a command too. Where
 /// they can't be had it says why, and gives the status.
 fn drive_dialect<R: TextFiles, E: Write>(
@@ -145,6 +156,9 @@ fn drive_dialect<R: TextFiles, E: Write>(
     ensures refused { IsShut (R.is_shut rt.now) (first_value (found_of matches.now) (codes "dialect")) → IfErr result
         (IsNoText true (codes "dialect") (first_value (found_of matches.now) (codes "dialect")) (E.contents faults.old)
         (E.contents faults.new)) }
+    ensures said { IfErr result (λ status. status ≡ 1
+        → IsNoText true (codes "dialect") (first_value (found_of matches.now) (codes "dialect")) (E.contents faults.old)
+        (E.contents faults.new) 1) }
 {
     let dialect = given_dialect(rt, alloc, matches, faults, true)?;
     if arm_of(matches) {
@@ -154,6 +168,7 @@ fn drive_dialect<R: TextFiles, E: Write>(
     }
 }
 
+#[tactic(auto, using(crate::proofs::Refused::ends_alone, crate::proofs::Refused::ends_with))]
 /// Drives a modem on the device of this path, with the files that the words name beside connections. Texts that give none are refused
 /// before the device is opened.
 fn drive_on<R, I, W, E>(
@@ -172,12 +187,17 @@ where
     E: Write,
     ensures status { result ≤ 2 }
     ensures done { result ≡ 0 → RanWith matches.now (is_some (given_text settings.entry.capture)) settings.entry.dialect.now
-        (entry_for (given_text settings.entry.entry) settings.entry.n1) settings.entry.n1 (W.contents output.old)
+        (entry_for (given_text settings.entry.entry) settings.entry.n1) settings.entry.n1
+        (period_of (as_nanos settings.entry.tick)) (W.contents output.old)
         (W.contents output.new) (E.contents faults.old) (E.contents faults.new) false }
     ensures bad { result ≡ 2 → (output.new ≡ output.old)
         ⊎ RanWith matches.now (is_some (given_text settings.entry.capture)) settings.entry.dialect.now
-        (entry_for (given_text settings.entry.entry) settings.entry.n1) settings.entry.n1 (W.contents output.old)
+        (entry_for (given_text settings.entry.entry) settings.entry.n1) settings.entry.n1
+        (period_of (as_nanos settings.entry.tick)) (W.contents output.old)
         (W.contents output.new) (E.contents faults.old) (E.contents faults.new) true }
+    ensures fault { result ≡ 1 → IsBegun (E.contents faults.old) (E.contents faults.new) (stop_line StopOf.NoMemory)
+        ⊎ EndsDriven path.now (given_text settings.entry.capture) (first_value (found_of matches.now) (codes "arm"))
+        (given_for matches.now (codes "data")) (given_for matches.now (codes "text")) (E.contents faults.old) (E.contents faults.new) }
 {
     let data = match data_paths_of(rt.alloc(), matches) {
         Ok(data) => data,
@@ -221,6 +241,10 @@ where
         (E.contents faults.old) (E.contents faults.new) true }
     ensures shut { IsShut (R.is_shut rt.now) (first_value (found_of matches.now) (codes "dialect"))
         → (0 < result) × (output.new ≡ output.old) }
+    ensures fault { result ≡ 1 → SaysUndriven (first_value (found_of matches.now) (codes "dialect"))
+        (first_value (found_of matches.now) (codes "device")) (first_value (found_of matches.now) (codes "capture"))
+        (first_value (found_of matches.now) (codes "arm")) (given_for matches.now (codes "data"))
+        (given_for matches.now (codes "text")) (E.contents faults.old) (E.contents faults.new) }
     ensures unread { IsShut (R.is_shut rt.now) (first_value (found_of matches.now) (codes "dialect")) → result ≡ 1
         → NamesCause true (first_value (found_of matches.now) (codes "dialect")) output.old output.new (E.contents faults.old)
         (E.contents faults.new) result }

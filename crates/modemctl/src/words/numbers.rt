@@ -4,8 +4,8 @@ ghost use Rattle.clap.specs.Words.{found_of, one_text};
 ghost use Rattle.modemctl.specs.Words.{IsNumberOf};
 
 use clap::ArgMatches;
-use ctl_drive::DEFAULT_N1;
 use itoa::Buffer;
+use mux_frame::N1;
 use std::str::FromStr;
 
 /// The callers of a bench where no word gives them.
@@ -90,7 +90,7 @@ pub fn numbers_of(matches: &ArgMatches<'_>) -> Result<Numbers, &'static str>
     ensures cut { IfOk result
         (λ numbers. IsNumberOf 64 (one_text (found_of matches.now) (codes "cut")) numbers.cut) }
 {
-    let Ok(n1) = number_of(matches, "n1", DEFAULT_N1) else {
+    let Ok(n1) = number_of(matches, "n1", N1::DEFAULT) else {
         return Err("n1");
     };
     let Ok(callers) = callers_of(matches) else {

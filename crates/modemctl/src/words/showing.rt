@@ -12,7 +12,9 @@ ghost use Rattle.show_texts.specs.Progress.{TellsRead};
 ghost use Rattle.modemctl.specs.Benches.{IsFlag};
 ghost use Rattle.modemctl.specs.Dialects.{IsShut};
 ghost use Rattle.modemctl.specs.Files.{IsNoText};
+ghost use Rattle.modemctl.specs.Refusals.{RefusesShow};
 ghost use Rattle.modemctl.specs.Shows.{AreChannels, AreWantedBy, IsShutFile, SaysUnread, SaysUnreadOf, SaysUnshown, ShowsFiles, ShowsWith, TellsFiles, TellsShow, given_for};
+ghost use Rattle.modemctl.specs.Sims.{SaysNoNumber, number_line};
 ghost use Rattle.modemctl.specs.Words.{data_rule, file_rule, raw_rule, show_app, strict_rule};
 
 use crate::words::commands::{add, new_command};
@@ -149,6 +151,7 @@ fn refuse_channels<E: Write>(faults: &mut E, fault: NoChannels) -> u8
     ensures some { 0 < result }
     ensures status { result ≤ 2 }
     ensures said { result ≡ 1 → IsBegun (E.contents faults.old) (E.contents faults.new) (stop_line StopOf.NoMemory) }
+    ensures told { result ≡ 2 → IsBegun (E.contents faults.old) (E.contents faults.new) (number_line (codes "data")) }
 {
     match fault {
         NoChannels::NoMemory => give_up(faults, Stop::NoMemory),
@@ -179,6 +182,9 @@ fn wanted<R: TextFiles, E: Write>(
     ensures refused { IfErr result (λ status. status ≡ 1
         → IsNoText true (codes "dialect") (first_value (found_of matches.now) (codes "dialect")) (E.contents faults.old)
         (E.contents faults.new) status) }
+    ensures told { IfErr result (λ status. status ≡ 2 → SaysNoNumber (E.contents faults.old) (E.contents faults.new)
+        ⊎ IsNoText true (codes "dialect") (first_value (found_of matches.now) (codes "dialect")) (E.contents faults.old)
+        (E.contents faults.new) 2) }
 {
     let data_channels = match data_channels_of(alloc, matches) {
         Ok(channels) => channels,
@@ -207,7 +213,7 @@ fn show_reader<I: Read + Drop, W: Write, E: Write, P: Write>(
     ensures shown { (result ≡ 0) ⊎ (result ≡ 3) → HasShown (setting_by options) options.strict (I.remaining input)
         (W.contents output.old) (W.contents output.new) result }
     ensures bad { result ≡ 2 → output.new ≡ output.old }
-    ensures said { result ≡ 1 → (what path : List ℕ) → SaysUnread what path (E.contents faults.old) (E.contents faults.new) result }
+    ensures said { (result ≡ 1) ⊎ (result ≡ 2) → (what path : List ℕ) → SaysUnread what path (E.contents faults.old) (E.contents faults.new) result }
     ensures silent { (result ≡ 0) ⊎ (result ≡ 3) → faults.new ≡ faults.old }
     ensures read { TellsRead (I.remaining input) progress.old.shown progress.new result }
     ensures untold { progress.old.is_on ≡ false → progress.new ≡ progress.old }
@@ -233,7 +239,7 @@ fn show_file<R: TextFiles, W: Write, E: Write, P: Write>(
     ensures shown { (result ≡ 0) ⊎ (result ≡ 3) → HasShown (setting_by options) options.strict (R.text_of rt.now path.now)
         (W.contents output.old) (W.contents output.new) result }
     ensures bad { result ≡ 2 → output.new ≡ output.old }
-    ensures said { result ≡ 1 → SaysUnread (codes "capture") path.now (E.contents faults.old) (E.contents faults.new) result }
+    ensures said { (result ≡ 1) ⊎ (result ≡ 2) → SaysUnread (codes "capture") path.now (E.contents faults.old) (E.contents faults.new) result }
     ensures shut { R.is_shut rt.now path.now ≡ true → (result ≡ 1) × (output.new ≡ output.old) }
     ensures silent { (result ≡ 0) ⊎ (result ≡ 3) → faults.new ≡ faults.old }
     ensures read { TellsRead (R.text_of rt.now path.now) progress.old.shown progress.new result }
@@ -279,7 +285,7 @@ fn show_beside<R: TextFiles, I: Read + Drop, W: Write, E: Write>(
     ensures shown { (result ≡ 0) ⊎ (result ≡ 3) → HasShownUntimed (setting_by options) options.strict (I.remaining to)
         (R.text_of rt.now from.now) (W.contents output.old) (W.contents output.new) result }
     ensures bad { result ≡ 2 → output.new ≡ output.old }
-    ensures said { result ≡ 1 → SaysUnread (codes "octets") from.now (E.contents faults.old) (E.contents faults.new) result }
+    ensures said { (result ≡ 1) ⊎ (result ≡ 2) → SaysUnread (codes "octets") from.now (E.contents faults.old) (E.contents faults.new) result }
     ensures shut { R.is_shut rt.now from.now ≡ true → (result ≡ 1) × (output.new ≡ output.old) }
     ensures silent { (result ≡ 0) ⊎ (result ≡ 3) → faults.new ≡ faults.old }
 {
@@ -305,7 +311,7 @@ fn show_octets<R: TextFiles, W: Write, E: Write>(
     ensures shown { (result ≡ 0) ⊎ (result ≡ 3) → HasShownUntimed (setting_by options) options.strict (R.text_of rt.now to.now)
         (R.text_of rt.now from.now) (W.contents output.old) (W.contents output.new) result }
     ensures bad { result ≡ 2 → output.new ≡ output.old }
-    ensures said { result ≡ 1 → SaysUnread (codes "octets") to.now (E.contents faults.old) (E.contents faults.new) result
+    ensures said { (result ≡ 1) ⊎ (result ≡ 2) → SaysUnread (codes "octets") to.now (E.contents faults.old) (E.contents faults.new) result
         ⊎ SaysUnread (codes "octets") from.now (E.contents faults.old) (E.contents faults.new) result }
     ensures shut { (R.is_shut rt.now to.now ≡ true) ⊎ (R.is_shut rt.now from.now ≡ true)
         → (result ≡ 1) × (output.new ≡ output.old) }
@@ -332,7 +338,7 @@ fn show_files<R: TextFiles, W: Write, E: Write, P: Write>(
     ensures shown { (result ≡ 0) ⊎ (result ≡ 3) → ShowsFiles (R.text_of rt.now) options (option_map (λ t. t.now) raw.entry) path.now
         (W.contents output.old) (W.contents output.new) result }
     ensures bad { result ≡ 2 → output.new ≡ output.old }
-    ensures said { result ≡ 1 → SaysUnreadOf (option_map (λ t. t.now) raw.entry) path.now (E.contents faults.old)
+    ensures said { (result ≡ 1) ⊎ (result ≡ 2) → SaysUnreadOf (option_map (λ t. t.now) raw.entry) path.now (E.contents faults.old)
         (E.contents faults.new) result }
     ensures shut { (R.is_shut rt.now path.now ≡ true) ⊎ IsShutFile (R.is_shut rt.now) (option_map (λ t. t.now) raw.entry)
         → (result ≡ 1) × (output.new ≡ output.old) }
@@ -368,6 +374,9 @@ pub fn show_words<R: TextFiles, W: Write, E: Write, P: Write>(
     ensures said { result ≡ 1 → SaysUnshown (first_value (found_of matches.now) (codes "dialect"))
         (first_value (found_of matches.now) (codes "raw")) (first_value (found_of matches.now) (codes "file"))
         (E.contents faults.old) (E.contents faults.new) result }
+    ensures refused { result ≡ 2 → RefusesShow (first_value (found_of matches.now) (codes "dialect"))
+        (first_value (found_of matches.now) (codes "raw")) (first_value (found_of matches.now) (codes "file"))
+        (E.contents faults.old) (E.contents faults.new) }
     ensures shut { IsShut (R.is_shut rt.now) (first_value (found_of matches.now) (codes "dialect"))
         ⊎ (IsShutFile (R.is_shut rt.now) (first_value (found_of matches.now) (codes "file"))
         ⊎ IsShutFile (R.is_shut rt.now) (first_value (found_of matches.now) (codes "raw")))

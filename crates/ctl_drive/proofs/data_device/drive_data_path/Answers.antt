@@ -2,6 +2,8 @@
 use Rattle.std.specs.Prelude.{None, is_some}
 use Rattle.std.proofs.Common.{ap, ◌∙◌}
 use Rattle.serial_line.specs.StreamLine.{StreamState}
+use Rattle.std.specs.Duration.{as_nanos}
+use Rattle.ctl_drive.specs.Driving.{period_of}
 use Rattle.ctl_drive.specs.Entry.{entry_for, given_text}
 use Rattle.ctl_drive.proofs.DataDevice.{all_fresh, drove_files_device, names_nothing_of, same_numbers}
 use Rattle.ctl_drive.proofs.data_device.drive_data_path.Goals as goal
@@ -17,7 +19,7 @@ drive_files_by-requires-clause-none g c = (ap (λ (l : StreamState). l.received)
 
 pub returns-clause-drove : goal.returns-clause-drove
 returns-clause-drove g c =
-    drove_files_device _ (is_some (given_text c.args.settings.capture)) c.args.settings.dialect.now (entry_for (given_text c.args.settings.entry) c.args.settings.n1) c.args.settings.n1 c.in_ok-line.field-0.line c.args.files.items _ (g.W.Write.contents c.args.output.now)
+    drove_files_device _ (is_some (given_text c.args.settings.capture)) c.args.settings.dialect.now (entry_for (given_text c.args.settings.entry) c.args.settings.n1) c.args.settings.n1 (period_of (as_nanos c.args.settings.tick)) c.in_ok-line.field-0.line c.args.files.items _ (g.W.Write.contents c.args.output.now)
     (g.W.Write.contents c.drive_files_by.new.output) (g.E.Write.contents c.args.faults.now) (g.E.Write.contents c.drive_files_by.new.faults) c.drive_files_by.result c.in_ok-reader.ensures.wanted c.in_ok-line.ensures c.requires c.drive_files_by.ensures.drove
 
 pub returns-in_err-named-clause-names : goal.returns-in_err-named-clause-names

@@ -2,6 +2,8 @@
 use Rattle.std.specs.Prelude.{false, is_some, refl}
 use Rattle.std.proofs.Common.{inl, inr}
 use Rattle.file_threads.specs.DataPaths.{opened_files}
+use Rattle.std.specs.Duration.{as_nanos}
+use Rattle.ctl_drive.specs.Driving.{period_of}
 use Rattle.ctl_drive.specs.Entry.{entry_for, given_text}
 use Rattle.ctl_drive.specs.OnDevice.{capture_path}
 use Rattle.ctl_drive.specs.declared.fault.DriveFault.TheVariants.{NoMemory}
@@ -20,7 +22,7 @@ returns-in-Err-clause-fault g c one =
 
 pub returns-clause-drove : goal.returns-clause-drove
 returns-clause-drove g c other =
-    ran_files _ _ (is_some (given_text c.args.settings.capture)) c.args.settings.dialect.now (entry_for (given_text c.args.settings.entry) c.args.settings.n1) c.args.settings.n1 (opened_files false c.args.data_paths.now) (g.W.Write.contents c.args.output.now)
+    ran_files _ _ (is_some (given_text c.args.settings.capture)) c.args.settings.dialect.now (entry_for (given_text c.args.settings.entry) c.args.settings.n1) c.args.settings.n1 (period_of (as_nanos c.args.settings.tick)) (opened_files false c.args.data_paths.now) (g.W.Write.contents c.args.output.now)
     (g.W.Write.contents c.drive_data_path-ended.new.output) (g.E.Write.contents c.args.faults.now) (g.E.Write.contents c.drive_data_path-ended.new.faults) (g.E.Write.contents c.say_full-is_written.new.faults) (g.E.Write.contents c.say_end.new.faults) c.drive_data_path-ended.result c.end_by.result
     c.say_full-is_written.result c.say_end.result c.drive_data_path-ended.ensures.drove c.say_full-is_written.ensures c.end_by.ensures c.say_end.ensures.said c.say_end.ensures.status other
 

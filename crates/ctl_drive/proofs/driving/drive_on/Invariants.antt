@@ -1,5 +1,5 @@
 -- It has gone on so far.
-use Rattle.std.specs.Prelude.{◌<◌}
+use Rattle.std.specs.Prelude.{◌≡◌}
 use Rattle.std.specs.Duration.{as_nanos}
 use Rattle.ctl_drive.specs.Asking.{AsksOn}
 use Rattle.ctl_drive.specs.Driving.{DrivesOn}
@@ -15,7 +15,7 @@ pub record Gone (A B C D : Type 0) : Type 0 where
 abbrev pub invariant-loop : goal.invariant-loop
 invariant-loop g l =
     Gone
-    (DrivesOn g.L.SerialLine.seen l.initial.session l.session)
+    (DrivesOn g.L.SerialLine.seen (as_nanos l.initial.ticks.period) l.initial.session l.initial.ticks.last l.session l.ticks.last)
     (GoOn (g.W.Write.contents l.initial.output) (g.W.Write.contents l.output) l.initial.users l.users)
     (AsksOn l.initial.plan l.plan l.initial.users.caller.submitted l.users.caller.submitted (g.E.Write.contents l.initial.faults) (g.E.Write.contents l.faults))
-    (0 < as_nanos l.ticks.period)
+    (l.ticks.period ≡ l.initial.ticks.period)

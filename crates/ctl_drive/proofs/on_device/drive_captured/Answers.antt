@@ -2,6 +2,8 @@
 use Rattle.std.specs.Prelude.{Bool, refl}
 use Rattle.std.proofs.Common.{sym, subst}
 use Rattle.modem_desk.specs.declared.settling.Settled.{Settled}
+use Rattle.std.specs.Duration.{as_nanos}
+use Rattle.ctl_drive.specs.Driving.{period_of}
 use Rattle.ctl_drive.specs.Entry.{entry_for, given_text}
 use Rattle.ctl_drive.specs.OnDevice.{DroveCaptured}
 use Rattle.ctl_drive.proofs.OnDevice.{well_captured}
@@ -12,7 +14,7 @@ returns-clause-drove g c = λ none.
     let look = g.L.SerialLine.seen in
     let ended = c.in_ok-ended.ended in
     subst
-    (λ (x : Bool × Settled). DroveCaptured look c.args.settings.dialect.now (entry_for (given_text c.args.settings.entry) c.args.settings.n1) c.args.settings.n1 c.args.line (g.I.Read.remaining c.args.input) (g.W.Write.contents c.args.output.now) (g.W.Write.contents c.drive_over.new.output) (g.E.Write.contents c.args.faults.now) (g.E.Write.contents c.drive_over.new.faults) x.0 x.1)
+    (λ (x : Bool × Settled). DroveCaptured look c.args.settings.dialect.now (entry_for (given_text c.args.settings.entry) c.args.settings.n1) c.args.settings.n1 (period_of (as_nanos c.args.settings.tick)) c.args.line (g.I.Read.remaining c.args.input) (g.W.Write.contents c.args.output.now) (g.W.Write.contents c.drive_over.new.output) (g.E.Write.contents c.args.faults.now) (g.E.Write.contents c.drive_over.new.faults) x.0 x.1)
     (λ i. (sym c.judge_capture.ensures.same.0 i, sym c.judge_capture.ensures.same.1 i))
-    (well_captured look _ _ _ c.args.line c.args.capture c.new-line.result ended.0 _ _ _ _ _ ended.1.fault ended.1.was_bad ended.1.left ended.0.capture.failed c.in_ok-ended.ensures.drove
+    (well_captured look _ _ _ _ c.args.line c.args.capture c.new-line.result ended.0 _ _ _ _ _ ended.1.fault ended.1.was_bad ended.1.left ended.0.capture.failed c.in_ok-ended.ensures.drove
     (record { wrapped_is = c.new-line.ensures; both = c.judge_capture.ensures.fault none; failed_is = refl; captures = c.judge_capture.ensures.captures }))

@@ -1,6 +1,8 @@
 -- A line between two rings was driven.
 use Rattle.std.proofs.Common.{None, is_some, ap}
 use Rattle.serial_line.specs.StreamLine.{StreamState}
+use Rattle.std.specs.Duration.{as_nanos}
+use Rattle.ctl_drive.specs.Driving.{period_of}
 use Rattle.ctl_drive.specs.Entry.{entry_for, given_text}
 use Rattle.ctl_drive.proofs.Asks.{names_nothing}
 use Rattle.ctl_drive.proofs.OnDevice.{drove_device}
@@ -11,7 +13,7 @@ drive_by-requires-clause-fresh g c = (ap (λ (l : StreamState). l.received) c.in
 
 pub returns-clause-drove : goal.returns-clause-drove
 returns-clause-drove g c =
-    drove_device (is_some c.args.capture) c.args.settings.dialect.now (entry_for (given_text c.args.settings.entry) c.args.settings.n1) c.args.settings.n1 c.in_ok-line.field-0.line (g.W.Write.contents c.args.output.now) (g.W.Write.contents c.drive_by.new.output) (g.E.Write.contents c.args.faults.now) (g.E.Write.contents c.drive_by.new.faults) c.drive_by.result
+    drove_device (is_some c.args.capture) c.args.settings.dialect.now (entry_for (given_text c.args.settings.entry) c.args.settings.n1) c.args.settings.n1 (period_of (as_nanos c.args.settings.tick)) c.in_ok-line.field-0.line (g.W.Write.contents c.args.output.now) (g.W.Write.contents c.drive_by.new.output) (g.E.Write.contents c.args.faults.now) (g.E.Write.contents c.drive_by.new.faults) c.drive_by.result
     c.in_ok-line.ensures c.drive_by.ensures.drove
 
 pub returns-in_err-bell-clause-named : goal.returns-in_err-bell-clause-named

@@ -1,5 +1,8 @@
 -- The session goes on, and ends.
-use Rattle.std.proofs.Common.{refl, sym, subst}
+use Rattle.std.specs.Duration.{as_nanos}
+use Rattle.std.specs.declared.time.Instant.{Instant}
+use Rattle.std.proofs.Common.{Option, refl, sym, subst}
+use Rattle.ctl_drive.specs.Driving.{DrivesOn}
 use Rattle.ctl_drive.specs.Asking.{AsksOn, PlanView}
 use Rattle.ctl_drive.specs.Ending.{HasEndedBy}
 use Rattle.ctl_drive.proofs.Asks.{stops_either, stops_if}
@@ -23,9 +26,11 @@ pub returns-in_ok-ended-in-Ok-clause-driven : goal.returns-in_ok-ended-in-Ok-cla
 returns-in_ok-ended-in-Ok-clause-driven g c =
     let t = c.drive_on-went.new.session in
     let mid = c.drive_on-went.new.users in
-    has_driven g.L.SerialLine.seen c.args.session t t c.args.users mid mid
+    has_driven g.L.SerialLine.seen (as_nanos c.args.ticks.now.period) c.drive_on-went.new.ticks.last c.args.session t t c.args.users mid mid
     c.args.plan.now c.end_drive.new.plan (g.W.Write.contents c.args.output.now) (g.W.Write.contents c.drive_on-went.new.output)
-    (g.W.Write.contents c.end_drive.new.output) (g.E.Write.contents c.args.faults.now) (g.E.Write.contents c.drive_on-went.new.faults) c.in-Ok.fault c.in_ok-ended-in-Ok.ended.1 c.in_ok-ended-in-Ok.ended.0 c.drive_on-went.ensures.drives c.in-Ok.ensures.goes
+    (g.W.Write.contents c.end_drive.new.output) (g.E.Write.contents c.args.faults.now) (g.E.Write.contents c.drive_on-went.new.faults) c.in-Ok.fault c.in_ok-ended-in-Ok.ended.1 c.in_ok-ended-in-Ok.ended.0
+    (subst (λ (at : Option Instant). DrivesOn g.L.SerialLine.seen (as_nanos c.args.ticks.now.period) c.args.session at t c.drive_on-went.new.ticks.last) c.requires.unbegun c.drive_on-went.ensures.drives)
+    c.in-Ok.ensures.goes
     (subst (λ (p : PlanView). AsksOn c.args.plan.now p c.args.users.caller.submitted mid.caller.submitted (g.E.Write.contents c.args.faults.now) (g.E.Write.contents c.drive_on-went.new.faults)) (sym c.end_drive.ensures.same) c.in-Ok.ensures.asks)
     (subst (λ (p : PlanView). HasEndedBy t.machine.course p c.in-Ok.fault) (sym c.end_drive.ensures.same) c.in-Ok.ensures.ends)
     refl refl c.in_ok-ended-in-Ok.ensures.ends c.in_ok-ended-in-Ok.ensures.line

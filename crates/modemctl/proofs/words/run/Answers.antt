@@ -14,9 +14,11 @@ use Rattle.modemctl.specs.Benches.{PrintsBench, PrintsFrames, PrintsReplay}
 use Rattle.modemctl.specs.Dialects.{IsShut}
 use Rattle.modemctl.specs.Drives.{PrintsDrive}
 use Rattle.modemctl.specs.Files.{NamesCause}
+use Rattle.modemctl.specs.Refusals.{RefusesBench, RefusesFrames, RefusesReplay, RefusesShow, SaysUndriven}
 use Rattle.modemctl.specs.Sims.{IsNotBegun, LeavesClient, RefusesClient, ServesClient, files_given}
 use Rattle.modemctl.specs.SimData.{LeavesData, SaysNoPaths, ServesData, names_files}
 use Rattle.modemctl.specs.Shows.{IsShutFile, PrintsShow, SaysUnshown, TellsShow, all_in}
+use Rattle.modemctl.proofs.Refused.{gave_up_one, memory_one}
 use Rattle.modemctl.proofs.ShownFiles.{not_shown}
 use Rattle.modemctl.proofs.words.run.Goals as goal
 
@@ -423,3 +425,65 @@ pub returns-in-Ok-try_get_matches_from-clause-others :
     goal.returns-in-Ok-try_get_matches_from-clause-others
 returns-in-Ok-try_get_matches_from-clause-others g c other =
     c.run_named.ensures.others (λ is. other (at_program (λ kinds. kinds ≡ []) _ _ c.in-Ok.ensures c.in-Ok-try_get_matches_from.ensures.kinds, sym (named c.in-Ok-try_get_matches_from.matches _ _ c.in-Ok.ensures (λ e. (c.in-Ok-try_get_matches_from.ensures.matches e).1)) ∙ is))
+
+-- ## What is said at status 2, and of a drive at status 1
+
+pub returns-in-Ok-try_get_matches_from-clause-frames_bad :
+    goal.returns-in-Ok-try_get_matches_from-clause-frames_bad
+returns-in-Ok-try_get_matches_from-clause-frames_bad g c two for =
+    subst (λ (m : Option (Text × List Row)). RefusesFrames (is_explained c.args.terminal m) m (g.I.Read.remaining c.args.input.now) (g.E.Write.contents c.args.faults.now) (g.E.Write.contents c.run_named.new.faults)) (met c.in-Ok-try_get_matches_from.matches _ _ c.in-Ok.ensures (λ e. (c.in-Ok-try_get_matches_from.ensures.matches e).1))
+    (c.run_named.ensures.frames_bad two (named c.in-Ok-try_get_matches_from.matches _ _ c.in-Ok.ensures (λ e. (c.in-Ok-try_get_matches_from.ensures.matches e).1) ∙ for.1))
+
+pub returns-in-Ok-try_get_matches_from-clause-replay_bad :
+    goal.returns-in-Ok-try_get_matches_from-clause-replay_bad
+returns-in-Ok-try_get_matches_from-clause-replay_bad g c two for =
+    subst (λ (m : Option (Text × List Row)). RefusesReplay (is_explained c.args.terminal m) m (g.I.Read.remaining c.args.input.now) (g.E.Write.contents c.args.faults.now) (g.E.Write.contents c.run_named.new.faults)) (met c.in-Ok-try_get_matches_from.matches _ _ c.in-Ok.ensures (λ e. (c.in-Ok-try_get_matches_from.ensures.matches e).1))
+    (c.run_named.ensures.replay_bad two (named c.in-Ok-try_get_matches_from.matches _ _ c.in-Ok.ensures (λ e. (c.in-Ok-try_get_matches_from.ensures.matches e).1) ∙ for.1))
+
+pub returns-in-Ok-try_get_matches_from-clause-bench_bad :
+    goal.returns-in-Ok-try_get_matches_from-clause-bench_bad
+returns-in-Ok-try_get_matches_from-clause-bench_bad g c two for =
+    subst (λ (m : Option (Text × List Row)). RefusesBench (is_explained c.args.terminal m) m (g.I.Read.remaining c.args.input.now) (g.E.Write.contents c.args.faults.now) (g.E.Write.contents c.run_named.new.faults)) (met c.in-Ok-try_get_matches_from.matches _ _ c.in-Ok.ensures (λ e. (c.in-Ok-try_get_matches_from.ensures.matches e).1))
+    (c.run_named.ensures.bench_bad two (named c.in-Ok-try_get_matches_from.matches _ _ c.in-Ok.ensures (λ e. (c.in-Ok-try_get_matches_from.ensures.matches e).1) ∙ for.1))
+
+pub returns-in-Ok-try_get_matches_from-clause-show_bad :
+    goal.returns-in-Ok-try_get_matches_from-clause-show_bad
+returns-in-Ok-try_get_matches_from-clause-show_bad g c two for =
+    subst (λ (m : Option (Text × List Row)). RefusesShow (raw_in m (codes "dialect")) (raw_in m (codes "raw")) (raw_in m (codes "file")) (g.E.Write.contents c.args.faults.now) (g.E.Write.contents c.run_named.new.faults)) (met c.in-Ok-try_get_matches_from.matches _ _ c.in-Ok.ensures (λ e. (c.in-Ok-try_get_matches_from.ensures.matches e).1))
+    (c.run_named.ensures.show_bad two (named c.in-Ok-try_get_matches_from.matches _ _ c.in-Ok.ensures (λ e. (c.in-Ok-try_get_matches_from.ensures.matches e).1) ∙ for.1))
+
+pub returns-in-Ok-try_get_matches_from-clause-drive_fault :
+    goal.returns-in-Ok-try_get_matches_from-clause-drive_fault
+returns-in-Ok-try_get_matches_from-clause-drive_fault g c one for =
+    subst
+    (λ (m : Option (Text × List Row)). SaysUndriven (raw_in m (codes "dialect")) (raw_in m (codes "device")) (raw_in m (codes "capture")) (raw_in m (codes "arm")) (all_in m (codes "data")) (all_in m (codes "text")) (g.E.Write.contents c.args.faults.now) (g.E.Write.contents c.run_named.new.faults))
+    (met c.in-Ok-try_get_matches_from.matches _ _ c.in-Ok.ensures (λ e. (c.in-Ok-try_get_matches_from.ensures.matches e).1))
+    (c.run_named.ensures.drive_fault one (named c.in-Ok-try_get_matches_from.matches _ _ c.in-Ok.ensures (λ e. (c.in-Ok-try_get_matches_from.ensures.matches e).1) ∙ for.1))
+
+pub returns-in-Err-try_get_matches_from-clause-frames_bad :
+    goal.returns-in-Err-try_get_matches_from-clause-frames_bad
+returns-in-Err-try_get_matches_from-clause-frames_bad g c two for =
+    let one = c.explain.ensures.memory (by_memory _ _ (at_program (λ kinds. HasKind kinds c.in-Err-try_get_matches_from.error) _ _ c.in-Ok.ensures c.in-Err-try_get_matches_from.ensures.kinds) for.0) in absurd (omega (arith, one, two))
+
+pub returns-in-Err-try_get_matches_from-clause-replay_bad :
+    goal.returns-in-Err-try_get_matches_from-clause-replay_bad
+returns-in-Err-try_get_matches_from-clause-replay_bad g c two for =
+    let one = c.explain.ensures.memory (by_memory _ _ (at_program (λ kinds. HasKind kinds c.in-Err-try_get_matches_from.error) _ _ c.in-Ok.ensures c.in-Err-try_get_matches_from.ensures.kinds) for.0) in absurd (omega (arith, one, two))
+
+pub returns-in-Err-try_get_matches_from-clause-bench_bad :
+    goal.returns-in-Err-try_get_matches_from-clause-bench_bad
+returns-in-Err-try_get_matches_from-clause-bench_bad g c two for =
+    let one = c.explain.ensures.memory (by_memory _ _ (at_program (λ kinds. HasKind kinds c.in-Err-try_get_matches_from.error) _ _ c.in-Ok.ensures c.in-Err-try_get_matches_from.ensures.kinds) for.0) in absurd (omega (arith, one, two))
+
+pub returns-in-Err-try_get_matches_from-clause-show_bad :
+    goal.returns-in-Err-try_get_matches_from-clause-show_bad
+returns-in-Err-try_get_matches_from-clause-show_bad g c two for =
+    let one = c.explain.ensures.memory (by_memory _ _ (at_program (λ kinds. HasKind kinds c.in-Err-try_get_matches_from.error) _ _ c.in-Ok.ensures c.in-Err-try_get_matches_from.ensures.kinds) for.0) in absurd (omega (arith, one, two))
+
+pub returns-in-Err-try_get_matches_from-clause-drive_fault :
+    goal.returns-in-Err-try_get_matches_from-clause-drive_fault
+returns-in-Err-try_get_matches_from-clause-drive_fault g c one for =
+    inl (gave_up_one _ _ _ _ _ _ _ one (c.explain.ensures.nothing one true))
+
+pub returns-in-Err-clause-drive_fault : goal.returns-in-Err-clause-drive_fault
+returns-in-Err-clause-drive_fault g c one for = inl (memory_one true (codes "dialect") _ _ _ c.give_up.ensures.said)

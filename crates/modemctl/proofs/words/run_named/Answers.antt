@@ -4,19 +4,24 @@ use Rattle.clap.specs.Words.{Row, Text, all_of, first_of, first_value, found_of,
 use Rattle.clap.specs.declared.ArgMatches.{ArgMatches}
 use Rattle.clap.proofs.WalkLemmas.{first_value-rows, one_text-rows, raw_values-rows}
 use Rattle.modemctl.specs.Words.{HasNoNumber, IsGiven, IsNoNumber, IsNumberOf, is_explained, is_set, raw_in, text_in}
-use Rattle.ctl_run.specs.Stopping.{HasGivenUp}
+use Rattle.ctl_run.specs.Dump.{IsNoDump}
+use Rattle.ctl_run.specs.LineFaults.{DumpFault, EventFault}
+use Rattle.ctl_run.specs.Script.{IsNoOrder}
+use Rattle.ctl_run.specs.Stopping.{HasGivenUp, IsBenchStop, IsRunStop}
 use Rattle.ctl_sim.specs.declared.serving.SimOptions.{SimOptions}
 use Rattle.ctl_sim.specs.Watching.{CapturesClient}
 use Rattle.modemctl.specs.Benches.{AreGiven, AreMatched, AreOwn, AreScripted, IsFlag}
 use Rattle.modemctl.specs.Sims.{FailsClient, IsNotBegun, LeavesClient, LeavesWith, RefusesClient, RefusesWith, SaysBadFile, SimFiles, files_given, files_matched}
 use Rattle.ctl_drive.specs.Entry.{entry_for}
 use Rattle.modemctl.specs.Dialects.{IsGivenDialect, IsShut, PrintsActs}
-use Rattle.modemctl.specs.Drives.{DrivesWith, IsDriveDialect, PrintsDrive, RanGiven}
-use Rattle.modemctl.specs.Files.{NamesCause}
+use Rattle.modemctl.specs.Drives.{DrivesWith, IsDriveDialect, PrintsDrive, RanGiven, millis}
+use Rattle.modemctl.specs.Files.{IsNoText, NamesCause}
+use Rattle.modemctl.specs.Refusals.{RefusesShow, SaysUndriven, StopsBadly}
 use Rattle.modemctl.specs.SimData.{LeavesData, SaysNoPaths, ServesData, gives_some, names_files}
 use Rattle.modemctl.specs.Shows.{AreChannels, AreWanted, AreWantedBy, IsShutFile, PrintsShow, SaysUnshown, ShowsFiles, ShowsWith, TellsShow, all_in, given_for}
 use Rattle.show_texts.specs.Progress.{ProgressState}
 use Rattle.show_texts.specs.declared.run.ShowOptions.{ShowOptions}
+use Rattle.modemctl.proofs.Refused.{stops_two}
 use Rattle.modemctl.proofs.ShownFiles.{not_shown}
 use Rattle.modemctl.proofs.words.run_named.Goals as goal
 
@@ -213,9 +218,11 @@ prints_drive texts top m n1 before after silent said was_bad e is drives = recor
   named =
       subst (λ (t : Option Text × Option Text). IsDriveDialect texts t.0 (is_set t.1) drives.rules)
       (λ i. (word_given top m (codes "dialect") e i, word_given top m (codes "arm") e i)) drives.named;
+  tick = drives.tick;
+  ticks = number_in top m (codes "tick") 100 drives.tick e drives.ticks;
   drove =
       subst
-      (λ (t : Option Text × Option Text × Option (List Text) × Option Text × Option (List Text)). RanGiven t.2 t.4 (is_set t.3) (is_some t.0) drives.rules (entry_for t.1 n1) n1 before after silent said was_bad)
+      (λ (t : Option Text × Option Text × Option (List Text) × Option Text × Option (List Text)). RanGiven t.2 t.4 (is_set t.3) (is_some t.0) drives.rules (entry_for t.1 n1) n1 (millis drives.tick) before after silent said was_bad)
       (λ i. (word_given top m (codes "capture") e i, word_given top m (codes "entry") e i, words_given top m (codes "data") e i, word_given top m (codes "arm") e i, words_given top m (codes "text") e i))
       drives.drove;
 }
@@ -333,3 +340,70 @@ pub returns-in-Err-clause-show_read : goal.returns-in-Err-clause-show_read
 returns-in-Err-clause-show_read g c named =
     let two = c.refuse.ensures.status in
     not_shown _ _ _ _ c.args.progress.now _ refl (omega (arith, two)) (omega (arith, two))
+
+-- ## Status 2
+
+pub returns-in-frames-clause-frames_bad : goal.returns-in-frames-clause-frames_bad
+returns-in-frames-clause-frames_bad g c two named = inr (record {
+  n1 = c.in-Ok.numbers.n1;
+  given = number_in c.args.matches.now c.in-Some.given.now (codes "n1") 31 c.in-Ok.numbers.n1 c.in-Some.ensures.rows c.in-Ok.ensures.n1;
+  stops =
+      subst (λ (e : Bool). StopsBadly e (IsRunStop c.in-Ok.numbers.n1 IsNoDump DumpFault (g.I.Read.remaining c.args.input.now)) (g.E.Write.contents c.args.faults.now) (g.E.Write.contents c.frames_run_explained.new.faults)) (c.wants_reason-explained.ensures ∙ same_wish c.args.matches.now c.in-Some.given.now c.args.terminal c.in-Some.ensures.rows)
+      (stops_two _ _ _ _ _ _ _ _ _ _ c.frames_run_explained.ensures.stopped two);
+})
+
+pub returns-in-replay-clause-replay_bad : goal.returns-in-replay-clause-replay_bad
+returns-in-replay-clause-replay_bad g c two named =
+    inr (⊎_elim
+    (λ text. inl (subst (λ (x : Bool × Option Text). IsNoText x.0 (codes "dialect") x.1 (g.E.Write.contents c.args.faults.now) (g.E.Write.contents c.replay_words.new.faults) 2)
+    (λ i. ((c.wants_reason-explained.ensures ∙ same_wish c.args.matches.now c.in-Some.given.now c.args.terminal c.in-Some.ensures.rows) i, word_given c.args.matches.now c.in-Some.given.now (codes "dialect") c.in-Some.ensures.rows i)) text))
+    (λ stops. inr (record {
+      n1 = c.in-Ok.numbers.n1;
+      given = number_in c.args.matches.now c.in-Some.given.now (codes "n1") 31 c.in-Ok.numbers.n1 c.in-Some.ensures.rows c.in-Ok.ensures.n1;
+      stops = subst (λ (e : Bool). StopsBadly e (IsRunStop c.in-Ok.numbers.n1 IsNoOrder EventFault (g.I.Read.remaining c.args.input.now)) (g.E.Write.contents c.args.faults.now) (g.E.Write.contents c.replay_words.new.faults)) (c.wants_reason-explained.ensures ∙ same_wish c.args.matches.now c.in-Some.given.now c.args.terminal c.in-Some.ensures.rows) stops;
+    }))
+    (c.replay_words.ensures.refused two))
+
+pub returns-in-bench-clause-bench_bad : goal.returns-in-bench-clause-bench_bad
+returns-in-bench-clause-bench_bad g c two named = inr (record {
+  callers = c.in-Ok.numbers.callers;
+  callers_given = number_in c.args.matches.now c.in-Some.given.now (codes "callers") 2 c.in-Ok.numbers.callers c.in-Some.ensures.rows c.in-Ok.ensures.callers;
+  cut = c.in-Ok.numbers.cut;
+  cut_given = number_in c.args.matches.now c.in-Some.given.now (codes "cut") 64 c.in-Ok.numbers.cut c.in-Some.ensures.rows c.in-Ok.ensures.cut;
+  stops = subst (λ (e : Bool). StopsBadly e (IsBenchStop c.in-Ok.numbers.callers c.in-Ok.numbers.cut (g.I.Read.remaining c.args.input.now)) (g.E.Write.contents c.args.faults.now) (g.E.Write.contents c.bench_plain.new.faults)) (c.wants_reason-explained.ensures ∙ same_wish c.args.matches.now c.in-Some.given.now c.args.terminal c.in-Some.ensures.rows) (c.bench_plain.ensures.refused two);
+})
+
+refuses_show : (top m : ArgMatches) (before after : Option (List ℕ)) → Some (rows_of (found_of m)) ≡ option_map (λ p. p.1) (subcommand_rows_of top)
+    → RefusesShow (first_value (found_of m) (codes "dialect")) (first_value (found_of m) (codes "raw")) (first_value (found_of m) (codes "file")) before after
+    → RefusesShow (raw_in (subcommand_rows_of top) (codes "dialect")) (raw_in (subcommand_rows_of top) (codes "raw")) (raw_in (subcommand_rows_of top) (codes "file")) before after
+refuses_show top m before after rows said =
+    subst (λ (t : Option Text × Option Text × Option Text). RefusesShow t.0 t.1 t.2 before after)
+    (λ i. (word_given top m (codes "dialect") rows i, word_given top m (codes "raw") rows i, word_given top m (codes "file") rows i)) said
+
+pub returns-in-show-clause-show_bad : goal.returns-in-show-clause-show_bad
+returns-in-show-clause-show_bad g c two named = refuses_show c.args.matches.now c.in-Some.given.now _ _ c.in-Some.ensures.rows (c.show_words.ensures.refused two)
+
+says_undriven : (top m : ArgMatches) (before after : Option (List ℕ)) → Some (rows_of (found_of m)) ≡ option_map (λ p. p.1) (subcommand_rows_of top)
+    → SaysUndriven (first_value (found_of m) (codes "dialect")) (first_value (found_of m) (codes "device")) (first_value (found_of m) (codes "capture")) (first_value (found_of m) (codes "arm")) (given_for m (codes "data")) (given_for m (codes "text")) before after
+    → SaysUndriven (raw_in (subcommand_rows_of top) (codes "dialect")) (raw_in (subcommand_rows_of top) (codes "device")) (raw_in (subcommand_rows_of top) (codes "capture")) (raw_in (subcommand_rows_of top) (codes "arm")) (all_in (subcommand_rows_of top) (codes "data")) (all_in (subcommand_rows_of top) (codes "text")) before after
+says_undriven top m before after rows said =
+    subst (λ (t : Option Text × Option Text × Option Text × Option Text × Option (List Text) × Option (List Text)). SaysUndriven t.0 t.1 t.2 t.3 t.4 t.5 before after)
+    (λ i. (word_given top m (codes "dialect") rows i, word_given top m (codes "device") rows i, word_given top m (codes "capture") rows i, word_given top m (codes "arm") rows i, words_given top m (codes "data") rows i, words_given top m (codes "text") rows i)) said
+
+pub returns-in-drive-clause-drive_fault : goal.returns-in-drive-clause-drive_fault
+returns-in-drive-clause-drive_fault g c one named = says_undriven c.args.matches.now c.in-Some.given.now _ _ c.in-Some.ensures.rows (c.drive_words.ensures.fault one)
+
+pub returns-in-Err-clause-frames_bad : goal.returns-in-Err-clause-frames_bad
+returns-in-Err-clause-frames_bad g c two named = inl (record { option = _; said = c.refuse.ensures.said })
+
+pub returns-in-Err-clause-replay_bad : goal.returns-in-Err-clause-replay_bad
+returns-in-Err-clause-replay_bad g c two named = inl (record { option = _; said = c.refuse.ensures.said })
+
+pub returns-in-Err-clause-bench_bad : goal.returns-in-Err-clause-bench_bad
+returns-in-Err-clause-bench_bad g c two named = inl (record { option = _; said = c.refuse.ensures.said })
+
+pub returns-in-Err-clause-show_bad : goal.returns-in-Err-clause-show_bad
+returns-in-Err-clause-show_bad g c two named = inr (inl (record { option = _; said = c.refuse.ensures.said }))
+
+pub returns-in-Err-clause-drive_fault : goal.returns-in-Err-clause-drive_fault
+returns-in-Err-clause-drive_fault g c one named = let two = c.refuse.ensures.status in absurd (omega (arith, one, two))
