@@ -12,7 +12,7 @@ use Rattle.modem_desk.specs.declared.request.Request.{Request}
 use Rattle.ctl_text.specs.Input.{input_lines}
 use Rattle.ctl_text.specs.Words.{IsCommand}
 use Rattle.ctl_text.specs.Writing.{IsBegun}
-use Rattle.ctl_text.specs.declared.line_fault.LineFault.{LineFault}
+use Rattle.ctl_text.specs.declared.expected.Expected.{Expected}
 use Rattle.ctl_drive.specs.Asking.{AsksOn, HasAsked, IsThrough, LinesAsk, PlanView, NamesRead, ReadsAll, ReadsLine, StopsOn, submitted_on, text_on, texts_on, waits_at}
 use Rattle.ctl_drive.specs.Input.{HasRead, LinesView, Reads}
 use Rattle.ctl_drive.specs.Plans.{after_asking}
@@ -107,7 +107,7 @@ reads_command old view number waiting line text d said same next behind command 
 })
 
 -- it is a bad one
-pub reads_bad : (old view : PlanView) (number : ℕ) (line : List ℕ) (why : LineFault) (said more : Option (List ℕ)) → view ≡ old → number ≡ view.count + 1
+pub reads_bad : (old view : PlanView) (number : ℕ) (line : List ℕ) (why : Expected) (said more : Option (List ℕ)) → view ≡ old → number ≡ view.count + 1
     → IsBadFor line why → IsBegun said more (bad_text number why) → ReadsLine old (record view { count = number; was_bad = true }) line said more
 reads_bad old view number line why said more same next bad begun = subst (λ (p : PlanView). ReadsLine p (record view { count = number; was_bad = true }) line said more) same (record {
   said = [];

@@ -1,15 +1,15 @@
 -- Only one list of bad lines is that of an input.
 use Rattle.std.specs.Prelude.{◌≡◌, ℕ, ◌+◌, List, [], ◌∷◌, refl}
 use Rattle.std.proofs.Common.{inl, inr}
-use Rattle.ctl_text.specs.declared.line_fault.LineFault.{LineFault}
+use Rattle.ctl_text.specs.declared.expected.Expected.{Expected}
 use Rattle.ctl_text.proofs.OneFault.{one_command}
 use Rattle.ctl_drive.specs.Saying.{AreBad, AreBadFrom, BadLine, IsBadFor, IsGood}
 
-good_or_bad : (line : List ℕ) (why : LineFault) → IsGood line → IsBadFor line why → ⊥
+good_or_bad : (line : List ℕ) (why : Expected) → IsGood line → IsBadFor line why → ⊥
 good_or_bad line why (inl none) h = h.some none
 good_or_bad line why (inr is) h = h.none is.dlci is.text is.command
 
-same_bad : (place : ℕ) (v w : LineFault) (a b : List BadLine) → v ≡ w → a ≡ b → record { place = place; why = v } ∷ a ≡ record { place = place; why = w } ∷ b
+same_bad : (place : ℕ) (v w : Expected) (a b : List BadLine) → v ≡ w → a ≡ b → record { place = place; why = v } ∷ a ≡ record { place = place; why = w } ∷ b
 same_bad place v w a b why more i = record { place = place; why = why i } ∷ more i
 
 one_from : (place : ℕ) (lines : List (List ℕ)) (a b : List BadLine) → AreBadFrom place lines a → AreBadFrom place lines b → a ≡ b

@@ -2,7 +2,7 @@
 use Rattle.std.specs.Prelude.{◌≡◌, ℕ, ◌+◌, ◌==◌, Bool, true, false, List, [], ◌∷◌, ◌++◌, Option, length, refl, if◌then◌else◌}
 use Rattle.std.proofs.Common.{ap, arith, sym, subst, inl, inr, ◌∙◌}
 use Rattle.ctl_text.specs.Writing.{IsBegun}
-use Rattle.ctl_text.specs.declared.line_fault.LineFault.{LineFault}
+use Rattle.ctl_text.specs.declared.expected.Expected.{Expected}
 use Rattle.file_threads.specs.Said.{AreSaid}
 use Rattle.file_threads.proofs.FileEnds.{said_last}
 use Rattle.ctl_drive.specs.Saying.{AreBadFrom, BadLine, IsBadFor, IsGood, Names, NamesBad, bad_text, bad_texts, is_any, left_text, left_texts}
@@ -24,7 +24,7 @@ good_last place (l ∷ lines) bad line (AreBadFrom.bad_passed _ _ _ _ g h) good 
 good_last place (l ∷ lines) (b ∷ bad) line (AreBadFrom.bad_next _ _ why _ _ g h) good =
     AreBadFrom.bad_next place l why (lines ++ line ∷ []) bad g (good_last (place + 1) lines bad line h good)
 
-bad_last : (place n : ℕ) (lines : List (List ℕ)) (bad : List BadLine) (line : List ℕ) (why : LineFault) → n ≡ length lines + place → AreBadFrom place lines bad → IsBadFor line why
+bad_last : (place n : ℕ) (lines : List (List ℕ)) (bad : List BadLine) (line : List ℕ) (why : Expected) → n ≡ length lines + place → AreBadFrom place lines bad → IsBadFor line why
     → AreBadFrom place (lines ++ line ∷ []) (bad ++ record { place = n; why = why } ∷ [])
 bad_last place n [] [] line why at (AreBadFrom.bad_none _) is =
     let same : place ≡ n = omega (arith, at) in

@@ -9,8 +9,8 @@ use Rattle.ctl_text.specs.Input.{input_lines}
 use Rattle.ctl_text.specs.LineFaults.{IsCarrier}
 use Rattle.ctl_text.specs.Words.{IsCommand, IsNoCommand, number_text}
 use Rattle.ctl_text.specs.Writing.{IsBegun}
-use Rattle.ctl_text.specs.declared.line_fault.LineFault.{LineFault}
-use Rattle.ctl_text.specs.declared.line_fault.LineFault.TheVariants.{Carrier, Command}
+use Rattle.ctl_text.specs.declared.expected.Expected.{Expected}
+use Rattle.ctl_text.specs.declared.expected.Expected.TheVariants.{Carrier, Command}
 use Rattle.file_threads.specs.Said.{AreSaid}
 use Rattle.ctl_drive.specs.Saying.{AreBad, AreBadFrom, BadLine, IsBadFor, IsGood, bad_text}
 use Rattle.ctl_drive.specs.SayingRows.{AreNotTaken, AreRefused, AreTaken, AreWorked, bad_at, three_lines, two_texts}
@@ -90,7 +90,7 @@ abbrev place_in : List BadLine → ℕ
 place_in [] = 0
 place_in (b ∷ more) = b.place
 
-abbrev why_in : List BadLine → LineFault
+abbrev why_in : List BadLine → Expected
 why_in [] = Carrier
 why_in (b ∷ more) = b.why
 

@@ -4,7 +4,7 @@ use Rattle.std.specs.Fmt.{debug_str, decimal}
 use Rattle.ctl_text.specs.LineFaults.{CommandFault, bad_line, reason_line}
 use Rattle.ctl_text.specs.Words.{IsCommand, IsNoCommand}
 use Rattle.ctl_text.specs.Writing.{IsBegun}
-use Rattle.ctl_text.specs.declared.line_fault.LineFault.{LineFault}
+use Rattle.ctl_text.specs.declared.expected.Expected.{Expected}
 use Rattle.file_threads.specs.Said.{AreSaid}
 use Rattle.ctl_drive.specs.Faults.{fault_head, fault_words}
 use Rattle.ctl_drive.specs.declared.fault.DriveFault.{DriveFault}
@@ -23,7 +23,7 @@ abbrev pub IsGood : List ℕ → Type 0
 IsGood line = (line ≡ []) ⊎ IsSomeCommand line
 
 -- the line is neither empty nor a command, and this part of it is the first that isn't as it must be
-pub record IsBadFor (line : List ℕ) (why : LineFault) : Type 0 where
+pub record IsBadFor (line : List ℕ) (why : Expected) : Type 0 where
   pub some : line ≢ []
   pub none : IsNoCommand line
   pub fault : CommandFault line why
@@ -31,14 +31,14 @@ pub record IsBadFor (line : List ℕ) (why : LineFault) : Type 0 where
 -- a bad line: its place among all lines, counted from 1, and its first part that isn't as it must be
 pub record BadLine : Type 0 where
   pub place : ℕ
-  pub why : LineFault
+  pub why : Expected
 
 -- the bad ones among these lines, in order, where the first of the lines has this place
 pub data AreBadFrom : (place : ℕ) → (lines : List (List ℕ)) → (bad : List BadLine) → Type 0 where
   bad_none : (place : ℕ) → AreBadFrom place [] []
   bad_passed : (place : ℕ) (line : List ℕ) (lines : List (List ℕ)) (bad : List BadLine) → IsGood line
       → AreBadFrom (place + 1) lines bad → AreBadFrom place (line ∷ lines) bad
-  bad_next : (place : ℕ) (line : List ℕ) (why : LineFault) (lines : List (List ℕ)) (bad : List BadLine) → IsBadFor line why
+  bad_next : (place : ℕ) (line : List ℕ) (why : Expected) (lines : List (List ℕ)) (bad : List BadLine) → IsBadFor line why
       → AreBadFrom (place + 1) lines bad → AreBadFrom place (line ∷ lines) (record { place = place; why = why } ∷ bad)
 
 -- the bad ones among all lines, which are counted from 1
@@ -51,7 +51,7 @@ is_any [] = false
 is_any (line ∷ more) = true
 
 -- `bad line N`, and on a second line what has to stand there
-abbrev pub bad_text : (place : ℕ) → LineFault → List ℕ
+abbrev pub bad_text : (place : ℕ) → Expected → List ℕ
 bad_text place why = bad_line (decimal place) ++ reason_line [] why
 
 abbrev pub bad_texts : List BadLine → List (List ℕ)
@@ -70,7 +70,7 @@ pub record NamesBad (lines : List (List ℕ)) (was_bad : Bool) (before after : O
 abbrev pub Names : (place : ℕ) (line : List ℕ) (was_bad is_bad : Bool) (before after : Option (List ℕ)) → Type 0
 Names place line was_bad is_bad before after =
     (IsGood line × (is_bad ≡ was_bad) × (after ≡ before))
-    ⊎ ((why : LineFault) × IsBadFor line why × (is_bad ≡ true) × IsBegun before after (bad_text place why))
+    ⊎ ((why : Expected) × IsBadFor line why × (is_bad ≡ true) × IsBegun before after (bad_text place why))
 
 -- ## What is left undone
 

@@ -1,12 +1,12 @@
 -- Worked inputs, each with its bad lines; and what stands on a writer that was given two texts.
 use Rattle.std.specs.Prelude.{◌≡◌, List, ℕ, [], ◌∷◌, Some, codes}
 use Rattle.ctl_text.specs.Input.{input_lines}
-use Rattle.ctl_text.specs.declared.line_fault.LineFault.{LineFault}
-use Rattle.ctl_text.specs.declared.line_fault.LineFault.TheVariants.{Carrier, Command}
+use Rattle.ctl_text.specs.declared.expected.Expected.{Expected}
+use Rattle.ctl_text.specs.declared.expected.Expected.TheVariants.{Carrier, Command}
 use Rattle.file_threads.specs.Said.{AreSaid}
 use Rattle.ctl_drive.specs.Saying.{AreBad, BadLine, bad_text}
 
-abbrev pub bad_at : ℕ → LineFault → List BadLine → List BadLine
+abbrev pub bad_at : ℕ → Expected → List BadLine → List BadLine
 bad_at place why more = record { place = place; why = why } ∷ more
 
 -- the bad one is the second of three lines

@@ -7,7 +7,7 @@ ghost use Rattle.ctl_drive.specs.Saying.{SaysFault, bad_text, left_texts, path_f
 
 use crate::fault::DriveFault;
 use crate::running::Driven;
-use ctl_text::{LineFault, say_bad_line, say_line};
+use ctl_text::{Expected, say_bad_line, say_line};
 use file_threads::quoted;
 use itoa::Buffer;
 use std::alloc::Global;
@@ -26,7 +26,7 @@ pub struct Paths<'a> {
 }
 
 /// Names a bad line by its place, counted from 1, and on a second line its first part that isn't as it must be.
-pub fn name_bad<E: Write>(faults: &mut E, place: u64, why: LineFault)
+pub fn name_bad<E: Write>(faults: &mut E, place: u64, why: Expected)
     ensures { IsBegun (E.contents faults.old) (E.contents faults.new) (bad_text place why) }
 {
     let mut digits = Buffer::new();

@@ -5,7 +5,7 @@ use Rattle.std.specs.Str.{bytes_eq}
 use Rattle.at_text.specs.Commands.{refusal_of}
 use Rattle.ctl_text.specs.LineFaults.{CommandFault, ConnectionFault, IsConnection, Wants, WantsNoMore, behind_word, first_word}
 use Rattle.ctl_text.specs.Words.{number_text}
-use Rattle.ctl_text.specs.declared.line_fault.LineFault.{LineFault}
+use Rattle.ctl_text.specs.declared.expected.Expected.{Expected}
 use Rattle.ctl_run.specs.Dump.{line_octets}
 use Rattle.ctl_run.specs.Script.{ArePairsOf}
 
@@ -42,33 +42,33 @@ pub record IsCaller (callers : ℕ) (word : List ℕ) : Type 0 where
 -- ## What stands behind a word
 
 -- a connection and a command line
-abbrev pub TextFault : List ℕ → LineFault → Type 0
+abbrev pub TextFault : List ℕ → Expected → Type 0
 TextFault words =
-    Wants (IsConnection (first_word words)) LineFault.Connection
-    (Wants (refusal_of (behind_word words) ≡ None) LineFault.Command WantsNoMore)
+    Wants (IsConnection (first_word words)) Expected.Connection
+    (Wants (refusal_of (behind_word words) ≡ None) Expected.Command WantsNoMore)
 
 -- two connections
-abbrev pub ConnectionsFault : List ℕ → LineFault → Type 0
+abbrev pub ConnectionsFault : List ℕ → Expected → Type 0
 ConnectionsFault words =
-    Wants (IsConnection (first_word words)) LineFault.Connection (ConnectionFault (behind_word words))
+    Wants (IsConnection (first_word words)) Expected.Connection (ConnectionFault (behind_word words))
 
 -- a connection and a text, which may be empty
-abbrev pub AnnouncementFault : List ℕ → LineFault → Type 0
+abbrev pub AnnouncementFault : List ℕ → Expected → Type 0
 AnnouncementFault words =
-    Wants (IsConnection (first_word words)) LineFault.Connection
-    (Wants (first_word words ≢ words) LineFault.Text WantsNoMore)
+    Wants (IsConnection (first_word words)) Expected.Connection
+    (Wants (first_word words ≢ words) Expected.Text WantsNoMore)
 
 -- octets
-abbrev pub OctetsFault : List ℕ → LineFault → Type 0
-OctetsFault pairs = Wants (HasOctets pairs) LineFault.Octets WantsNoMore
+abbrev pub OctetsFault : List ℕ → Expected → Type 0
+OctetsFault pairs = Wants (HasOctets pairs) Expected.Octets WantsNoMore
 
 -- the octets of a probe
-abbrev pub ProbeFault : List ℕ → LineFault → Type 0
-ProbeFault pairs = Wants (HasOctets pairs) LineFault.Octets (Wants (HasProbe pairs) LineFault.Probe WantsNoMore)
+abbrev pub ProbeFault : List ℕ → Expected → Type 0
+ProbeFault pairs = Wants (HasOctets pairs) Expected.Octets (Wants (HasProbe pairs) Expected.Probe WantsNoMore)
 
 -- nothing
-abbrev pub EndFault : List ℕ → LineFault → Type 0
-EndFault line = Wants (first_word line ≡ line) LineFault.End WantsNoMore
+abbrev pub EndFault : List ℕ → Expected → Type 0
+EndFault line = Wants (first_word line ≡ line) Expected.End WantsNoMore
 
 pub data Follows : Type 0 where
   Connection : Follows
@@ -80,7 +80,7 @@ pub data Follows : Type 0 where
   Nothing : Follows
 
 -- the fault behind a first word after which this follows
-abbrev pub BehindFault : Follows → (line : List ℕ) → LineFault → Type 0
+abbrev pub BehindFault : Follows → (line : List ℕ) → Expected → Type 0
 BehindFault Connection line = ConnectionFault (behind_word line)
 BehindFault Connections line = ConnectionsFault (behind_word line)
 BehindFault Command line = TextFault (behind_word line)
@@ -107,39 +107,39 @@ follows [] word = None
 follows (row ∷ rows) word = if bytes_eq word row.0 then Some row.1 else follows rows word
 
 -- the first word of a line is none that may stand there, or what stands behind it isn't as it must be
-abbrev pub WordFault : (unknown : LineFault) → Option Follows → (line : List ℕ) → LineFault → Type 0
+abbrev pub WordFault : (unknown : Expected) → Option Follows → (line : List ℕ) → Expected → Type 0
 WordFault unknown None line why = why ≡ unknown
 WordFault unknown (Some follows) line why = BehindFault follows line why
 
 -- the fault where nothing stands behind a word that wants more, or something behind a word that wants nothing
-abbrev pub lone_fault : (unknown : LineFault) → Option Follows → LineFault
+abbrev pub lone_fault : (unknown : Expected) → Option Follows → Expected
 lone_fault unknown None = unknown
-lone_fault unknown (Some Connection) = LineFault.Connection
-lone_fault unknown (Some Connections) = LineFault.Connection
-lone_fault unknown (Some Command) = LineFault.Connection
-lone_fault unknown (Some Announcement) = LineFault.Connection
-lone_fault unknown (Some Octets) = LineFault.Octets
-lone_fault unknown (Some Probe) = LineFault.Octets
-lone_fault unknown (Some Nothing) = LineFault.End
+lone_fault unknown (Some Connection) = Expected.Connection
+lone_fault unknown (Some Connections) = Expected.Connection
+lone_fault unknown (Some Command) = Expected.Connection
+lone_fault unknown (Some Announcement) = Expected.Connection
+lone_fault unknown (Some Octets) = Expected.Octets
+lone_fault unknown (Some Probe) = Expected.Octets
+lone_fault unknown (Some Nothing) = Expected.End
 
 -- ## Lines
 
 -- a line of a replay's script
-abbrev pub EventFault : List ℕ → LineFault → Type 0
-EventFault line = WordFault LineFault.Event (follows events (first_word line)) line
+abbrev pub EventFault : List ℕ → Expected → Type 0
+EventFault line = WordFault Expected.Event (follows events (first_word line)) line
 
 -- what a modem does
-abbrev pub DeedFault : List ℕ → LineFault → Type 0
-DeedFault words = WordFault LineFault.Deed (follows deeds (first_word words)) words
+abbrev pub DeedFault : List ℕ → Expected → Type 0
+DeedFault words = WordFault Expected.Deed (follows deeds (first_word words)) words
 
 -- a line of a modem's script
-abbrev pub StepFault : List ℕ → LineFault → Type 0
-StepFault line = Wants (IsCount (first_word line)) LineFault.Count (DeedFault (behind_word line))
+abbrev pub StepFault : List ℕ → Expected → Type 0
+StepFault line = Wants (IsCount (first_word line)) Expected.Count (DeedFault (behind_word line))
 
 -- a line of the input of a bench with so many callers
-abbrev pub SubmissionFault : (callers : ℕ) → List ℕ → LineFault → Type 0
-SubmissionFault callers line = Wants (IsCaller callers (first_word line)) LineFault.Caller (CommandFault (behind_word line))
+abbrev pub SubmissionFault : (callers : ℕ) → List ℕ → Expected → Type 0
+SubmissionFault callers line = Wants (IsCaller callers (first_word line)) Expected.Caller (CommandFault (behind_word line))
 
 -- a line of octets
-abbrev pub DumpFault : List ℕ → LineFault → Type 0
-DumpFault line = Wants (HasPairs line) LineFault.Pairs WantsNoMore
+abbrev pub DumpFault : List ℕ → Expected → Type 0
+DumpFault line = Wants (HasPairs line) Expected.Pairs WantsNoMore

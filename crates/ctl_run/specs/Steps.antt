@@ -6,7 +6,7 @@ use Rattle.modem_sim.specs.declared.script.StepAct.{StepAct}
 use Rattle.modem_sim.specs.declared.script.StepAct.TheVariants.{Announce, Flow, Hold, Disconnect, CloseDown}
 use Rattle.ctl_text.specs.Input.{input_lines}
 use Rattle.ctl_text.specs.Words.{number_text}
-use Rattle.ctl_text.specs.declared.line_fault.LineFault.{LineFault}
+use Rattle.ctl_text.specs.declared.expected.Expected.{Expected}
 use Rattle.ctl_run.specs.Input.{IsFirstBad}
 use Rattle.ctl_run.specs.LineFaults.{StepFault}
 use Rattle.ctl_run.specs.declared.stop.Stop.{Stop}
@@ -62,7 +62,7 @@ pub record GivesSteps (input : Option (List ℕ)) (steps : List Step) : Type 0 w
   pub say : AreSteps (input_lines text) steps
 
 -- this line of what was read is the first bad one, and this of it the first that isn't as it must be
-pub record HasBadStep (input : Option (List ℕ)) (place : ℕ) (why : LineFault) : Type 0 where
+pub record HasBadStep (input : Option (List ℕ)) (place : ℕ) (why : Expected) : Type 0 where
   pub text : List ℕ
   pub whole : IfSome input (λ all. text ≡ all)
   pub bad : IsFirstBad IsNoStep StepFault (input_lines text) place why

@@ -4,7 +4,7 @@ use Rattle.mux_frame.specs.Spelling.{IsBadN1}
 use Rattle.ctl_run.specs.Bench.{IsNoSubmission}
 use Rattle.ctl_text.specs.Input.{input_lines}
 use Rattle.ctl_text.specs.Writing.{IsBegun}
-use Rattle.ctl_text.specs.declared.line_fault.LineFault.{LineFault}
+use Rattle.ctl_text.specs.declared.expected.Expected.{Expected}
 use Rattle.ctl_run.specs.Input.{IsFirstBad}
 use Rattle.ctl_run.specs.LineFaults.{SubmissionFault}
 use Rattle.ctl_run.specs.Statuses.{status_of, stop_lines}
@@ -38,7 +38,7 @@ pub record HasStopped {O : Type 0} (explained : Bool) (Makes : List ℕ → List
   pub begun : stop ≡ Stop.Output → IsBegunOf Makes input (contents old) (contents new)
 
 -- the causes for which a run over its input alone stops: this line is the first bad one, for this fault; N1 isn't 31 to 32767
-abbrev pub IsRunStop : (n1 : ℕ) (IsBad : List ℕ → Type 0) (Has : List ℕ → LineFault → Type 0) (input : Option (List ℕ)) → Stop → Type 0
+abbrev pub IsRunStop : (n1 : ℕ) (IsBad : List ℕ → Type 0) (Has : List ℕ → Expected → Type 0) (input : Option (List ℕ)) → Stop → Type 0
 IsRunStop n1 IsBad Has input Stop.NoMemory = Unit {0}
 IsRunStop n1 IsBad Has input Stop.Input = Unit {0}
 IsRunStop n1 IsBad Has input Stop.Output = Unit {0}

@@ -7,7 +7,7 @@ ghost use Rattle.ctl_run.specs.Input.{HasBad, IsFirstBad};
 ghost use Rattle.ctl_run.specs.LineFaults.{SubmissionFault};
 ghost use Rattle.ctl_run.specs.Printed.{IsBenched, IsNoBench, IsPrinted};
 ghost use Rattle.ctl_run.specs.Stopping.{HasGivenUp, HasStopped, IsBenchStop};
-ghost use Rattle.ctl_text.specs.declared.line_fault.LineFault.{LineFault};
+ghost use Rattle.ctl_text.specs.declared.expected.Expected.{Expected};
 ghost use Rattle.ctl_run.specs.declared.stop.DialectFault.{DialectFault};
 ghost use Rattle.ctl_run.specs.declared.stop.Stop.TheVariants as Stop;
 
@@ -47,7 +47,7 @@ fn submitted<I: Read>(alloc: Global, input: &mut I, callers: u8) -> Result<Vec<S
     requires { callers ≤ 8 }
     ensures ok { IfOk result
         (λ all. IfSome (I.remaining input.old) (λ text. AreSubmitted callers (input_lines text) all.items)) }
-    ensures bad_line { (place : ℕ) (why : LineFault) → IsErrOf result (Stop.BadLine place why)
+    ensures bad_line { (place : ℕ) (why : Expected) → IsErrOf result (Stop.BadLine place why)
         → IfSome (I.remaining input.old)
         (λ text. IsFirstBad (IsNoSubmission callers) (SubmissionFault callers) (input_lines text) place why) }
     ensures others { (result ≢ Err Stop.BadN1) × (result ≢ Err Stop.BadCallers) × (result ≢ Err Stop.BadCut)
@@ -73,7 +73,7 @@ where
     requires { (1 ≤ callers) × (callers ≤ 8) }
     ensures ok { IfOk result
         (λ text. IfSome (I.remaining input.old) (λ all. IsBenched callers cut script all (string_bytes text))) }
-    ensures bad_line { (place : ℕ) (why : LineFault) → IsErrOf result (Stop.BadLine place why)
+    ensures bad_line { (place : ℕ) (why : Expected) → IsErrOf result (Stop.BadLine place why)
         → IfSome (I.remaining input.old)
         (λ text. IsFirstBad (IsNoSubmission callers) (SubmissionFault callers) (input_lines text) place why) }
     ensures others { (result ≢ Err Stop.BadN1) × (result ≢ Err Stop.BadCallers) × (result ≢ Err Stop.BadCut)

@@ -15,7 +15,7 @@ ghost use Rattle.ctl_run.specs.Printed.{IsPrinted, IsReplayedBy};
 ghost use Rattle.ctl_run.specs.Script.{IsNoOrder};
 ghost use Rattle.ctl_run.specs.Stopping.{HasGivenUp, HasStopped, IsRunStop};
 ghost use Rattle.modem_bench.specs.declared.cause.Cause.{Cause};
-ghost use Rattle.ctl_text.specs.declared.line_fault.LineFault.{LineFault};
+ghost use Rattle.ctl_text.specs.declared.expected.Expected.{Expected};
 ghost use Rattle.ctl_run.specs.declared.stop.DialectFault.{DialectFault};
 ghost use Rattle.ctl_run.specs.declared.stop.Stop.TheVariants as Stop;
 
@@ -70,7 +70,7 @@ fn replayed_by<R: Read>(
 ) -> Result<String, Stop>
     ensures ok { IfOk result (λ text. IfSome (R.remaining input.old)
         (λ all. IsReplayedBy dialect.now n1.octets all (string_bytes text))) }
-    ensures bad_line { (place : ℕ) (why : LineFault) → IsErrOf result (Stop.BadLine place why)
+    ensures bad_line { (place : ℕ) (why : Expected) → IsErrOf result (Stop.BadLine place why)
         → IfSome (R.remaining input.old) (λ text. IsFirstBad IsNoOrder EventFault (input_lines text) place why) }
     ensures others { (result ≢ Err Stop.BadN1) × (result ≢ Err Stop.BadCallers) × (result ≢ Err Stop.BadCut)
         × ((fault : DialectFault) → result ≢ Err (Stop.Dialect fault)) }

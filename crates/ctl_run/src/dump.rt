@@ -7,11 +7,11 @@ ghost use Rattle.ctl_text.specs.Input.{input_lines};
 ghost use Rattle.ctl_text.specs.LineFaults.{HasFault};
 ghost use Rattle.ctl_run.specs.Input.{IsReason};
 ghost use Rattle.ctl_run.specs.LineFaults.{DumpFault};
-ghost use Rattle.ctl_text.specs.declared.line_fault.LineFault.TheVariants as Fault;
+ghost use Rattle.ctl_text.specs.declared.expected.Expected.TheVariants as Fault;
 ghost use Rattle.ctl_text.specs.declared.refusal.Refusal.TheVariants as Refusal;
 
 use crate::stop::Stop;
-use ctl_text::{LineFault, Refusal, next_line, split_once};
+use ctl_text::{Expected, Refusal, next_line, split_once};
 use hex::FromHexError;
 use std::alloc::Global;
 
@@ -35,7 +35,7 @@ fn word_octets(alloc: Global, word: &[u8]) -> Result<Vec<u8>, Refusal>
     match hex::decode(alloc, word) {
         Ok(octets) => Ok(octets),
         Err(FromHexError::OutOfMemory) => Err(Refusal::NoMemory),
-        Err(_) => Err(Refusal::Bad(LineFault::Pairs)),
+        Err(_) => Err(Refusal::Bad(Expected::Pairs)),
     }
 }
 

@@ -24,7 +24,7 @@ mod texts;
 mod writing;
 
 pub use bench::{bench_run, bench_run_explained};
-pub use ctl_text::LineFault;
+pub use ctl_text::Expected;
 pub use dialect_runs::{dialect_from, replay_with_dialect_run, replay_with_dialect_run_explained};
 pub use modem_bench::Cause;
 pub use own_answers::{AnswerPart, AnswersStop, answers_from, read_answers};

@@ -15,7 +15,7 @@ ghost use Rattle.ctl_run.specs.Printed.{IsFramed, IsPrinted, IsReplayed};
 ghost use Rattle.ctl_run.specs.Script.{IsNoOrder};
 ghost use Rattle.ctl_run.specs.Stopping.{HasGivenUp, HasStopped, IsRunStop};
 ghost use Rattle.modem_bench.specs.declared.cause.Cause.{Cause};
-ghost use Rattle.ctl_text.specs.declared.line_fault.LineFault.{LineFault};
+ghost use Rattle.ctl_text.specs.declared.expected.Expected.{Expected};
 ghost use Rattle.ctl_run.specs.declared.stop.DialectFault.{DialectFault};
 ghost use Rattle.ctl_run.specs.declared.stop.Stop.TheVariants as Stop;
 
@@ -58,7 +58,7 @@ fn frames_of(alloc: Global, n1: N1, octets: &[u8]) -> Result<(Vec<FrameBuf>, Vec
 fn replayed<R: Read>(alloc: Global, input: &mut R, n1: N1) -> Result<String, Stop>
     ensures ok { IfOk result
         (λ text. IfSome (R.remaining input.old) (λ all. IsReplayed n1.octets all (string_bytes text))) }
-    ensures bad_line { (place : ℕ) (why : LineFault) → IsErrOf result (Stop.BadLine place why)
+    ensures bad_line { (place : ℕ) (why : Expected) → IsErrOf result (Stop.BadLine place why)
         → IfSome (R.remaining input.old) (λ text. IsFirstBad IsNoOrder EventFault (input_lines text) place why) }
     ensures others { (result ≢ Err Stop.BadN1) × (result ≢ Err Stop.BadCallers) × (result ≢ Err Stop.BadCut)
         × ((fault : DialectFault) → result ≢ Err (Stop.Dialect fault)) }
@@ -76,7 +76,7 @@ fn replayed<R: Read>(alloc: Global, input: &mut R, n1: N1) -> Result<String, Sto
 fn framed<R: Read>(alloc: Global, input: &mut R, n1: N1) -> Result<String, Stop>
     ensures ok { IfOk result
         (λ text. IfSome (R.remaining input.old) (λ all. IsFramed n1.octets all (string_bytes text))) }
-    ensures bad_line { (place : ℕ) (why : LineFault) → IsErrOf result (Stop.BadLine place why)
+    ensures bad_line { (place : ℕ) (why : Expected) → IsErrOf result (Stop.BadLine place why)
         → IfSome (R.remaining input.old) (λ text. IsFirstBad IsNoDump DumpFault (input_lines text) place why) }
     ensures others { (result ≢ Err Stop.BadN1) × (result ≢ Err Stop.BadCallers) × (result ≢ Err Stop.BadCut)
         × ((fault : DialectFault) → result ≢ Err (Stop.Dialect fault)) }

@@ -5,12 +5,12 @@ ghost use Rattle.ctl_text.specs.LineFaults.{HasFault};
 ghost use Rattle.ctl_run.specs.Input.{IsReason};
 ghost use Rattle.ctl_run.specs.LineFaults.{EventFault, OctetsFault, ProbeFault, TextFault, events, follows, lone_fault};
 ghost use Rattle.ctl_run.specs.Script.{ArePairsOf, BeginsNone, IsNoOrder, IsNoWord, IsScript, Says, SaysNothing};
-ghost use Rattle.ctl_text.specs.declared.line_fault.LineFault.TheVariants as Fault;
+ghost use Rattle.ctl_text.specs.declared.expected.Expected.TheVariants as Fault;
 ghost use Rattle.ctl_text.specs.declared.refusal.Refusal.TheVariants as Refusal;
 
 use crate::stop::Stop;
 use at_text::CommandLine;
-use ctl_text::{LineFault, Refusal, connection_of, first_word, last_connection, next_line};
+use ctl_text::{Expected, Refusal, connection_of, first_word, last_connection, next_line};
 use modem_desk::{Ask, Request};
 use modem_driver::{Event, Octets};
 use mux_frame::ProbeData;
@@ -34,7 +34,7 @@ fn octets_of(alloc: Global, word: &[u8]) -> Result<Octets, Refusal>
 {
     let octets = hex::decode(alloc, word)?;
     if octets.is_empty() {
-        return Err(Refusal::Bad(LineFault::Octets));
+        return Err(Refusal::Bad(Expected::Octets));
     }
     Ok(Octets::from_vec(octets))
 }
@@ -47,7 +47,7 @@ fn probe_of(alloc: Global, word: &[u8]) -> Result<ProbeData, Refusal>
     ensures fault { IfErr result (HasFault (ProbeFault word.now)) }
 {
     let octets = octets_of(alloc, word)?;
-    ProbeData::new(octets.as_slice()).ok_or(Refusal::Bad(LineFault::Probe))
+    ProbeData::new(octets.as_slice()).ok_or(Refusal::Bad(Expected::Probe))
 }
 
 /// The words after `cmd`: a connection, one blank and a command line.
@@ -75,19 +75,19 @@ fn word_of(line: &[u8]) -> Option<Order>
 }
 
 /// What isn't as it must be behind this word, where nothing stands there that has to, or something that mustn't.
-fn lone_fault(word: &[u8]) -> LineFault
+fn lone_fault(word: &[u8]) -> Expected
     ensures { result ≡ lone_fault Fault.Event (follows events word.now) }
 {
     match word {
-        b"open" | b"close" | b"cmd" => LineFault::Connection,
-        b"probe" | b"in" => LineFault::Octets,
-        b"stop" | b"tick" | b"lost" => LineFault::End,
-        _ => LineFault::Event,
+        b"open" | b"close" | b"cmd" => Expected::Connection,
+        b"probe" | b"in" => Expected::Octets,
+        b"stop" | b"tick" | b"lost" => Expected::End,
+        _ => Expected::Event,
     }
 }
 
 /// What of a line isn't as it must be, where it has no blank behind a word that wants one, and isn't one word that stands alone.
-fn word_fault(line: &[u8]) -> LineFault
+fn word_fault(line: &[u8]) -> Expected
     requires front { BeginsNone line.now }
     requires word { IsNoWord line.now }
     ensures { EventFault line.now result }

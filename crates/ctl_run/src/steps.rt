@@ -5,13 +5,13 @@ ghost use Rattle.ctl_text.specs.LineFaults.{HasFault};
 ghost use Rattle.ctl_run.specs.Input.{IsReason};
 ghost use Rattle.ctl_run.specs.LineFaults.{AnnouncementFault, ConnectionsFault, DeedFault, StepFault, deeds, follows, lone_fault};
 ghost use Rattle.ctl_run.specs.Steps.{ActsNone, AreSteps, GivesSteps, IsNoStep, SaysAct, SaysNoAct, SaysNoStep, SaysStep, StepsStop};
-ghost use Rattle.ctl_text.specs.declared.line_fault.LineFault.TheVariants as Fault;
+ghost use Rattle.ctl_text.specs.declared.expected.Expected.TheVariants as Fault;
 ghost use Rattle.ctl_text.specs.declared.refusal.Refusal.TheVariants as Refusal;
 
 use crate::input::read_whole;
 use crate::stop::Stop;
 use at_text::Text;
-use ctl_text::{LineFault, Refusal, connection_of, first_word, last_connection, next_line};
+use ctl_text::{Expected, Refusal, connection_of, first_word, last_connection, next_line};
 use itoa::Buffer;
 use modem_sim::{Step, StepAct, Steps};
 use std::alloc::Global;
@@ -53,7 +53,7 @@ fn announce_of(alloc: Global, words: &[u8]) -> Result<StepAct, Refusal>
     let (word, text) = first_word(words);
     let dlci = connection_of(word)?;
     if word.len() == words.len() {
-        return Err(Refusal::Bad(LineFault::Text));
+        return Err(Refusal::Bad(Expected::Text));
     }
     let line = Text::from(Vec::from_slice(alloc, text)?);
     Ok(StepAct::Announce(dlci, line))
@@ -82,22 +82,22 @@ fn word_of(words: &[u8]) -> Option<StepAct>
 }
 
 /// What isn't as it must be behind this word, where nothing stands there that has to, or something that mustn't.
-fn lone_fault(word: &[u8]) -> LineFault
+fn lone_fault(word: &[u8]) -> Expected
     ensures { result ≡ lone_fault Fault.Deed (follows deeds word.now) }
 {
     match word {
-        _ if word == b"announce".as_slice() => LineFault::Connection,
-        _ if word == b"stop".as_slice() => LineFault::Connection,
-        _ if word == b"go".as_slice() => LineFault::Connection,
-        _ if word == b"hold".as_slice() => LineFault::Connection,
-        _ if word == b"disconnect".as_slice() => LineFault::Connection,
-        _ if word == b"closedown".as_slice() => LineFault::End,
-        _ => LineFault::Deed,
+        _ if word == b"announce".as_slice() => Expected::Connection,
+        _ if word == b"stop".as_slice() => Expected::Connection,
+        _ if word == b"go".as_slice() => Expected::Connection,
+        _ if word == b"hold".as_slice() => Expected::Connection,
+        _ if word == b"disconnect".as_slice() => Expected::Connection,
+        _ if word == b"closedown".as_slice() => Expected::End,
+        _ => Expected::Deed,
     }
 }
 
 /// What of these words isn't as it must be, where they have no blank behind a word that wants one, and aren't `closedown` alone.
-fn word_fault(words: &[u8]) -> LineFault
+fn word_fault(words: &[u8]) -> Expected
     requires front { ActsNone words.now }
     requires word { words.now ≢ codes "closedown" }
     ensures { DeedFault words.now result }
@@ -139,7 +139,7 @@ fn step_of(alloc: Global, line: &[u8]) -> Result<Step, Refusal>
 {
     let (word, words) = first_word(line);
     let Some(after) = number_of(word) else {
-        return Err(Refusal::Bad(LineFault::Count));
+        return Err(Refusal::Bad(Expected::Count));
     };
     let act = act_of(alloc, words)?;
     Ok(Step { after, act })

@@ -4,7 +4,7 @@ ghost use Rattle.ctl_run.specs.Statuses.{status_of, stop_at, stop_at_rule, stop_
 ghost use Rattle.ctl_run.specs.declared.stop.Stop.TheVariants.{NoMemory};
 
 use at_text::DialectError;
-use ctl_text::{Clash, DialectRefusal, LineFault, Refusal, RulePart};
+use ctl_text::{Clash, DialectRefusal, Expected, Refusal, RulePart};
 use modem_bench::Cause;
 use std::alloc::{AllocError, AllocFailed};
 use std::{error, fmt};
@@ -29,7 +29,7 @@ pub enum Stop {
     /// The octets that are under way each way aren't 1 to 4096.
     BadCut,
     /// This line of the input is bad, counted from 1, and this part of it is the first that isn't as it must be.
-    BadLine(u64, LineFault),
+    BadLine(u64, Expected),
     /// A line of a dialect is bad.
     Dialect(DialectFault),
 }

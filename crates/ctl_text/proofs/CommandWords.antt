@@ -6,7 +6,7 @@ use Rattle.at_text.specs.Commands.{refusal_of}
 use Rattle.at_text.specs.declared.error.TextError.{TextError}
 use Rattle.ctl_text.specs.LineFaults.{CommandFault, IsConnection, behind_word, first_word}
 use Rattle.ctl_text.specs.Words.{IsCommand, IsNoCommand, number_text}
-use Rattle.ctl_text.specs.declared.line_fault.LineFault.{LineFault}
+use Rattle.ctl_text.specs.declared.expected.Expected.{Expected}
 use Rattle.ctl_text.proofs.CutTexts.{lacks_cons, lacks_head, lacks_nil, lacks_tail}
 use Rattle.ctl_text.proofs.FirstWords.{as_long, behind_front, first_alone, first_front, not_alone, shorter, whole}
 
@@ -100,7 +100,7 @@ pub no_line : (words : List ℕ) → refusal_of (behind_word words) ≢ None →
 no_line words refused d line c = refused (ap refusal_of (command_parts words d line c).1 ∙ c.is_line)
 
 -- and behind a connection that is the fault
-pub line_fault : (words : List ℕ) (d : ℕ) → first_word words ≡ number_text d → 1 ≤ d → d < 62 → refusal_of (behind_word words) ≢ None → CommandFault words LineFault.Command
+pub line_fault : (words : List ℕ) (d : ℕ) → first_word words ≡ number_text d → 1 ≤ d → d < 62 → refusal_of (behind_word words) ≢ None → CommandFault words Expected.Command
 line_fault words d e carries known refused =
     inr (record { number = d; carries = carries; known = known; word_is = e }, inl (refused, refl))
 

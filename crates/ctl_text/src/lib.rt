@@ -2,13 +2,13 @@
 //!
 //! # Layout
 //!
-//! - `lines`, `words`, `dialects`: texts that are read. `refusal`, `line_fault`, `clashes`: why they aren't.
+//! - `lines`, `words`, `dialects`: texts that are read. `refusal`, `expected`, `clashes`: why they aren't.
 //! - `told`, `writing`: texts that are printed.
 #![tactic(auto)]
 
 mod clashes;
 mod dialects;
-mod line_fault;
+mod expected;
 mod lines;
 mod refusal;
 mod told;
@@ -17,7 +17,7 @@ mod writing;
 
 pub use clashes::Clash;
 pub use dialects::{DialectRefusal, RulePart, dialect_named, read_dialect};
-pub use line_fault::{LineFault, say_bad_line};
+pub use expected::{Expected, say_bad_line};
 pub use lines::{ended_line, first_word, next_line, split_last, split_once};
 pub use refusal::Refusal;
 pub use told::{answer_word, push_heard, push_heard_by, push_line, push_lines, push_told};

@@ -3,10 +3,10 @@ ghost use Rattle.std.specs.Prelude.{◌≡◌};
 ghost use Rattle.hex.specs.declared.error.FromHexError.TheVariants.{OutOfMemory};
 ghost use Rattle.at_text.specs.declared.error.TextError.TheVariants as TextError;
 ghost use Rattle.ctl_text.specs.LineFaults.{IsToldAs};
-ghost use Rattle.ctl_text.specs.declared.line_fault.LineFault.TheVariants as Fault;
+ghost use Rattle.ctl_text.specs.declared.expected.Expected.TheVariants as Fault;
 ghost use Rattle.ctl_text.specs.declared.refusal.Refusal.TheVariants as Refused;
 
-use crate::line_fault::LineFault;
+use crate::expected::Expected;
 use at_text::TextError;
 use hex::FromHexError;
 use std::alloc::{AllocError, AllocFailed};
@@ -15,7 +15,7 @@ use std::alloc::{AllocError, AllocFailed};
 #[derive(Clone, Copy, Debug)]
 pub enum Refusal {
     /// It is bad, and this part of it is the first that isn't as it must be.
-    Bad(LineFault),
+    Bad(Expected),
     /// Memory was refused.
     NoMemory,
 }
@@ -43,7 +43,7 @@ impl From<FromHexError> for Refusal {
     fn from(error: FromHexError) -> Refusal {
         match error {
             FromHexError::OutOfMemory => Refusal::NoMemory,
-            _ => Refusal::Bad(LineFault::Octets),
+            _ => Refusal::Bad(Expected::Octets),
         }
     }
 }
@@ -55,7 +55,7 @@ impl From<TextError> for Refusal {
     fn from(error: TextError) -> Refusal {
         match error {
             TextError::NoMemory => Refusal::NoMemory,
-            _ => Refusal::Bad(LineFault::Command),
+            _ => Refusal::Bad(Expected::Command),
         }
     }
 }

@@ -2,10 +2,10 @@
 ghost use Rattle.std.specs.Prelude.{◌≡◌, ◌≢◌, ℕ, ◌<◌, ◌≤◌, IfErr, MatchOption, MatchResult};
 ghost use Rattle.ctl_text.specs.LineFaults.{CommandFault, ConnectionFault, HasFault};
 ghost use Rattle.ctl_text.specs.Words.{IsCommand, IsNoCommand, number_text};
-ghost use Rattle.ctl_text.specs.declared.line_fault.LineFault.TheVariants as Fault;
+ghost use Rattle.ctl_text.specs.declared.expected.Expected.TheVariants as Fault;
 ghost use Rattle.ctl_text.specs.declared.refusal.Refusal.TheVariants as Refusal;
 
-use crate::line_fault::LineFault;
+use crate::expected::Expected;
 use crate::lines::first_word;
 use crate::refusal::Refusal;
 use at_text::CommandLine;
@@ -33,7 +33,7 @@ pub fn connection_of(word: &[u8]) -> Result<Dlci, Refusal>
         (λ dlci. word.now ≡ number_text dlci.number)
         (λ why. (why ≡ Refusal.Bad Fault.Connection) × ((n : ℕ) → n < 62 → word.now ≢ number_text n)) }
 {
-    dlci_of(word).ok_or(Refusal::Bad(LineFault::Connection))
+    dlci_of(word).ok_or(Refusal::Bad(Expected::Connection))
 }
 
 /// The connection that these words are, the last of a line. Others are refused as bad.
@@ -46,7 +46,7 @@ pub fn last_connection(words: &[u8]) -> Result<Dlci, Refusal>
     let (word, _) = first_word(words);
     let dlci = connection_of(word)?;
     if word.len() < words.len() {
-        return Err(Refusal::Bad(LineFault::End));
+        return Err(Refusal::Bad(Expected::End));
     }
     Ok(dlci)
 }
@@ -59,7 +59,7 @@ fn carrier_of(word: &[u8]) -> Result<Dlci, Refusal>
 {
     match dlci_of(word) {
         Some(dlci) if dlci.number() > 0 => Ok(dlci),
-        _ => Err(Refusal::Bad(LineFault::Carrier)),
+        _ => Err(Refusal::Bad(Expected::Carrier)),
     }
 }
 

@@ -10,7 +10,7 @@ use Rattle.ctl_run.specs.Statuses.{status_of, stop_lines}
 use Rattle.ctl_run.specs.Stopping.{IsBenchStop, IsRunStop}
 use Rattle.ctl_run.specs.declared.stop.Stop.{Stop}
 use Rattle.ctl_text.specs.Writing.{IsBegun}
-use Rattle.ctl_text.specs.declared.line_fault.LineFault.{LineFault}
+use Rattle.ctl_text.specs.declared.expected.Expected.{Expected}
 use Rattle.file_threads.specs.declared.data_path.DataPath.{DataPath}
 use Rattle.modemctl.specs.Drives.{AreFiles}
 use Rattle.modemctl.specs.Files.{IsNoText}
@@ -28,7 +28,7 @@ pub record StopsBadly (explained : Bool) (IsCause : Stop → Type 0) (before aft
   pub said : IsBegun before after (stop_lines explained stop)
 
 -- for a cause of a run over its input, with the N1 of the words
-pub record StopsRun (explained : Bool) (met : Option (Text × List Row)) (IsBad : List ℕ → Type 0) (Has : List ℕ → LineFault → Type 0)
+pub record StopsRun (explained : Bool) (met : Option (Text × List Row)) (IsBad : List ℕ → Type 0) (Has : List ℕ → Expected → Type 0)
     (input before after : Option (List ℕ)) : Type 0 where
   pub n1 : ℕ
   pub given : IsGiven met (codes "n1") 31 n1

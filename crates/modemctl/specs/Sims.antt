@@ -15,7 +15,7 @@ use Rattle.ctl_sim.specs.Serving.{IsServed}
 use Rattle.ctl_sim.specs.Watching.{CapturesClient}
 use Rattle.ctl_text.specs.LineFaults.{bad_line, reason_line}
 use Rattle.ctl_text.specs.Writing.{IsBegun}
-use Rattle.ctl_text.specs.declared.line_fault.LineFault.{LineFault}
+use Rattle.ctl_text.specs.declared.expected.Expected.{Expected}
 use Rattle.modemctl.specs.Benches.{AreGiven, AreMatched}
 use Rattle.modemctl.specs.Captures.{SaysNoCapture}
 use Rattle.modemctl.specs.Files.{IsNoText}
@@ -112,7 +112,7 @@ IsOfScript text (TextFault.Closed kind) = Unit {0}
 IsOfScript text (TextFault.Stopped stop) = StepsStop text stop
 
 -- the bad line of a script, where that is the fault
-abbrev pub bad_step_of : TextFault → Option (ℕ × LineFault)
+abbrev pub bad_step_of : TextFault → Option (ℕ × Expected)
 bad_step_of (TextFault.Stopped (Stop.BadLine place why)) = Some (place, why)
 bad_step_of _ = None
 
@@ -121,7 +121,7 @@ pub record SaysBadStep (texts : Text → Option (List ℕ)) (script : Option Tex
   pub named : Text
   pub path_is : script ≡ Some named
   pub place : ℕ
-  pub why : LineFault
+  pub why : Expected
   pub bad : HasBadStep (texts named) place why
   pub said : IsBegun told_before told_after (bad_line (decimal place) ++ reason_line (codes "the script: ") why)
 

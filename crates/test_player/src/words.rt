@@ -1,6 +1,6 @@
 //! The words of a line.
 use at_text::UrcKind;
-use ctl_run::{LineFault, Stop, read_script};
+use ctl_run::{Expected, Stop, read_script};
 use modem_driver::Event;
 use mux_frame::Dlci;
 use serial_line::{Cut, CutLine};
@@ -9,7 +9,7 @@ use std::str::FromStr;
 
 /// The line that was read last is bad, in whatever part. Each line is read by itself, so it counts as line 1; `Lines::place`
 /// says which it is.
-pub const BAD: Stop = Stop::BadLine(1, LineFault::Event);
+pub const BAD: Stop = Stop::BadLine(1, Expected::Event);
 
 /// The first word, and what follows it.
 pub fn split(line: &str) -> (&str, &str) {

@@ -7,7 +7,7 @@ use Rattle.ctl_run.specs.declared.script.Order.TheVariants as order
 use Rattle.ctl_text.specs.Words.{number_text}
 use Rattle.ctl_run.specs.Script.{ArePairsOf, SaysNothing}
 use Rattle.ctl_text.specs.LineFaults.{behind_word, first_word}
-use Rattle.ctl_text.specs.declared.line_fault.LineFault.{LineFault}
+use Rattle.ctl_text.specs.declared.expected.Expected.{Expected}
 use Rattle.ctl_run.specs.LineFaults.{TextFault}
 use Rattle.ctl_text.proofs.CommandWords.{is_connection, lacks_number}
 use Rattle.ctl_text.proofs.FirstWords.{behind_front, first_front}
@@ -33,7 +33,7 @@ no_command_text words refused n text s r e =
     refused (ap (λ (l : List ℕ). refusal_of (behind_word l)) e ∙ ap refusal_of (behind_front (number_text n) text (lacks_number (nat_lt n 10) n)) ∙ r)
 
 -- behind a connection it is the command line that isn't as it must be
-pub text_fault : (words : List ℕ) (d : ℕ) → first_word words ≡ number_text d → d < 62 → refusal_of (behind_word words) ≢ None → TextFault words LineFault.Command
+pub text_fault : (words : List ℕ) (d : ℕ) → first_word words ≡ number_text d → d < 62 → refusal_of (behind_word words) ≢ None → TextFault words Expected.Command
 text_fault words d e known refused = inr (is_connection words d e known, inl (refused, refl))
 
 -- words after `in` that are no octets

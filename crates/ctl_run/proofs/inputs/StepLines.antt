@@ -22,7 +22,7 @@ use Rattle.ctl_run.specs.LineFaults.{AnnouncementFault, DeedFault, StepFault}
 use Rattle.ctl_run.proofs.inputs.ReadLines.{IsRead, read_more}
 use Rattle.ctl_text.specs.LineFaults.{HasFault, behind_word, first_word}
 use Rattle.ctl_text.specs.declared.refusal.Refusal.{Refusal}
-use Rattle.ctl_text.specs.declared.line_fault.LineFault.{LineFault}
+use Rattle.ctl_text.specs.declared.expected.Expected.{Expected}
 use Rattle.ctl_text.proofs.CommandWords.{is_connection, joined_words}
 use Rattle.ctl_text.proofs.FirstWords.{as_long, behind_front, first_front, whole}
 use Rattle.ctl_text.proofs.CutTexts.{lacks_cons, lacks_head, lacks_nil, lacks_tail}
@@ -67,7 +67,7 @@ abbrev AreNoText : List ℕ → Type 0
 AreNoText words = (n : ℕ) (text : List ℕ) → n < 62 → words ≢ number_text n ++ 32 ∷ text
 
 -- it is the text that is missing behind the connection
-pub announcement_fault : (words : List ℕ) (d : ℕ) → first_word words ≡ number_text d → d < 62 → length (first_word words) ≡ length words → AnnouncementFault words LineFault.Text
+pub announcement_fault : (words : List ℕ) (d : ℕ) → first_word words ≡ number_text d → d < 62 → length (first_word words) ≡ length words → AnnouncementFault words Expected.Text
 announcement_fault words d e known l = inr (is_connection words d e known, inl (λ n. n (as_long words (omega (arith, l))), refl))
 
 -- words after `hold` that aren't two connections
@@ -97,7 +97,7 @@ announces words word text n e b is apart =
     whole words (λ same. apart (ap length (e ∙ same))) ∙ ap (λ (w : List ℕ). w ++ 32 ∷ behind_word words) (sym e ∙ is) ∙ ap (λ (l : List ℕ). number_text n ++ 32 ∷ l) (sym b)
 
 -- where nothing stands behind the connection, the text is missing
-pub text_fault_at : (words word : List ℕ) (n : ℕ) → word ≡ first_word words → word ≡ number_text n → n < 62 → length word ≡ length words → AnnouncementFault words LineFault.Text
+pub text_fault_at : (words word : List ℕ) (n : ℕ) → word ≡ first_word words → word ≡ number_text n → n < 62 → length word ≡ length words → AnnouncementFault words Expected.Text
 text_fault_at words word n e is known l = announcement_fault words n (sym e ∙ is) known (ap length (sym e) ∙ l)
 
 -- Lines that say no step.

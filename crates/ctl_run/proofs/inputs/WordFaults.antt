@@ -7,7 +7,7 @@ use Rattle.std.specs.Str.{bytes_eq}
 use Rattle.hex.specs.Hex.{decode_of, decode_pairs}
 use Rattle.hex.specs.declared.error.FromHexError.{FromHexError}
 use Rattle.ctl_text.specs.LineFaults.{IsConnection, behind_word, first_word}
-use Rattle.ctl_text.specs.declared.line_fault.LineFault.{LineFault}
+use Rattle.ctl_text.specs.declared.expected.Expected.{Expected}
 use Rattle.ctl_text.proofs.FirstWords.{nothing_behind, whole}
 use Rattle.ctl_run.specs.LineFaults.{DeedFault, EventFault, Follows, HasOctets, WordFault, deeds, events, follows, lone_fault}
 use Rattle.ctl_run.specs.Script.{BeginsNone, IsNoWord}
@@ -70,35 +70,35 @@ more_behind line word e n same = n (sym same ∙ e)
 -- ## The rows
 
 -- what is said of a row
-abbrev Says : LineFault → (line : List ℕ) → Option Follows → Type 0
+abbrev Says : Expected → (line : List ℕ) → Option Follows → Type 0
 Says unknown line o = WordFault unknown o line (lone_fault unknown o)
 
 -- a line that begins as no event does has the fault of its first word
-pub event_row : (line : List ℕ) → BeginsNone line → IsNoWord line → Says LineFault.Event line (follows events (first_word line))
+pub event_row : (line : List ℕ) → BeginsNone line → IsNoWord line → Says Expected.Event line (follows events (first_word line))
 event_row line none alone =
-    at_row (first_word line) (codes "open", Follows.Connection) (drop 1 events) (Says LineFault.Event line) (λ e. inl (no_connection line (codes "open") e none.no_open, refl))
-    (at_row (first_word line) (codes "close", Follows.Connection) (drop 2 events) (Says LineFault.Event line) (λ e. inl (no_connection line (codes "close") e none.no_close, refl))
-    (at_row (first_word line) (codes "cmd", Follows.Command) (drop 3 events) (Says LineFault.Event line) (λ e. inl (no_connection line (codes "cmd") e none.no_cmd, refl))
-    (at_row (first_word line) (codes "probe", Follows.Probe) (drop 4 events) (Says LineFault.Event line) (λ e. inl (none_behind line (codes "probe") e none.no_probe, refl))
-    (at_row (first_word line) (codes "in", Follows.Octets) (drop 5 events) (Says LineFault.Event line) (λ e. inl (none_behind line (codes "in") e none.no_in, refl))
-    (at_row (first_word line) (codes "stop", Follows.Nothing) (drop 6 events) (Says LineFault.Event line) (λ e. inl (more_behind line (codes "stop") e alone.0, refl))
-    (at_row (first_word line) (codes "tick", Follows.Nothing) (drop 7 events) (Says LineFault.Event line) (λ e. inl (more_behind line (codes "tick") e alone.1, refl))
-    (at_row (first_word line) (codes "lost", Follows.Nothing) (drop 8 events) (Says LineFault.Event line) (λ e. inl (more_behind line (codes "lost") e alone.2, refl)) refl)))))))
+    at_row (first_word line) (codes "open", Follows.Connection) (drop 1 events) (Says Expected.Event line) (λ e. inl (no_connection line (codes "open") e none.no_open, refl))
+    (at_row (first_word line) (codes "close", Follows.Connection) (drop 2 events) (Says Expected.Event line) (λ e. inl (no_connection line (codes "close") e none.no_close, refl))
+    (at_row (first_word line) (codes "cmd", Follows.Command) (drop 3 events) (Says Expected.Event line) (λ e. inl (no_connection line (codes "cmd") e none.no_cmd, refl))
+    (at_row (first_word line) (codes "probe", Follows.Probe) (drop 4 events) (Says Expected.Event line) (λ e. inl (none_behind line (codes "probe") e none.no_probe, refl))
+    (at_row (first_word line) (codes "in", Follows.Octets) (drop 5 events) (Says Expected.Event line) (λ e. inl (none_behind line (codes "in") e none.no_in, refl))
+    (at_row (first_word line) (codes "stop", Follows.Nothing) (drop 6 events) (Says Expected.Event line) (λ e. inl (more_behind line (codes "stop") e alone.0, refl))
+    (at_row (first_word line) (codes "tick", Follows.Nothing) (drop 7 events) (Says Expected.Event line) (λ e. inl (more_behind line (codes "tick") e alone.1, refl))
+    (at_row (first_word line) (codes "lost", Follows.Nothing) (drop 8 events) (Says Expected.Event line) (λ e. inl (more_behind line (codes "lost") e alone.2, refl)) refl)))))))
 
 -- and words that begin as nothing does that a modem does
-pub deed_row : (words : List ℕ) → ActsNone words → words ≢ codes "closedown" → Says LineFault.Deed words (follows deeds (first_word words))
+pub deed_row : (words : List ℕ) → ActsNone words → words ≢ codes "closedown" → Says Expected.Deed words (follows deeds (first_word words))
 deed_row words none alone =
-    at_row (first_word words) (codes "announce", Follows.Announcement) (drop 1 deeds) (Says LineFault.Deed words) (λ e. inl (no_connection words (codes "announce") e none.no_announce, refl))
-    (at_row (first_word words) (codes "stop", Follows.Connection) (drop 2 deeds) (Says LineFault.Deed words) (λ e. inl (no_connection words (codes "stop") e none.no_stop, refl))
-    (at_row (first_word words) (codes "go", Follows.Connection) (drop 3 deeds) (Says LineFault.Deed words) (λ e. inl (no_connection words (codes "go") e none.no_go, refl))
-    (at_row (first_word words) (codes "hold", Follows.Connections) (drop 4 deeds) (Says LineFault.Deed words) (λ e. inl (no_connection words (codes "hold") e none.no_hold, refl))
-    (at_row (first_word words) (codes "disconnect", Follows.Connection) (drop 5 deeds) (Says LineFault.Deed words) (λ e. inl (no_connection words (codes "disconnect") e none.no_disconnect, refl))
-    (at_row (first_word words) (codes "closedown", Follows.Nothing) (drop 6 deeds) (Says LineFault.Deed words) (λ e. inl (more_behind words (codes "closedown") e alone, refl)) refl)))))
+    at_row (first_word words) (codes "announce", Follows.Announcement) (drop 1 deeds) (Says Expected.Deed words) (λ e. inl (no_connection words (codes "announce") e none.no_announce, refl))
+    (at_row (first_word words) (codes "stop", Follows.Connection) (drop 2 deeds) (Says Expected.Deed words) (λ e. inl (no_connection words (codes "stop") e none.no_stop, refl))
+    (at_row (first_word words) (codes "go", Follows.Connection) (drop 3 deeds) (Says Expected.Deed words) (λ e. inl (no_connection words (codes "go") e none.no_go, refl))
+    (at_row (first_word words) (codes "hold", Follows.Connections) (drop 4 deeds) (Says Expected.Deed words) (λ e. inl (no_connection words (codes "hold") e none.no_hold, refl))
+    (at_row (first_word words) (codes "disconnect", Follows.Connection) (drop 5 deeds) (Says Expected.Deed words) (λ e. inl (no_connection words (codes "disconnect") e none.no_disconnect, refl))
+    (at_row (first_word words) (codes "closedown", Follows.Nothing) (drop 6 deeds) (Says Expected.Deed words) (λ e. inl (more_behind words (codes "closedown") e alone, refl)) refl)))))
 
 -- the same of a word that is known to be the first one
-pub event_at : (line word : List ℕ) (fault : LineFault) → word ≡ first_word line → fault ≡ lone_fault LineFault.Event (follows events word) → BeginsNone line → IsNoWord line → EventFault line fault
-event_at line word fault e f none alone = subst (EventFault line) (sym (f ∙ ap (λ (w : List ℕ). lone_fault LineFault.Event (follows events w)) e)) (event_row line none alone)
+pub event_at : (line word : List ℕ) (fault : Expected) → word ≡ first_word line → fault ≡ lone_fault Expected.Event (follows events word) → BeginsNone line → IsNoWord line → EventFault line fault
+event_at line word fault e f none alone = subst (EventFault line) (sym (f ∙ ap (λ (w : List ℕ). lone_fault Expected.Event (follows events w)) e)) (event_row line none alone)
 
 -- and of the words of a modem's script
-pub deed_at : (words word : List ℕ) (fault : LineFault) → word ≡ first_word words → fault ≡ lone_fault LineFault.Deed (follows deeds word) → ActsNone words → words ≢ codes "closedown" → DeedFault words fault
-deed_at words word fault e f none alone = subst (DeedFault words) (sym (f ∙ ap (λ (w : List ℕ). lone_fault LineFault.Deed (follows deeds w)) e)) (deed_row words none alone)
+pub deed_at : (words word : List ℕ) (fault : Expected) → word ≡ first_word words → fault ≡ lone_fault Expected.Deed (follows deeds word) → ActsNone words → words ≢ codes "closedown" → DeedFault words fault
+deed_at words word fault e f none alone = subst (DeedFault words) (sym (f ∙ ap (λ (w : List ℕ). lone_fault Expected.Deed (follows deeds w)) e)) (deed_row words none alone)

@@ -6,7 +6,7 @@ use Rattle.ctl_run.specs.Printed.{IsPrinted}
 use Rattle.ctl_text.specs.Input.{input_lines}
 use Rattle.ctl_run.specs.Input.{HasBad, IsFirstBad}
 use Rattle.ctl_run.specs.Statuses.{status_of}
-use Rattle.ctl_text.specs.declared.line_fault.LineFault.{LineFault}
+use Rattle.ctl_text.specs.declared.expected.Expected.{Expected}
 use Rattle.ctl_run.specs.declared.stop.DialectFault.{DialectFault}
 use Rattle.ctl_run.specs.declared.stop.Stop.{Stop}
 
@@ -20,14 +20,14 @@ pub known_too : (P Q : List ℕ → Type 0) (known : Option (List ℕ)) → IfSo
 known_too P Q None h more = tt
 known_too P Q (Some all) h more = more all h
 
-has_bad : (IsBad : List ℕ → Type 0) (Has : List ℕ → LineFault → Type 0) (known : Option (List ℕ)) (place : ℕ) (why : LineFault) → IfSome known (λ text. IsFirstBad IsBad Has (input_lines text) place why) → IfSome known (λ text. HasBad IsBad Has (input_lines text))
+has_bad : (IsBad : List ℕ → Type 0) (Has : List ℕ → Expected → Type 0) (known : Option (List ℕ)) (place : ℕ) (why : Expected) → IfSome known (λ text. IsFirstBad IsBad Has (input_lines text) place why) → IfSome known (λ text. HasBad IsBad Has (input_lines text))
 has_bad IsBad Has None place why h = tt
 has_bad IsBad Has (Some text) place why h = record { place = place; why = why; first = h }
 
 -- status 2 is that of a bad line alone
-pub refused_for : {T : Type 0} (built : Result T Stop) (status : ℕ) (known : Option (List ℕ)) (IsBad : List ℕ → Type 0) (Has : List ℕ → LineFault → Type 0)
+pub refused_for : {T : Type 0} (built : Result T Stop) (status : ℕ) (known : Option (List ℕ)) (IsBad : List ℕ → Type 0) (Has : List ℕ → Expected → Type 0)
     → MatchResult built (λ _. status ≤ 1) (λ stop. status ≡ status_of stop)
-    → ((place : ℕ) (why : LineFault) → IsErrOf built (Stop.BadLine place why) → IfSome known (λ text. IsFirstBad IsBad Has (input_lines text) place why))
+    → ((place : ℕ) (why : Expected) → IsErrOf built (Stop.BadLine place why) → IfSome known (λ text. IsFirstBad IsBad Has (input_lines text) place why))
     → (built ≢ Err Stop.BadN1) × (built ≢ Err Stop.BadCallers) × (built ≢ Err Stop.BadCut) × ((fault : DialectFault) → built ≢ Err (Stop.Dialect fault))
     → status ≡ 2
     → IfSome known (λ text. HasBad IsBad Has (input_lines text))

@@ -9,13 +9,13 @@ use Rattle.ctl_run.specs.Statuses.{status_of, stop_lines}
 use Rattle.ctl_run.specs.Stopping.{HasGivenUp, HasStopped, IsBenchStop, IsRunStop}
 use Rattle.ctl_text.specs.Writing.{IsBegun}
 use Rattle.ctl_run.specs.LineFaults.{SubmissionFault}
-use Rattle.ctl_text.specs.declared.line_fault.LineFault.{LineFault}
+use Rattle.ctl_text.specs.declared.expected.Expected.{Expected}
 use Rattle.ctl_run.specs.declared.stop.DialectFault.{DialectFault}
 use Rattle.ctl_run.specs.declared.stop.Stop.{Stop}
 
 -- the causes for which nothing was built
-pub run_cause : {T : Type 0} (built : Result T Stop) (n1 : ℕ) (IsBad : List ℕ → Type 0) (Has : List ℕ → LineFault → Type 0) (known : Option (List ℕ))
-    → ((place : ℕ) (why : LineFault) → IsErrOf built (Stop.BadLine place why) → IfSome known (λ text. IsFirstBad IsBad Has (input_lines text) place why))
+pub run_cause : {T : Type 0} (built : Result T Stop) (n1 : ℕ) (IsBad : List ℕ → Type 0) (Has : List ℕ → Expected → Type 0) (known : Option (List ℕ))
+    → ((place : ℕ) (why : Expected) → IsErrOf built (Stop.BadLine place why) → IfSome known (λ text. IsFirstBad IsBad Has (input_lines text) place why))
     → (built ≢ Err Stop.BadN1) × (built ≢ Err Stop.BadCallers) × (built ≢ Err Stop.BadCut) × ((fault : DialectFault) → built ≢ Err (Stop.Dialect fault))
     → (built ≢ Err Stop.Line) × ((cause : Cause) → built ≢ Err (Stop.GaveUp cause))
     → IfErr built (IsRunStop n1 IsBad Has known)
@@ -33,7 +33,7 @@ run_cause (Err (Stop.BadLine place why)) n1 IsBad Has known line others no_line 
 
 -- and those for which a bench gave nothing
 pub bench_cause : {T : Type 0} (built : Result T Stop) (callers cut : ℕ) (known : Option (List ℕ))
-    → ((place : ℕ) (why : LineFault) → IsErrOf built (Stop.BadLine place why) → IfSome known (λ text. IsFirstBad (IsNoSubmission callers) (SubmissionFault callers) (input_lines text) place why))
+    → ((place : ℕ) (why : Expected) → IsErrOf built (Stop.BadLine place why) → IfSome known (λ text. IsFirstBad (IsNoSubmission callers) (SubmissionFault callers) (input_lines text) place why))
     → (built ≢ Err Stop.BadN1) × (built ≢ Err Stop.BadCallers) × (built ≢ Err Stop.BadCut) × ((fault : DialectFault) → built ≢ Err (Stop.Dialect fault))
     → IfErr built (IsBenchStop callers cut known)
 bench_cause (Ok x) callers cut known line others = tt

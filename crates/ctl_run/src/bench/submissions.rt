@@ -6,11 +6,11 @@ ghost use Rattle.ctl_run.specs.Bench.{AreSubmitted, IsNoSubmission, Submits, Sub
 ghost use Rattle.ctl_text.specs.Input.{input_lines};
 ghost use Rattle.ctl_run.specs.Input.{IsReason};
 ghost use Rattle.ctl_run.specs.LineFaults.{SubmissionFault};
-ghost use Rattle.ctl_text.specs.declared.line_fault.LineFault.TheVariants as Fault;
+ghost use Rattle.ctl_text.specs.declared.expected.Expected.TheVariants as Fault;
 ghost use Rattle.ctl_text.specs.declared.refusal.Refusal.TheVariants as Refusal;
 
 use crate::stop::Stop;
-use ctl_text::{LineFault, Refusal, command_of, first_word, next_line};
+use ctl_text::{Expected, Refusal, command_of, first_word, next_line};
 use modem_bench::Submission;
 use std::alloc::Global;
 
@@ -23,7 +23,7 @@ fn caller_of(callers: u8, word: &[u8]) -> Result<u8, Refusal>
 {
     match word {
         [digit] if digit.is_ascii_digit() && *digit - b'0' < callers => Ok(*digit - b'0'),
-        _ => Err(Refusal::Bad(LineFault::Caller)),
+        _ => Err(Refusal::Bad(Expected::Caller)),
     }
 }
 

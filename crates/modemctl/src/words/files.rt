@@ -14,7 +14,7 @@ use crate::words::file_faults::{FileFault, refuse_file, refuse_text};
 use crate::words::options::text_option;
 use crate::words::text_files::{TextFault, TextFiles};
 use clap::{Arg, ArgAction, ArgMatches};
-use ctl_run::{LineFault, Stop, steps_from};
+use ctl_run::{Expected, Stop, steps_from};
 use ctl_text::{say_bad_line, say_line};
 use itoa::Buffer;
 use modem_sim::Steps;
@@ -68,7 +68,7 @@ fn steps_at<R: TextFiles>(rt: &R, alloc: Global, path: &str) -> Result<Steps, Te
 }
 
 /// Names a bad line of a script, and on a second line says what has to stand there.
-fn say_bad_step<E: Write>(faults: &mut E, place: u64, why: LineFault)
+fn say_bad_step<E: Write>(faults: &mut E, place: u64, why: Expected)
     ensures { IsBegun (E.contents faults.old) (E.contents faults.new)
         (bad_line (decimal place) ++ reason_line (codes "the script: ") why) }
 {
@@ -77,7 +77,7 @@ fn say_bad_step<E: Write>(faults: &mut E, place: u64, why: LineFault)
 }
 
 /// The bad line of a script, where that is the fault: its number, and what has to stand there.
-fn bad_step_of(fault: TextFault) -> Option<(u64, LineFault)>
+fn bad_step_of(fault: TextFault) -> Option<(u64, Expected)>
     ensures { result ≡ bad_step_of fault }
 {
     match fault {

@@ -1,7 +1,7 @@
 use Rattle.std.proofs.Common.{◌≡◌, ℕ, List, Option, None, Some, arith, ap, refl}
 use Rattle.ctl_run.specs.Steps.{HasBadStep}
 use Rattle.ctl_run.specs.declared.stop.Stop.{Stop}
-use Rattle.ctl_text.specs.declared.line_fault.LineFault.{LineFault}
+use Rattle.ctl_text.specs.declared.expected.Expected.{Expected}
 use Rattle.modemctl.specs.Files.{text_status}
 use Rattle.modemctl.specs.Sims.{IsOfScript, bad_step_of}
 use Rattle.modemctl.specs.declared.words.text_files.TextFault.{TextFault}
@@ -22,7 +22,7 @@ no_bad_step text (TextFault.Stopped (Stop.BadLine place why)) status none of is 
 no_bad_step text (TextFault.Stopped (Stop.Dialect fault)) status none of is two = of
 
 -- it is the first bad one
-is_bad_step : (text : Option (List ℕ)) (fault : TextFault) (place : ℕ) (why : LineFault) → Some (place, why) ≡ bad_step_of fault → IsOfScript text fault → HasBadStep text place why
+is_bad_step : (text : Option (List ℕ)) (fault : TextFault) (place : ℕ) (why : Expected) → Some (place, why) ≡ bad_step_of fault → IsOfScript text fault → HasBadStep text place why
 is_bad_step text (TextFault.Closed kind) place why some of = cc
 is_bad_step text (TextFault.Stopped Stop.NoMemory) place why some of = cc
 is_bad_step text (TextFault.Stopped Stop.Input) place why some of = cc
@@ -34,8 +34,8 @@ is_bad_step text (TextFault.Stopped Stop.BadCallers) place why some of = cc
 is_bad_step text (TextFault.Stopped Stop.BadCut) place why some of = cc
 is_bad_step text (TextFault.Stopped (Stop.BadLine at for)) place why some of =
     let pair : (place, why) ≡ (at, for) = cc in
-    let place_is : place ≡ at = ap (λ (p : ℕ × LineFault). p.0) pair in
-    let why_is : why ≡ for = ap (λ (p : ℕ × LineFault). p.1) pair in
+    let place_is : place ≡ at = ap (λ (p : ℕ × Expected). p.0) pair in
+    let why_is : why ≡ for = ap (λ (p : ℕ × Expected). p.1) pair in
     rw (place_is, why_is) of
 is_bad_step text (TextFault.Stopped (Stop.Dialect fault)) place why some of = cc
 

@@ -1,6 +1,6 @@
 use Rattle.ctl_text.specs.LineFaults.{bad_line, reason_line}
 use Rattle.ctl_text.proofs.Written.{begun_after, begun_first}
-use Rattle.ctl_text.proofs.line_fault.say_bad_line.Goals as goal
+use Rattle.ctl_text.proofs.expected.say_bad_line.Goals as goal
 
 pub returns-then-put_line : goal.returns-then-put_line
 returns-then-put_line g c =
