@@ -1,11 +1,12 @@
 -- What a call of the core does, and its acts, read off that.
-use Rattle.std.specs.Prelude.{◌≡◌, ℕ, ◌+◌, ◌≤◌, Bool, true, false, List, [], ◌∷◌, ◌++◌, length, map, take, drop, find, Option, Some, None, option_map}
+use Rattle.std.specs.Prelude.{◌≡◌, ℕ, ◌+◌, ◌<◌, ◌≤◌, Bool, true, false, List, [], ◌∷◌, ◌++◌, length, map, take, drop, find, Option, Some, None, option_map}
 use Rattle.mux_frame.specs.Frames.{Frame}
 use Rattle.modem_desk.specs.declared.request.Ask.{Ask}
 use Rattle.modem_desk.specs.declared.request.Ask.TheVariants.{CloseChannel, Stop}
 use Rattle.modem_desk.specs.declared.request.Answer.{Answer}
 use Rattle.modem_desk.specs.declared.request.Request.{Request}
 use Rattle.modem_desk.specs.declared.request.Outcome.{Outcome}
+use Rattle.modem_history.specs.Limits.{most_in_hand}
 use Rattle.modem_history.specs.Acts.{Act, Took, Sent, Told, act_of}
 use Rattle.modem_history.specs.Turns.{outcomes_told, lines_heard}
 use Rattle.modem_core.specs.ActLists.{ActList}
@@ -74,6 +75,24 @@ tells_others _ = false
 abbrev pub Asks : (old new : Core) → (was now : List Outcome) → Request → Option Answer → Type 0
 Asks old new was now q None = AsksOn old new was now q
 Asks old new was now q (Some why) = Handles old new (Took q) (taken_acts q (Some why)) × (now ≡ was)
+
+-- a request asks for this, and may be taken on: the line isn't lost, and there is room in hand
+pub record MayTake (v : Core) (q : Request) (a : Ask) : Type 0 where
+  pub asks : q.ask ≡ a
+  pub live : v.lost ≡ false
+  pub few : length v.hand < most_in_hand
+
+-- a request was taken, and nobody else is told anything for it: it is to be told this at once, or else it was taken on
+pub record AsksAlone (old new : Core) (q : Request) (answer : Option Answer) : Type 0 where
+  pub past : Handles old new (Took q) (taken_acts q answer)
+  pub lanes : new.lanes ≡ old.lanes
+  pub n1 : new.station.n1 ≡ old.station.n1
+
+-- a request was taken, which others may be told for; the lanes and N1 stay
+pub record Asked (old new : Core) (was now : List Outcome) (q : Request) (answer : Option Answer) : Type 0 where
+  pub asks : Asks old new was now q answer
+  pub lanes : new.lanes ≡ old.lanes
+  pub n1 : new.station.n1 ≡ old.station.n1
 
 -- a request was taken, by some acts, which announce no line; what they tell waits behind what waited
 pub record Takes (old new : Core) (was now : List Outcome) (q : Request) : Type 0 where

@@ -9,8 +9,8 @@ ghost use Rattle.mux_station.specs.declared.role.Role.TheVariants.{Initiator};
 ghost use Rattle.modem_history.specs.Information.{line_in, line_of};
 ghost use Rattle.modem_core.specs.Offers.{refused_command, sends_on, TakesLine, OffersFirstCommand};
 ghost use Rattle.modem_core.specs.Refusals.{refusal_answer};
-ghost use Rattle.modem_core.specs.TakenActs.{came_to, outcome_of, taken_acts};
-ghost use Rattle.modem_core.specs.Doing.{Asks, Takes, tells_others};
+ghost use Rattle.modem_core.specs.TakenActs.{came_to, outcome_of};
+ghost use Rattle.modem_core.specs.Doing.{MayTake, Asked, AsksAlone, Takes, tells_others};
 ghost use Rattle.std.specs.VecDeque.{deque_capacity};
 ghost use Rattle.modem_core.specs.Cores.{Handles};
 ghost use Rattle.modem_core.specs.Holding.{KeepsHeld};
@@ -159,12 +159,8 @@ impl Core {
     /// A connection is to be opened. It takes no memory. Gives what the request is told at once; where it is told nothing it is
     /// in hand from then on, and its SABM waits in the control queue.
     pub(crate) fn ask_open(&mut self, dlci: Dlci, request: Request) -> Option<Answer>
-        requires ask { request.ask ≡ Ask.OpenChannel dlci }
-        requires live { self.old.lost ≡ false }
-        requires few { length self.old.hand < most_in_hand }
-        ensures past { Handles self.old self.new (Took request) (taken_acts request result) }
-        ensures lanes { self.new.lanes ≡ self.old.lanes }
-        ensures n1 { self.new.station.n1 ≡ self.old.station.n1 }
+        requires { MayTake self.old request (Ask.OpenChannel dlci) }
+        ensures { AsksAlone self.old self.new request result }
     {
         if let Err(why) = self.station.open(dlci) {
             return Some(answer_of(why));
@@ -182,13 +178,9 @@ impl Core {
         request: Request,
         outcomes: &mut VecDeque<Outcome>,
     ) -> Option<Answer>
-        requires ask { request.ask ≡ Ask.CloseChannel dlci }
-        requires live { self.old.lost ≡ false }
-        requires few { length self.old.hand < most_in_hand }
+        requires may { MayTake self.old request (Ask.CloseChannel dlci) }
         requires room { most_in_hand ≤ deque_capacity outcomes.old }
-        ensures asks { Asks self.old self.new outcomes.old.items outcomes.new.items request result }
-        ensures lanes { self.new.lanes ≡ self.old.lanes }
-        ensures n1 { self.new.station.n1 ≡ self.old.station.n1 }
+        ensures asked { Asked self.old self.new outcomes.old.items outcomes.new.items request result }
         ensures room { most_in_hand ≤ deque_capacity outcomes.new }
     {
         if let Err(why) = self.station.close(dlci) {
@@ -209,12 +201,8 @@ impl Core {
     /// A probe is to be sent. It takes no memory. Gives what the request is told at once; where it is told nothing it is in
     /// hand from then on, and its Test command waits in the control queue.
     pub(crate) fn ask_probe(&mut self, echo: ProbeData, request: Request) -> Option<Answer>
-        requires ask { request.ask ≡ Ask.Probe echo }
-        requires live { self.old.lost ≡ false }
-        requires few { length self.old.hand < most_in_hand }
-        ensures past { Handles self.old self.new (Took request) (taken_acts request result) }
-        ensures lanes { self.new.lanes ≡ self.old.lanes }
-        ensures n1 { self.new.station.n1 ≡ self.old.station.n1 }
+        requires { MayTake self.old request (Ask.Probe echo) }
+        ensures { AsksAlone self.old self.new request result }
     {
         if let Err(why) = self.station.probe(echo.octets()) {
             return Some(answer_of(why));
@@ -231,13 +219,9 @@ impl Core {
         request: Request,
         outcomes: &mut VecDeque<Outcome>,
     ) -> Option<Answer>
-        requires ask { request.ask ≡ Ask.Stop }
-        requires live { self.old.lost ≡ false }
-        requires few { length self.old.hand < most_in_hand }
+        requires may { MayTake self.old request Ask.Stop }
         requires room { most_in_hand ≤ deque_capacity outcomes.old }
-        ensures asks { Asks self.old self.new outcomes.old.items outcomes.new.items request result }
-        ensures lanes { self.new.lanes ≡ self.old.lanes }
-        ensures n1 { self.new.station.n1 ≡ self.old.station.n1 }
+        ensures asked { Asked self.old self.new outcomes.old.items outcomes.new.items request result }
         ensures room { most_in_hand ≤ deque_capacity outcomes.new }
     {
         if let Err(why) = self.station.stop() {
@@ -258,12 +242,8 @@ impl Core {
     /// A command is to be sent. It takes no memory. Gives what it is told at once; where it is told nothing it is in hand from
     /// then on.
     fn ask_command(&mut self, dlci: Dlci, request: Request) -> Option<Answer>
-        requires ask { request.ask ≡ Ask.Command dlci (line_of request) }
-        requires live { self.old.lost ≡ false }
-        requires few { length self.old.hand < most_in_hand }
-        ensures past { Handles self.old self.new (Took request) (taken_acts request result) }
-        ensures lanes { self.new.lanes ≡ self.old.lanes }
-        ensures n1 { self.new.station.n1 ≡ self.old.station.n1 }
+        requires { MayTake self.old request (Ask.Command dlci (line_of request)) }
+        ensures { AsksAlone self.old self.new request result }
     {
         if let Some(why) = refuses_command(&self.station, dlci) {
             return Some(why);
@@ -275,9 +255,7 @@ impl Core {
     /// Any request, but for what it is told at once, which this gives.
     fn ask_any(&mut self, request: Request, outcomes: &mut VecDeque<Outcome>) -> Option<Answer>
         requires room { tells_others request.ask ≡ true → most_in_hand ≤ deque_capacity outcomes.old }
-        ensures asks { Asks self.old self.new outcomes.old.items outcomes.new.items request result }
-        ensures lanes { self.new.lanes ≡ self.old.lanes }
-        ensures n1 { self.new.station.n1 ≡ self.old.station.n1 }
+        ensures asked { Asked self.old self.new outcomes.old.items outcomes.new.items request result }
         ensures role { self.old.station.role ≡ Initiator }
         ensures room { most_in_hand ≤ deque_capacity outcomes.old → most_in_hand ≤ deque_capacity outcomes.new }
     {

@@ -21,6 +21,7 @@ use Rattle.mux_station.specs.Traces.{without_calls}
 use Rattle.mux_station.proofs.user_calls.OpenAndClose.{calls_asked}
 use Rattle.mux_station.proofs.user_calls.ProbeStopFlowOffer.{sees_the_past}
 use Rattle.mux_station.proofs.law_proofs.PastsWithoutCalls.{same_states}
+use Rattle.modem_desk.specs.declared.request.Ask.{Ask}
 use Rattle.modem_desk.specs.declared.request.Request.{Request}
 use Rattle.modem_desk.specs.declared.request.Answer.{Answer}
 use Rattle.modem_desk.specs.declared.request.Answer.TheVariants.{LineLost, Busy}
@@ -32,7 +33,7 @@ use Rattle.modem_history.specs.Placing.{marks}
 use Rattle.modem_history.specs.Calls.{Setting, seen, asking, at_once, refused_ask, said_of, calls, told_later, tolds}
 use Rattle.modem_core.specs.Telling.{told_by, told_to, left_by}
 use Rattle.modem_core.specs.ActLists.{ActList}
-use Rattle.modem_core.specs.Refusals.{told_act}
+use Rattle.modem_core.specs.Doing.{AsksAlone, MayTake}
 use Rattle.modem_core.specs.Cores.{dialect_in, Core, Fits, Runs, RunsUnless, IsRun, MayCome, GoesOn, Handles, lane_at, may_wait, state_shown, probe_in}
 use Rattle.modem_history.proofs.requests.RequestsAfterCalls.{stays}
 use Rattle.modem_history.proofs.calls.CallEnds.{frames_in, now_in, now_is, ended, end_of}
@@ -65,35 +66,35 @@ once_is s v past q l h =
     ap (λ (b : Bool). if b then Some LineLost else (if nat_le 128 (length (in_hand past)) then Some Busy else refused_ask s (seen s past) q.ask)) l.lost_is
     ∙ ap (λ (b : Bool). if b then Some Busy else refused_ask s (seen s past) q.ask) (ap (λ (rs : List Request). nat_le 128 (length rs)) l.hand_is ∙ few_not (length v.hand) h)
 
--- what refuses it by every past it is told at once, and the core stays
-pub refused_handles : (v new : Core) (q : Request) (why : Answer) (acts : List code.Act) → v.station.role ≡ Initiator → v.lost ≡ false → length v.hand < 128 → new ≡ v
-    → acts ≡ code.TheVariants.Took q ∷ told_act q why ∷ [] → ((s : Setting) (past : List Act) → Live s v past → refused_ask s (seen s past) q.ask ≡ Some why) → Handles v new (Took q) (map act_of acts)
+-- what is told at once by every past changes nothing
+told_at_once : (v new : Core) (q : Request) (why : Answer) → new ≡ v → ((s : Setting) (past : List Act) → MayCome s v past (Took q) → GoesOn s v past (Took q) (Took q ∷ told q why ∷ [])) → AsksAlone v new q (Some why)
 unfolding Handles
-refused_handles v new q why acts e l few n h refuses s past m =
-    let live = live_of s v past (Took q) e l m in
-    subst (λ (x : List code.Act). GoesOn s new past (Took q) (map act_of x)) (sym h)
-    (subst (λ (c : Core). GoesOn s c past (Took q) (Took q ∷ told q why ∷ [])) (sym n) (once_live s v past q why e l m (once_is s v past q live few ∙ refuses s past live)))
+told_at_once v new q why n goes = record {
+  past = λ s past m. subst (λ (c : Core). GoesOn s c past (Took q) (Took q ∷ told q why ∷ [])) (sym n) (goes s past m);
+  lanes = ap (λ (c : Core). c.lanes) n;
+  n1 = ap (λ (c : Core). c.station.n1) n;
+}
+
+-- what refuses it by every past it is told at once
+pub refused_alone : (v new : Core) (q : Request) (a : Ask) (why : Answer) → v.station.role ≡ Initiator → MayTake v q a → new ≡ v
+    → ((s : Setting) (past : List Act) → Live s v past → refused_ask s (seen s past) a ≡ Some why) → AsksAlone v new q (Some why)
+refused_alone v new q a why e may n refuses = told_at_once v new q why n (λ s past m.
+    let live = live_of s v past (Took q) e may.live m in
+    once_live s v past q why e may.live m (once_is s v past q live may.few ∙ (ap (refused_ask s (seen s past)) may.asks ∙ refuses s past live)))
 
 -- 128 are in hand
-pub full_handles : (v new : Core) (q : Request) (acts : List code.Act) → v.station.role ≡ Initiator → v.lost ≡ false → nat_le 128 (length v.hand) ≡ true → new ≡ v
-    → acts ≡ code.TheVariants.Took q ∷ told_act q Busy ∷ [] → Handles v new (Took q) (map act_of acts)
-unfolding Handles
-full_handles v new q acts e l full n h s past m =
+pub full_alone : (v : Core) (q : Request) → v.station.role ≡ Initiator → v.lost ≡ false → nat_le 128 (length v.hand) ≡ true → AsksAlone v v q (Some Busy)
+full_alone v q e l full = told_at_once v v q Busy refl (λ s past m.
     let live = live_of s v past (Took q) e l m in
-    let once : at_once s (seen s past) q ≡ Some Busy
-    = ap (λ (b : Bool). if b then Some LineLost else (if nat_le 128 (length (in_hand past)) then Some Busy else refused_ask s (seen s past) q.ask)) live.lost_is
-    ∙ ap (λ (b : Bool). if b then Some Busy else refused_ask s (seen s past) q.ask) (ap (λ (rs : List Request). nat_le 128 (length rs)) live.hand_is ∙ full) in
-    subst (λ (x : List code.Act). GoesOn s new past (Took q) (map act_of x)) (sym h)
-    (subst (λ (c : Core). GoesOn s c past (Took q) (Took q ∷ told q Busy ∷ [])) (sym n) (once_live s v past q Busy e l m once))
+    once_live s v past q Busy e l m
+    (ap (λ (b : Bool). if b then Some LineLost else (if nat_le 128 (length (in_hand past)) then Some Busy else refused_ask s (seen s past) q.ask)) live.lost_is
+    ∙ ap (λ (b : Bool). if b then Some Busy else refused_ask s (seen s past) q.ask) (ap (λ (rs : List Request). nat_le 128 (length rs)) live.hand_is ∙ full)))
 
 -- the line is lost
-pub lost_told : (v new : Core) (q : Request) (acts : List code.Act) → v.lost ≡ true → new ≡ v → acts ≡ code.TheVariants.Took q ∷ told_act q LineLost ∷ [] → Handles v new (Took q) (map act_of acts)
-unfolding Handles
-lost_told v new q acts l n h s past m =
-    let once : at_once s (seen s past) q ≡ Some LineLost
-    = ap (λ (b : Bool). if b then Some LineLost else (if nat_le 128 (length (in_hand past)) then Some Busy else refused_ask s (seen s past) q.ask)) (m.fits.lost_is ∙ l) in
-    subst (λ (x : List code.Act). GoesOn s new past (Took q) (map act_of x)) (sym h)
-    (subst (λ (c : Core). GoesOn s c past (Took q) (Took q ∷ told q LineLost ∷ [])) (sym n) (once_lost s v past q LineLost l m once))
+pub lost_alone : (v : Core) (q : Request) → v.lost ≡ true → AsksAlone v v q (Some LineLost)
+lost_alone v q l = told_at_once v v q LineLost refl (λ s past m.
+    once_lost s v past q LineLost l m
+    (ap (λ (b : Bool). if b then Some LineLost else (if nat_le 128 (length (in_hand past)) then Some Busy else refused_ask s (seen s past) q.ask)) (m.fits.lost_is ∙ l)))
 
 -- ## A request that is accepted
 

@@ -1,5 +1,5 @@
 -- A connection is to be closed.
-use Rattle.std.specs.Prelude.{◌≡◌, ℕ, ◌<◌, ◌==◌, ◌&&◌, not, Bool, true, false, List, [], ◌∷◌, ◌++◌, length, map, refl, Option, Some, None, option_map, if◌then◌else◌}
+use Rattle.std.specs.Prelude.{◌≡◌, ℕ, ◌<◌, ◌==◌, ◌&&◌, not, Bool, true, false, List, [], ◌∷◌, ◌++◌, length, refl, Option, Some, None, option_map, if◌then◌else◌}
 use Rattle.std.proofs.Common.{ap, sym, ◌∙◌, arith}
 use Rattle.std.proofs.lemmas.Bool.{eq-eqb}
 use Rattle.mux_frame.specs.Frames.{Frame}
@@ -23,18 +23,18 @@ use Rattle.modem_desk.specs.declared.request.Ask.TheVariants.{CloseChannel, Prob
 use Rattle.modem_desk.specs.declared.request.Request.{Request}
 use Rattle.modem_desk.specs.declared.request.Answer.{Answer}
 use Rattle.modem_desk.specs.declared.request.Answer.TheVariants.{NotOpen, ControlChannel, Busy}
-use Rattle.modem_history.specs.declared.act.Act as code
 use Rattle.modem_core.specs.declared.telling.Happened.TheVariants as happened
-use Rattle.modem_history.specs.Acts.{Act, Took, act_of, wire}
+use Rattle.modem_history.specs.Acts.{Act, Took, wire}
 use Rattle.modem_history.specs.Information.{command_on}
 use Rattle.modem_history.specs.Calls.{Setting, seen, asking, refused_ask}
 use Rattle.modem_core.specs.Telling.{told_by, left_by}
-use Rattle.modem_core.specs.Refusals.{refusal_answer, told_act}
-use Rattle.modem_core.specs.Cores.{Core, MayCome, Handles, may_wait, is_closing, state_shown, probe_in}
+use Rattle.modem_core.specs.Doing.{AsksAlone, MayTake}
+use Rattle.modem_core.specs.Refusals.{refusal_answer}
+use Rattle.modem_core.specs.Cores.{Core, MayCome, may_wait, is_closing, state_shown, probe_in}
 use Rattle.modem_history.proofs.calls.CallEnds.{ended}
 use Rattle.modem_core.proofs.cores.UnchangedParts.{is_probe, probe_more}
 use Rattle.modem_core.proofs.requests.TakenRequests.{Live, probe_kept}
-use Rattle.modem_core.proofs.requests.AcceptedRequests.{Accepts, refused_handles}
+use Rattle.modem_core.proofs.requests.AcceptedRequests.{Accepts, refused_alone}
 use Rattle.modem_core.proofs.requests.OneFrameRequests.{Asks, past_then, asked_fits, kept_states, asked_accepts, probe_left}
 
 -- ## What it is told at once
@@ -166,8 +166,6 @@ close_accepts v w q d few o s past l m =
 -- ## It is refused
 
 -- one that the station refuses is handled by telling it why
-pub close_refused : (v new : Core) (q : Request) (d : Dlci) (why : StationError) (acts : List code.Act) → v.station.role ≡ Initiator → v.lost ≡ false → length v.hand < 128 → q.ask ≡ CloseChannel d
-    → refused (setting_of v.station) (seen_in v.station) (station.Close d.number) ≡ Some why → new ≡ v → acts ≡ code.TheVariants.Took q ∷ told_act q (refusal_answer why) ∷ [] → Handles v new (Took q) (map act_of acts)
-close_refused v new q d why acts role lost few asks h n k =
-    refused_handles v new q (refusal_answer why) acts role lost few n k
-    (λ s past l. ap (refused_ask s (seen s past)) asks ∙ (close_told s v past d l ∙ ap (option_map refusal_answer) h))
+pub close_refused : (v new : Core) (q : Request) (d : Dlci) (why : StationError) → v.station.role ≡ Initiator → MayTake v q (CloseChannel d)
+    → refused (setting_of v.station) (seen_in v.station) (station.Close d.number) ≡ Some why → new ≡ v → AsksAlone v new q (Some (refusal_answer why))
+close_refused v new q d why role may h n = refused_alone v new q (CloseChannel d) (refusal_answer why) role may n (λ s past l. close_told s v past d l ∙ ap (option_map refusal_answer) h)

@@ -41,13 +41,13 @@ use Rattle.modem_history.specs.Placing.{marks}
 use Rattle.modem_history.specs.Calls.{Setting, seen, asking, at_once, refused_ask}
 use Rattle.modem_history.specs.Requests.{commands_on}
 use Rattle.modem_history.specs.Wholes.{commands_for, InStep}
-use Rattle.modem_core.specs.Refusals.{told_act}
+use Rattle.modem_core.specs.Doing.{AsksAlone, MayTake}
 use Rattle.modem_core.specs.Offers.{refused_command, TakesLine, Enters, OffersFirstCommand}
 use Rattle.modem_core.specs.Cores.{dialect_in, Core, MayCome, Handles, may_wait, shows_opened as channel_opened, state_shown, probe_in}
 use Rattle.modem_history.proofs.calls.CallEnds.{now_in, ended}
 use Rattle.modem_core.proofs.cores.UnchangedParts.{open_plain, offered_called, is_probe, probe_more}
 use Rattle.modem_core.proofs.requests.TakenRequests.{Live, AllWait, none_told, all_left, asked_frames, probe_kept}
-use Rattle.modem_core.proofs.requests.AcceptedRequests.{Accepts, called_fits, once_is, state_then, refused_handles, accepted_handles, unaccepted_by}
+use Rattle.modem_core.proofs.requests.AcceptedRequests.{Accepts, called_fits, once_is, state_then, refused_alone, accepted_handles, unaccepted_by}
 use Rattle.modem_core.proofs.requests.CloseRequests.{and_not}
 use Rattle.modem_core.proofs.requests.ProbeRequests.{all_same, opened_shown}
 use Rattle.modem_core.proofs.commands.EmptyRings.{in_step_of, ring_empty}
@@ -359,8 +359,6 @@ command_handles v new w q d acts role lost few o n h =
 -- ## It is refused
 
 -- one that isn't is handled by telling it why
-pub command_refused : (v new : Core) (q : Request) (d : Dlci) (why : Answer) (acts : List code.Act) → v.station.role ≡ Initiator → v.lost ≡ false → length v.hand < 128 → q.ask ≡ Command d (line_of q)
-    → refused_command v.station d.number ≡ Some why → new ≡ v → acts ≡ code.TheVariants.Took q ∷ told_act q why ∷ [] → Handles v new (Took q) (map act_of acts)
-command_refused v new q d why acts role lost few asks h n k =
-    refused_handles v new q why acts role lost few n k
-    (λ s past l. ap (refused_ask s (seen s past)) asks ∙ (command_told s v past d (line_of q) l ∙ h))
+pub command_refused : (v : Core) (q : Request) (d : Dlci) (why : Answer) → v.station.role ≡ Initiator → MayTake v q (Command d (line_of q))
+    → refused_command v.station d.number ≡ Some why → AsksAlone v v q (Some why)
+command_refused v q d why role may h = refused_alone v v q (Command d (line_of q)) why role may refl (λ s past l. command_told s v past d (line_of q) l ∙ h)

@@ -1,5 +1,5 @@
 -- A connection is to be opened.
-use Rattle.std.specs.Prelude.{◌≡◌, ℕ, ◌<◌, ◌==◌, ◌&&◌, not, Bool, true, false, List, [], ◌∷◌, ◌++◌, length, map, refl, Option, Some, None, option_map, if◌then◌else◌}
+use Rattle.std.specs.Prelude.{◌≡◌, ℕ, ◌<◌, ◌==◌, ◌&&◌, not, Bool, true, false, List, [], ◌∷◌, ◌++◌, length, refl, Option, Some, None, option_map, if◌then◌else◌}
 use Rattle.std.specs.List.{list_all}
 use Rattle.std.proofs.Common.{ap, sym, ◌∙◌, arith, eqb-true}
 use Rattle.std.proofs.lemmas.Bool.{and_parts, and_from, eq-eqb}
@@ -28,18 +28,18 @@ use Rattle.modem_desk.specs.declared.request.Ask.TheVariants.{OpenChannel, Close
 use Rattle.modem_desk.specs.declared.request.Request.{Request}
 use Rattle.modem_desk.specs.declared.request.Answer.{Answer}
 use Rattle.modem_desk.specs.declared.request.Answer.TheVariants.{NotOpen, AlreadyOpen, Busy}
-use Rattle.modem_history.specs.declared.act.Act as code
 use Rattle.modem_core.specs.declared.telling.Happened.TheVariants as happened
-use Rattle.modem_history.specs.Acts.{Act, Took, act_of, wire}
+use Rattle.modem_history.specs.Acts.{Act, Took, wire}
 use Rattle.modem_history.specs.Information.{command_on}
 use Rattle.modem_history.specs.Calls.{Setting, seen, asking, at_once, refused_ask}
 use Rattle.modem_core.specs.Telling.{told_by, left_by}
-use Rattle.modem_core.specs.Refusals.{refusal_answer, told_act}
-use Rattle.modem_core.specs.Cores.{Core, MayCome, Handles, may_wait, shows_opening, is_closing, shows_opened as channel_opened, shows_stopping, state_shown, probe_in}
+use Rattle.modem_core.specs.Doing.{AsksAlone, MayTake}
+use Rattle.modem_core.specs.Refusals.{refusal_answer}
+use Rattle.modem_core.specs.Cores.{Core, MayCome, may_wait, shows_opening, is_closing, shows_opened as channel_opened, shows_stopping, state_shown, probe_in}
 use Rattle.modem_history.proofs.calls.CallEnds.{now_in, ended}
 use Rattle.modem_core.proofs.cores.UnchangedParts.{is_probe, probe_more}
 use Rattle.modem_core.proofs.requests.TakenRequests.{Live, AllWait, all_left, asked_frames, probe_kept}
-use Rattle.modem_core.proofs.requests.AcceptedRequests.{Accepts, called_fits, once_is, state_then, refused_handles, plain_offered}
+use Rattle.modem_core.proofs.requests.AcceptedRequests.{Accepts, called_fits, once_is, state_then, refused_alone, plain_offered}
 
 -- ## What it is told at once
 
@@ -237,8 +237,6 @@ open_accepts v w q d few o s past l m =
 -- ## It is refused
 
 -- one that the station refuses is handled by telling it why
-pub open_refused : (v new : Core) (q : Request) (d : Dlci) (why : StationError) (acts : List code.Act) → v.station.role ≡ Initiator → v.lost ≡ false → length v.hand < 128 → q.ask ≡ OpenChannel d
-    → refused (setting_of v.station) (seen_in v.station) (station.Open d.number) ≡ Some why → new ≡ v → acts ≡ code.TheVariants.Took q ∷ told_act q (refusal_answer why) ∷ [] → Handles v new (Took q) (map act_of acts)
-open_refused v new q d why acts role lost few asks h n k =
-    refused_handles v new q (refusal_answer why) acts role lost few n k
-    (λ s past l. ap (refused_ask s (seen s past)) asks ∙ (open_told s v past d l ∙ ap (option_map refusal_answer) h))
+pub open_refused : (v new : Core) (q : Request) (d : Dlci) (why : StationError) → v.station.role ≡ Initiator → MayTake v q (OpenChannel d)
+    → refused (setting_of v.station) (seen_in v.station) (station.Open d.number) ≡ Some why → new ≡ v → AsksAlone v new q (Some (refusal_answer why))
+open_refused v new q d why role may h n = refused_alone v new q (OpenChannel d) (refusal_answer why) role may n (λ s past l. open_told s v past d l ∙ ap (option_map refusal_answer) h)

@@ -1,5 +1,5 @@
 -- A probe is to be sent.
-use Rattle.std.specs.Prelude.{◌≡◌, ℕ, ◌<◌, ◌≤◌, ◌==◌, ◌&&◌, ◌||◌, not, nat_le, Bool, true, false, List, [], ◌∷◌, ◌++◌, length, map, refl, Option, Some, None, is_some, option_map, if◌then◌else◌}
+use Rattle.std.specs.Prelude.{◌≡◌, ℕ, ◌<◌, ◌≤◌, ◌==◌, ◌&&◌, ◌||◌, not, nat_le, Bool, true, false, List, [], ◌∷◌, ◌++◌, length, refl, Option, Some, None, is_some, option_map, if◌then◌else◌}
 use Rattle.std.specs.List.{list_all}
 use Rattle.std.proofs.Common.{ap, sym, ◌∙◌, arith}
 use Rattle.std.proofs.lemmas.Bool.{and_parts, and_from, eq-eqb}
@@ -26,19 +26,19 @@ use Rattle.modem_desk.specs.declared.request.Ask.TheVariants.{OpenChannel, Close
 use Rattle.modem_desk.specs.declared.request.Request.{Request}
 use Rattle.modem_desk.specs.declared.request.Answer.{Answer}
 use Rattle.modem_desk.specs.declared.request.Answer.TheVariants.{NotOpen, Busy}
-use Rattle.modem_history.specs.declared.act.Act as code
 use Rattle.modem_core.specs.declared.telling.Happened.TheVariants as happened
-use Rattle.modem_history.specs.Acts.{Act, Took, act_of, wire, in_hand}
+use Rattle.modem_history.specs.Acts.{Act, Took, wire, in_hand}
 use Rattle.modem_history.specs.Information.{command_on}
 use Rattle.modem_history.specs.Calls.{Setting, seen, asking, asks_probe, probe_waits, ticks_since, calls, refused_ask}
 use Rattle.modem_core.specs.Telling.{told_by, left_by}
-use Rattle.modem_core.specs.Refusals.{refusal_answer, told_act}
-use Rattle.modem_core.specs.Cores.{Core, MayCome, Handles, may_wait, shows_opened as channel_opened, shows_opening, is_closing, shows_stopping, state_shown, probe_or, probe_in}
+use Rattle.modem_core.specs.Doing.{AsksAlone, MayTake}
+use Rattle.modem_core.specs.Refusals.{refusal_answer}
+use Rattle.modem_core.specs.Cores.{Core, MayCome, may_wait, shows_opened as channel_opened, shows_opening, is_closing, shows_stopping, state_shown, probe_or, probe_in}
 use Rattle.modem_history.proofs.calls.CalledActs.{calls_said}
 use Rattle.modem_history.proofs.calls.CallEnds.{ended}
 use Rattle.modem_core.proofs.cores.UnchangedParts.{ticks_behind}
 use Rattle.modem_core.proofs.requests.TakenRequests.{Live, AllWait, all_left, probe_kept}
-use Rattle.modem_core.proofs.requests.AcceptedRequests.{Accepts, refused_handles}
+use Rattle.modem_core.proofs.requests.AcceptedRequests.{Accepts, refused_alone}
 use Rattle.modem_core.proofs.requests.CloseRequests.{and_not}
 use Rattle.modem_core.proofs.requests.OneFrameRequests.{Asks, past_then, asked_fits, kept_states, asked_accepts}
 
@@ -220,8 +220,7 @@ probe_accepts v w q octets few o s past l m =
 -- ## It is refused
 
 -- one of 16 octets at most that the station refuses is handled by telling it why
-pub probe_refused : (v new : Core) (q : Request) (octets : List ℕ) (why : StationError) (acts : List code.Act) → v.station.role ≡ Initiator → v.lost ≡ false → length v.hand < 128 → q.ask ≡ Probe octets → length octets ≤ 16
-    → refused (setting_of v.station) (seen_in v.station) (station.Probe octets) ≡ Some why → new ≡ v → acts ≡ code.TheVariants.Took q ∷ told_act q (refusal_answer why) ∷ [] → Handles v new (Took q) (map act_of acts)
-probe_refused v new q octets why acts role lost few asks short h n k =
-    refused_handles v new q (refusal_answer why) acts role lost few n k
-    (λ s past l. ap (refused_ask s (seen s past)) asks ∙ (probe_told s v past octets l (short_so (length octets) short) ∙ ap (option_map refusal_answer) h))
+pub probe_refused : (v new : Core) (q : Request) (octets : List ℕ) (why : StationError) → v.station.role ≡ Initiator → MayTake v q (Probe octets) → length octets ≤ 16
+    → refused (setting_of v.station) (seen_in v.station) (station.Probe octets) ≡ Some why → new ≡ v → AsksAlone v new q (Some (refusal_answer why))
+probe_refused v new q octets why role may short h n =
+    refused_alone v new q (Probe octets) (refusal_answer why) role may n (λ s past l. probe_told s v past octets l (short_so (length octets) short) ∙ ap (option_map refusal_answer) h)

@@ -1,5 +1,5 @@
 -- The multiplexer is to be ended.
-use Rattle.std.specs.Prelude.{◌≡◌, ℕ, ◌<◌, ◌&&◌, not, Bool, true, false, List, [], ◌∷◌, length, map, refl, Option, Some, None, is_none, option_map, if◌then◌else◌}
+use Rattle.std.specs.Prelude.{◌≡◌, ℕ, ◌<◌, ◌&&◌, not, Bool, true, false, List, [], ◌∷◌, length, refl, Option, Some, None, is_none, option_map, if◌then◌else◌}
 use Rattle.std.proofs.Common.{ap, sym, ◌∙◌, arith}
 use Rattle.mux_frame.specs.Frames.{Frame}
 use Rattle.mux_station.specs.declared.role.Role.{Role}
@@ -21,18 +21,18 @@ use Rattle.modem_desk.specs.declared.request.Ask.TheVariants.{Probe, Stop}
 use Rattle.modem_desk.specs.declared.request.Request.{Request}
 use Rattle.modem_desk.specs.declared.request.Answer.{Answer}
 use Rattle.modem_desk.specs.declared.request.Answer.TheVariants.{NotOpen, Busy}
-use Rattle.modem_history.specs.declared.act.Act as code
 use Rattle.modem_core.specs.declared.telling.Happened.TheVariants as happened
-use Rattle.modem_history.specs.Acts.{Act, Took, act_of, wire}
+use Rattle.modem_history.specs.Acts.{Act, Took, wire}
 use Rattle.modem_history.specs.Information.{command_on}
 use Rattle.modem_history.specs.Calls.{Setting, seen, asking, refused_ask}
 use Rattle.modem_core.specs.Telling.{told_by, left_by}
-use Rattle.modem_core.specs.Refusals.{refusal_answer, told_act}
-use Rattle.modem_core.specs.Cores.{Core, MayCome, Handles, may_wait, shows_stopping, state_shown, probe_in}
+use Rattle.modem_core.specs.Doing.{AsksAlone, MayTake}
+use Rattle.modem_core.specs.Refusals.{refusal_answer}
+use Rattle.modem_core.specs.Cores.{Core, MayCome, may_wait, shows_stopping, state_shown, probe_in}
 use Rattle.modem_history.proofs.calls.CallEnds.{ended}
 use Rattle.modem_core.proofs.cores.UnchangedParts.{is_probe, probe_more}
 use Rattle.modem_core.proofs.requests.TakenRequests.{Live}
-use Rattle.modem_core.proofs.requests.AcceptedRequests.{Accepts, refused_handles}
+use Rattle.modem_core.proofs.requests.AcceptedRequests.{Accepts, refused_alone}
 use Rattle.modem_core.proofs.requests.OneFrameRequests.{Asks, past_then, asked_fits, kept_states, asked_accepts, probe_gone}
 
 -- ## What it is told at once
@@ -119,8 +119,6 @@ stop_accepts v w q few o s past l m =
 -- ## It is refused
 
 -- one that the station refuses is handled by telling it why
-pub stop_refused : (v new : Core) (q : Request) (why : StationError) (acts : List code.Act) → v.station.role ≡ Initiator → v.lost ≡ false → length v.hand < 128 → q.ask ≡ Stop
-    → refused (setting_of v.station) (seen_in v.station) station.Stop ≡ Some why → new ≡ v → acts ≡ code.TheVariants.Took q ∷ told_act q (refusal_answer why) ∷ [] → Handles v new (Took q) (map act_of acts)
-stop_refused v new q why acts role lost few asks h n k =
-    refused_handles v new q (refusal_answer why) acts role lost few n k
-    (λ s past l. ap (refused_ask s (seen s past)) asks ∙ (stop_told s v past l ∙ ap (option_map refusal_answer) h))
+pub stop_refused : (v new : Core) (q : Request) (why : StationError) → v.station.role ≡ Initiator → MayTake v q Stop
+    → refused (setting_of v.station) (seen_in v.station) station.Stop ≡ Some why → new ≡ v → AsksAlone v new q (Some (refusal_answer why))
+stop_refused v new q why role may h n = refused_alone v new q Stop (refusal_answer why) role may n (λ s past l. stop_told s v past l ∙ ap (option_map refusal_answer) h)

@@ -5,9 +5,9 @@ use Rattle.modem_core.proofs.driver.Core.ask.Goals as goal
 
 pub returns-in-Some-clause-takes : goal.returns-in-Some-clause-takes
 returns-in-Some-clause-takes c =
-    takes_once c.args.self.now c.ask_any.new.self c.args.outcomes.now.items c.ask_any.new.outcomes.items c.put_told.new.told.items c.args.request c.in-Some.answer c.ask_any.ensures.lanes
-    c.in-Some.ensures.asks.0 c.in-Some.ensures.asks.1 _ refl c.put_told.ensures.put
+    takes_once c.args.self.now c.ask_any.new.self c.args.outcomes.now.items c.ask_any.new.outcomes.items c.put_told.new.told.items c.args.request c.in-Some.answer c.ask_any.ensures.asked.lanes
+    c.in-Some.ensures.asked.asks.0 c.in-Some.ensures.asked.asks.1 _ refl c.put_told.ensures.put
 
 pub returns-in_default-clause-takes : goal.returns-in_default-clause-takes
 returns-in_default-clause-takes c =
-    takes_on c.args.self.now c.ask_any.new.self c.args.outcomes.now.items c.ask_any.new.outcomes.items c.args.request c.ask_any.ensures.lanes c.in_default.ensures.asks
+    takes_on c.args.self.now c.ask_any.new.self c.args.outcomes.now.items c.ask_any.new.outcomes.items c.args.request c.ask_any.ensures.asked.lanes c.in_default.ensures.asked.asks

@@ -18,7 +18,7 @@ push_told-requires c =
     let new = c.ask_any-told.new.self in
     let now = c.ask_any-told.new.outcomes.items in
     let answer = c.ask_any-told.result in
-    let asks = subst (λ (os : List Outcome). Asks old new os now c.args.request answer) c.in-Ok.ensures.none c.ask_any-told.ensures.asks in
+    let asks = subst (λ (os : List Outcome). Asks old new os now c.args.request answer) c.in-Ok.ensures.none c.ask_any-told.ensures.asked.asks in
     let told = few_asked old new now c.args.request answer c.in-Ok.ensures.few asks in
     let left = ap (λ (a : ActList). a.left) c.in-Ok.ensures.acts in
     let room = c.push_came.ensures.left in
@@ -31,7 +31,7 @@ returns-clause-past c =
     let new = c.ask_any-told.new.self in
     let now = c.ask_any-told.new.outcomes.items in
     let answer = c.ask_any-told.result in
-    let asks = subst (λ (os : List Outcome). Asks old new os now q answer) c.in-Ok.ensures.none c.ask_any-told.ensures.asks in
+    let asks = subst (λ (os : List Outcome). Asks old new os now q answer) c.in-Ok.ensures.none c.ask_any-told.ensures.asked.asks in
     let begun : map act_of c.in-Ok.acts.acts ≡ Took q ∷ [] = ap (λ (a : ActList). map act_of a.acts) c.in-Ok.ensures.acts in
     let came : map act_of c.push_came.new.acts.acts ≡ taken_acts q answer
     = c.push_came.ensures.acts
@@ -42,4 +42,4 @@ returns-clause-past c =
     subst (Handles old new (Took q)) (sym acts) (asked_all old new now q answer c.in-Ok.ensures.few asks)
 
 pub returns-clause-holds : goal.returns-clause-holds
-returns-clause-holds c = keeps_sent c.args.self.now c.ask_any-told.new.self c.args.request _ c.ask_any-told.ensures.lanes (returns-clause-past c)
+returns-clause-holds c = keeps_sent c.args.self.now c.ask_any-told.new.self c.args.request _ c.ask_any-told.ensures.asked.lanes (returns-clause-past c)
