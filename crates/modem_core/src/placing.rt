@@ -68,8 +68,8 @@ impl Waiting {
     }
 
     /// The first line is offered to the listener of its kind, unless one of that kind was handed back
-    /// before. One that is handed back, or isn't offered, goes behind the others. Whether it was
-    /// announced.
+    /// before, as one is that nobody listens to. One that is handed back, or isn't offered, goes behind the others. Whether it
+    /// was announced.
     fn offer_line(&mut self, driver: &mut DriverEnd, held_up: &mut [bool; KIND_PLACES]) -> bool
         ensures offers { OffersFirst place_of (IsListenerOf driver.old.desk.kinds)
             (IsHeard driver.old.desk.kinds) (listener_rings driver.old) (listener_rings driver.new)
@@ -81,7 +81,7 @@ impl Waiting {
             return false;
         };
         let kind = line.kind.place();
-        if held_up[kind] || !driver.listens(line.kind) {
+        if held_up[kind] {
             self.lines.push_back_reserved(line);
             return false;
         }

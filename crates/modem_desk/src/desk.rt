@@ -136,19 +136,14 @@ fn add_callers(
 ) -> Result<Vec<Caller>, AllocError>
     requires { (callers ≤ 8) × (1 ≤ first) × (driver.old.desk.rings ≡ []) × (driver.old.told ≡ [])
         × (driver.old.free ≡ []) × (driver.old.told_back ≡ []) }
-    ensures driver { IfOk result (λ all. (driver.new.taken ≡ driver.old.taken)
-        × (driver.new.told ≡ replicate callers [])
-        × (driver.new.announced ≡ driver.old.announced)) }
-    ensures free { IfOk result (λ all. (driver.new.free ≡ replicate callers 8)
-        × (driver.new.free_lines ≡ driver.old.free_lines)) }
-    ensures back { IfOk result (λ all. (driver.new.told_back ≡ replicate callers 0)
-        × (driver.new.announced_back ≡ driver.old.announced_back)
-        × (driver.new.found_none ≡ driver.old.found_none)) }
-    ensures desk { IfOk result (λ all. (length driver.new.desk.rings ≡ callers)
-        × (driver.new.desk.kinds ≡ driver.old.desk.kinds)
-        × (driver.new.desk.line_rings ≡ driver.old.desk.line_rings)) }
-    ensures callers { IfOk result
-        (λ all. (length all.items ≡ callers) × AreNewCallers driver.new.desk first all.items) }
+    ensures same { IfOk result (λ all. driver.new ≡ record driver.old {
+      desk = record driver.old.desk { rings = driver.new.desk.rings };
+      told = replicate callers [];
+      free = replicate callers 8;
+      told_back = replicate callers 0;
+    }) }
+    ensures callers { IfOk result (λ all. (length driver.new.desk.rings ≡ callers)
+        × (length all.items ≡ callers) × AreNewCallers driver.new.desk first all.items) }
 {
     let mut all = Vec::new(alloc);
     for _ in 0..callers {
@@ -167,16 +162,12 @@ fn add_listeners(
 ) -> Result<Vec<Listener>, AllocError>
     requires { EachOnce kinds.now × (driver.old.desk.kinds ≡ []) × (driver.old.desk.line_rings ≡ [])
         × (driver.old.announced ≡ []) × (driver.old.free_lines ≡ []) × (driver.old.announced_back ≡ []) }
-    ensures driver { IfOk result (λ all. (driver.new.taken ≡ driver.old.taken)
-        × (driver.new.told ≡ driver.old.told)
-        × (driver.new.announced ≡ replicate (length kinds.now) [])) }
-    ensures free { IfOk result (λ all. (driver.new.free ≡ driver.old.free)
-        × (driver.new.free_lines ≡ replicate (length kinds.now) 256)) }
-    ensures back { IfOk result (λ all. (driver.new.told_back ≡ driver.old.told_back)
-        × (driver.new.announced_back ≡ replicate (length kinds.now) 0)
-        × (driver.new.found_none ≡ driver.old.found_none)) }
-    ensures desk { IfOk result (λ all. (driver.new.desk.queue ≡ driver.old.desk.queue)
-        × (driver.new.desk.rings ≡ driver.old.desk.rings) × (driver.new.desk.kinds ≡ kinds.now)) }
+    ensures same { IfOk result (λ all. driver.new ≡ record driver.old {
+      desk = record driver.old.desk { kinds = kinds.now; line_rings = driver.new.desk.line_rings };
+      announced = replicate (length kinds.now) [];
+      free_lines = replicate (length kinds.now) 256;
+      announced_back = replicate (length kinds.now) 0;
+    }) }
     ensures listeners { IfOk result (λ all. (length all.items ≡ length kinds.now)
         × AreNewListeners driver.new.desk all.items) }
 {

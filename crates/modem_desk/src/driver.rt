@@ -1,5 +1,5 @@
 //! The driver's end of the desk.
-ghost use Rattle.std.specs.Prelude.{◌≡◌, ◌↔◌, ℕ, ◌∷◌, [], ◌++◌, ◌<◌, ◌≤◌, map, IsOk, IfOk, IfErr, IfSome, IsTrue, Contains, length, min, ◌+◌, ◌-◌, ◌^◌, MatchOption, MatchResult, true, false, slice_set, slice_index_or};
+ghost use Rattle.std.specs.Prelude.{◌≡◌, ◌↔◌, ℕ, ◌∷◌, [], ◌++◌, ◌<◌, ◌≤◌, map, IsOk, IfOk, IfErr, IsTrue, Contains, length, min, ◌+◌, ◌-◌, ◌^◌, MatchOption, MatchResult, true, false, slice_set, slice_index_or};
 ghost use mathlib.Core.Option.{some};
 ghost use lib.ListN.{get_elem?};
 ghost use Rattle.modem_desk.specs.Ends.{Changes, RisesByOne};
@@ -154,16 +154,11 @@ impl DriverEnd {
         bell: Option<&Bell>,
     ) -> Result<Caller, AllocError>
         requires { (length self.old.desk.rings < 8) × (1 ≤ first) }
-        ensures driver { IfOk result (λ c. (self.new.taken ≡ self.old.taken) × (self.new.told ≡ self.old.told
-            ++ [] ∷ []) × (self.new.announced ≡ self.old.announced)) }
-        ensures free { IfOk result (λ c. (self.new.free ≡ self.old.free ++ 8 ∷ [])
-            × (self.new.free_lines ≡ self.old.free_lines)) }
-        ensures back { IfOk result (λ c. (self.new.told_back ≡ self.old.told_back ++ 0 ∷ [])
-            × (self.new.announced_back ≡ self.old.announced_back)
-            × (self.new.found_none ≡ self.old.found_none)) }
-        ensures desk { IfOk result (λ c. self.new.desk ≡ record self.old.desk {
-          rings = self.old.desk.rings
-              ++ c.place.ring ∷ [];
+        ensures same { IfOk result (λ c. self.new ≡ record self.old {
+          desk = record self.old.desk { rings = self.old.desk.rings ++ c.place.ring ∷ [] };
+          told = self.old.told ++ [] ∷ [];
+          free = self.old.free ++ 8 ∷ [];
+          told_back = self.old.told_back ++ 0 ∷ [];
         }) }
         ensures caller { IfOk result (λ c. (c.place.queue ≡ self.old.desk.queue)
             × (c.place.number ≡ length self.old.desk.rings) × (c.place.first ≡ first)
@@ -192,17 +187,14 @@ impl DriverEnd {
         bell: Option<&Bell>,
     ) -> Result<Listener, AllocError>
         requires { ¬ Contains self.old.desk.kinds kind }
-        ensures driver { IfOk result (λ l. (self.new.taken ≡ self.old.taken) × (self.new.told ≡ self.old.told)
-            × (self.new.announced ≡ self.old.announced ++ [] ∷ [])) }
-        ensures free { IfOk result (λ l. (self.new.free ≡ self.old.free)
-            × (self.new.free_lines ≡ self.old.free_lines ++ 256 ∷ [])) }
-        ensures back { IfOk result (λ l. (self.new.told_back ≡ self.old.told_back)
-            × (self.new.announced_back ≡ self.old.announced_back ++ 0 ∷ [])
-            × (self.new.found_none ≡ self.old.found_none)) }
-        ensures desk { IfOk result (λ l. self.new.desk ≡ record self.old.desk {
-          kinds = self.old.desk.kinds
-              ++ kind ∷ [];
-          line_rings = self.old.desk.line_rings ++ l.subscription.ring ∷ [];
+        ensures same { IfOk result (λ l. self.new ≡ record self.old {
+          desk = record self.old.desk {
+            kinds = self.old.desk.kinds ++ kind ∷ [];
+            line_rings = self.old.desk.line_rings ++ l.subscription.ring ∷ [];
+          };
+          announced = self.old.announced ++ [] ∷ [];
+          free_lines = self.old.free_lines ++ 256 ∷ [];
+          announced_back = self.old.announced_back ++ 0 ∷ [];
         }) }
         ensures listener { IfOk result (λ l. (l.subscription.place ≡ length self.old.desk.kinds)
             × (l.subscription.place ≡ length self.old.desk.line_rings) × (l.subscription.kind ≡ kind)
@@ -300,10 +292,11 @@ impl DriverEnd {
     /// while it knows of a free place.
     pub fn tell(&mut self, outcome: Outcome) -> Result<(), Outcome>
         requires { outcome.caller < length self.old.desk.rings }
-        ensures desk { (self.new.desk ≡ self.old.desk) × (self.new.taken ≡ self.old.taken)
-            × (self.new.announced ≡ self.old.announced) × (self.new.free_lines ≡ self.old.free_lines) }
-        ensures counts { (self.new.found_none ≡ self.old.found_none)
-            × (self.new.announced_back ≡ self.old.announced_back) }
+        ensures same { self.new ≡ record self.old {
+          told = self.new.told;
+          free = self.new.free;
+          told_back = self.new.told_back;
+        } }
         ensures counted { IfOk result (λ _. self.new.told_back ≡ self.old.told_back) }
         ensures back_counted { IfErr result
             (λ _. Changes (λ k. k ≡ outcome.caller) RisesByOne self.old.told_back self.new.told_back) }
@@ -326,13 +319,12 @@ impl DriverEnd {
     }
 
     /// Whether `announce` would hand a line of this kind back, since 256 wait for its listener. Then that is counted, as `announce`
-    /// counts it. No line is handed back where the desk has no listener for the kind.
+    /// counts it. It says no where the desk has no listener for the kind.
     pub fn hands_back(&mut self, kind: UrcKind) -> bool
-        ensures desk { (self.new.desk ≡ self.old.desk) × (self.new.taken ≡ self.old.taken)
-            × (self.new.told ≡ self.old.told) × (self.new.free ≡ self.old.free) }
-        ensures counts { (self.new.found_none ≡ self.old.found_none)
-            × (self.new.told_back ≡ self.old.told_back) }
-        ensures announced { self.new.announced ≡ self.old.announced }
+        ensures same { self.new ≡ record self.old {
+          free_lines = self.new.free_lines;
+          announced_back = self.new.announced_back;
+        } }
         ensures listened { result ≡ true → Contains self.old.desk.kinds kind }
         ensures full { result ≡ true
             → Changes (Hears self.old.desk.kinds kind) RunsOut self.old.free_lines self.new.free_lines }
@@ -350,14 +342,15 @@ impl DriverEnd {
         true
     }
 
-    /// Gives a line to the listener of its kind. Requires that there is one (`listens`). Hands it back if 256 wait for that
-    /// listener. It never does while it knows of a free place.
+    /// Gives a line to the listener of its kind. Hands it back if the desk has none (`listens`), or if 256 wait for that
+    /// listener. It never does while there is one and it knows of a free place.
     pub fn announce(&mut self, line: Urc) -> Result<(), Urc>
-        requires { Contains self.old.desk.kinds line.kind }
-        ensures desk { (self.new.desk ≡ self.old.desk) × (self.new.taken ≡ self.old.taken)
-            × (self.new.told ≡ self.old.told) × (self.new.free ≡ self.old.free) }
-        ensures counts { (self.new.found_none ≡ self.old.found_none)
-            × (self.new.told_back ≡ self.old.told_back) }
+        ensures same { self.new ≡ record self.old {
+          announced = self.new.announced;
+          free_lines = self.new.free_lines;
+          announced_back = self.new.announced_back;
+        } }
+        ensures heard { IfOk result (λ _. Contains self.old.desk.kinds line.kind) }
         ensures counted { IfOk result (λ _. self.new.announced_back ≡ self.old.announced_back) }
         ensures back_counted { IfErr result (λ _. Changes (Hears self.old.desk.kinds line.kind) RisesByOne
             self.old.announced_back self.new.announced_back) }
@@ -371,7 +364,9 @@ impl DriverEnd {
         ensures fits { (k : ℕ) → Hears self.old.desk.kinds line.kind k
             → 0 < slice_index_or self.old.free_lines k 0 → IsOk result }
     {
-        let place = place_in(&self.kinds, line.kind);
+        let Some(place) = find_place(&self.kinds, line.kind) else {
+            return Err(line);
+        };
         let ring = &mut self.lines[place];
         let Err(refused) = ring.push(line) else {
             return Ok(());
@@ -384,7 +379,7 @@ impl DriverEnd {
 
 // Where the kind stands in the list, if it does.
 fn find_place(kinds: &[UrcKind], kind: UrcKind) -> Option<usize>
-    ensures { IfSome result (λ place. get_elem? kinds.now place ≡ some kind) }
+    ensures { MatchOption result (¬ Contains kinds.now kind) (λ place. get_elem? kinds.now place ≡ some kind) }
 {
     for (place, known) in kinds.iter().enumerate() {
         if *known == kind {
@@ -401,17 +396,4 @@ fn count_one(counts: &mut Vec<u64>, place: usize)
     ensures long { length counts.new.items ≡ length counts.old.items }
 {
     counts[place] = counts[place].saturating_add(1);
-}
-
-// Where the kind stands in the list.
-fn place_in(kinds: &[UrcKind], kind: UrcKind) -> usize
-    requires { Contains kinds.now kind }
-    ensures { get_elem? kinds.now result ≡ some kind }
-{
-    for (place, known) in kinds.iter().enumerate() {
-        if *known == kind {
-            return place;
-        }
-    }
-    unreachable!()
 }

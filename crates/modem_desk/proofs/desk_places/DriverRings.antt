@@ -8,7 +8,9 @@ use Rattle.std.specs.declared.alloc.Global.{Global}
 use Rattle.rtrb.specs.Ring.{sent, known_free, SameProducer, IsPair}
 use Rattle.rtrb.specs.declared.producer.Producer.{Producer}
 use Rattle.rtrb.specs.declared.consumer.Consumer.{Consumer}
-use Rattle.modem_desk.specs.Ends.{Appends, Changes}
+use Rattle.modem_desk.specs.declared.request.Outcome.{Outcome}
+use Rattle.modem_desk.specs.declared.request.Urc.{Urc}
+use Rattle.modem_desk.specs.Ends.{Appends, Changes, DriverView}
 use Rattle.ring_id.specs.Rings.{RingId, ring_of_producer, ring_of_consumer}
 use Rattle.modem_desk.proofs.queue_rule.CallerPasses.{below_length}
 
@@ -85,3 +87,23 @@ module _ {T P : Type 0} where
             (subst (λ (x : ℕ × ℕ). how x.0 x.1) (λ j. (free_at ps i p old lt at was j, sym after j)) changed);
         others = λ k apart. ap (λ (l : List ℕ). get_or l k 0) e ∙ get_or-set_other old i k (known_free q) 0 (λ same. apart (subst place (sym same) here));
       }
+
+-- Where the callers' rings are the same ones, the driver's end is as before, but for what is told.
+pub rings_told : (old was : DriverView) (rings : List RingId) (told : List (List Outcome)) (free back : List ℕ) → was ≡ old → rings ≡ was.desk.rings
+    → record was { desk = record was.desk { rings = rings }; told = told; free = free; told_back = back } ≡ record old { told = told; free = free; told_back = back }
+rings_told old was rings told free back same e =
+    ap (λ (l : List RingId). record was { desk = record was.desk { rings = l }; told = told; free = free; told_back = back }) e ∙ ap (λ (v : DriverView). record v { told = told; free = free; told_back = back }) same
+
+-- The same of the listeners' rings and of what is announced.
+pub rings_announced : (old was : DriverView) (rings : List RingId) (announced : List (List Urc)) (free back : List ℕ) → was ≡ old → rings ≡ was.desk.line_rings
+    → record was { desk = record was.desk { line_rings = rings }; announced = announced; free_lines = free; announced_back = back }
+    ≡ record old { announced = announced; free_lines = free; announced_back = back }
+rings_announced old was rings announced free back same e =
+    ap (λ (l : List RingId). record was { desk = record was.desk { line_rings = l }; announced = announced; free_lines = free; announced_back = back }) e
+    ∙ ap (λ (v : DriverView). record v { announced = announced; free_lines = free; announced_back = back }) same
+
+-- The same where nothing more is announced.
+pub rings_looked_at : (old was : DriverView) (rings : List RingId) (announced : List (List Urc)) (free back : List ℕ) → was ≡ old → rings ≡ was.desk.line_rings → announced ≡ was.announced
+    → record was { desk = record was.desk { line_rings = rings }; announced = announced; free_lines = free; announced_back = back } ≡ record old { free_lines = free; announced_back = back }
+rings_looked_at old was rings announced free back same e a =
+    rings_announced old was rings announced free back same e ∙ ap (λ (l : List (List Urc)). record old { announced = l; free_lines = free; announced_back = back }) (a ∙ ap (λ (v : DriverView). v.announced) same)

@@ -8,7 +8,7 @@ use lib.ListN.{get_elem?}
 use Rattle.at_text.specs.declared.unsolicited.UrcKind.{UrcKind}
 use Rattle.at_text.specs.Kinds.{is_same_kind}
 use Rattle.at_text.proofs.SameKinds.{same_place, same_itself}
-use Rattle.modem_desk.specs.Ends.{EachOnce, Appends, Changes, Announces}
+use Rattle.modem_desk.specs.Ends.{EachOnce, Appends, Changes, Announces, Hears}
 use Rattle.modem_desk.specs.declared.request.Urc.{Urc}
 use Rattle.modem_desk.proofs.queue_rule.CallerPasses.{at_end}
 
@@ -36,6 +36,10 @@ module _ {A : Type 0} where
   or_at [] i a d e = absurd (some-ne-none a (sym e))
   or_at (x ∷ l) zero a d e = (omega arith, some-injective x a e)
   or_at (x ∷ l) (suc i) a d e = let r = or_at l i a d e in let lt : i < length l = r.0 in (omega arith, r.1)
+
+-- a kind that is found at an index is in the list
+pub contains_at : (ks : List UrcKind) (i : ℕ) (k : UrcKind) → get_elem? ks i ≡ some k → Contains ks k
+contains_at ks i k e = let r = or_at ks i k k e in (i, r.0, r.1)
 
 -- a kind that stands once stands at one place
 pub one_place : (ks : List UrcKind) (i j : ℕ) (k : UrcKind) → EachOnce ks → get_elem? ks i ≡ some k → get_elem? ks j ≡ some k → i ≡ j
@@ -79,3 +83,7 @@ announces kinds i line old new once at more =
 -- a change at one place, said of what holds at that place alone
 pub changes_where : (at : ℕ → Type 0) (how : ℕ → ℕ → Type 0) (i : ℕ) (old new : List ℕ) → ((k : ℕ) → at k → k ≡ i) → at i → Changes (λ k. k ≡ i) how old new → Changes at how old new
 changes_where at how i old new one here c = record { here = λ k a. c.here k (one k a); others = λ k apart. c.others k (λ e. apart (subst at (sym e) here)) }
+
+-- where nobody listens to a kind, nothing of its listeners changes
+pub none_changes : (kinds : List UrcKind) (kind : UrcKind) (how : ℕ → ℕ → Type 0) (old : List ℕ) → ¬ Contains kinds kind → Changes (Hears kinds kind) how old old
+none_changes kinds kind how old none = record { here = λ k at. absurd (none (contains_at kinds k kind at)); others = λ k apart. refl }

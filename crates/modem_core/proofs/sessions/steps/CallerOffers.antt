@@ -5,7 +5,7 @@ use Rattle.std.specs.Prelude.{◌≡◌, ◌≢◌, ℕ, ◌+◌, ◌-◌, ◌<�
 use Rattle.modem_desk.specs.declared.request.Outcome.{Outcome}
 use Rattle.modem_desk.specs.Ends.{DriverView, DeskId, Appends, Changes, FallsByOne, RunsOut, RisesByOne}
 use Rattle.modem_history.specs.Sessions.{at_place}
-use Rattle.modem_core.specs.Placing.{Placed, OneFewer, OffersFirst, TellsAlone, caller_of, IsRingOf, IsCaller, caller_rings}
+use Rattle.modem_core.specs.Placing.{Placed, OneFewer, OffersFirst, TellsAlone, caller_of, IsRingOf, IsCaller, caller_rings, listener_rings}
 use Rattle.modem_core.proofs.sessions.steps.FirstOffers.{either, none_held, AreApart, GivesOne, FillsUp, placing_first, placed_last}
 
 -- ## Rings of callers
@@ -34,6 +34,15 @@ ring_given o now later a c back = record {
 -- a ring that handed one back is known to have no free place, and counts it
 pub ring_full : (n : ℕ) (free freer back backer : List ℕ) → Changes (λ k. k ≡ n) RunsOut free freer → Changes (λ k. k ≡ n) RisesByOne back backer → FillsUp IsRingOf n free freer back backer
 ring_full n free freer back backer c e = record { here = c.here; others = c.others; counts = e.here; count_others = e.others }
+
+-- telling changes nothing else
+pub told_alone : (now later : DriverView) → later ≡ record now { told = later.told; free = later.free; told_back = later.told_back } → TellsAlone now later
+told_alone now later same = record {
+  desk = ap (λ (v : DriverView). v.desk) same;
+  taken = ap (λ (v : DriverView). v.taken) same;
+  found_none = ap (λ (v : DriverView). v.found_none) same;
+  listeners = ap listener_rings same;
+}
 
 -- ## One after the other
 

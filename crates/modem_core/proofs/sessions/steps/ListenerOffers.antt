@@ -2,14 +2,14 @@
 use Rattle.std.proofs.Common.{ap, sym, ◌∙◌, subst, arith, inl, inr, ⊎_elim}
 use Rattle.std.proofs.lemmas.Bool.{eq-eqb}
 use Rattle.std.proofs.lemmas.Bool.Decides.{eqb_tells}
-use Rattle.std.specs.Prelude.{◌≡◌, ◌≢◌, ℕ, zero, suc, ◌+◌, ◌-◌, ◌<◌, ◌==◌, ◌||◌, ◌⊎◌, Bool, true, false, List, [], ◌∷◌, length, refl, replicate, take, drop, ◌++◌, slice_index_or, Contains, IsTrue, ◌↔◌}
+use Rattle.std.specs.Prelude.{◌≡◌, ◌≢◌, ℕ, zero, suc, ◌+◌, ◌-◌, ◌<◌, ◌==◌, ◌||◌, ◌⊎◌, Bool, true, false, List, [], ◌∷◌, length, refl, replicate, take, drop, ◌++◌, slice_index_or, Contains}
 use lib.ListN.{get_elem?}
 use mathlib.Core.Option.{some, some-injective, some-ne-none}
 use Rattle.at_text.specs.declared.unsolicited.UrcKind.{UrcKind}
 use Rattle.modem_desk.specs.declared.request.Urc.{Urc}
 use Rattle.modem_desk.specs.Ends.{DriverView, DeskId, Announces, Changes, FallsByOne, RunsOut, RisesByOne, Hears}
 use Rattle.at_text.specs.Kinds.{kind_place}
-use Rattle.modem_core.specs.Placing.{LeavesAll, Placed, OneFewer, OffersFirst, AnnouncesAlone, IsListenerOf, IsHeard, listener_rings}
+use Rattle.modem_core.specs.Placing.{LeavesAll, Placed, OneFewer, OffersFirst, AnnouncesAlone, IsListenerOf, IsHeard, caller_rings, listener_rings}
 use Rattle.modem_queues.specs.LineQueues.{of_key, place_of}
 use Rattle.at_text.proofs.SameKinds.{same_place}
 use Rattle.modem_core.proofs.sessions.steps.FirstOffers.{either, none_held, AreApart, GivesOne, FillsUp, placing_first, placed_early, placed_last}
@@ -74,17 +74,23 @@ listener_full ks k free freer back backer c e = record {
   count_others = λ i o. e.others i (λ h. o (subscription_at ks k i h));
 }
 
--- a kind that is listened to
-pub heard_kind : (ks : List UrcKind) (k : UrcKind) → IsHeard ks (kind_place k) → Contains ks k
-heard_kind ks k h = subst (Contains ks) (same_kind h.kind k h.is_place) h.listened
+-- announcing changes nothing else
+pub announced_alone : (now later : DriverView) → later ≡ record now { announced = later.announced; free_lines = later.free_lines; announced_back = later.announced_back } → AnnouncesAlone now later
+announced_alone now later same = record {
+  desk = ap (λ (v : DriverView). v.desk) same;
+  taken = ap (λ (v : DriverView). v.taken) same;
+  found_none = ap (λ (v : DriverView). v.found_none) same;
+  callers = ap caller_rings same;
+}
 
-is_false : (r : Bool) → r ≡ false → r ≡ true → ⊥
-is_false true e h = cc
-is_false false e h = cc
-
--- a kind that nobody listens to isn't heard
-pub not_heard : (ks : List UrcKind) (k : UrcKind) (r : Bool) → IsTrue r ↔ Contains ks k → r ≡ false → IsHeard ks (kind_place k) → ⊥
-not_heard ks k r both e h = is_false r e (both.1 (heard_kind ks k h))
+-- looking at a ring changes less
+pub looked_alone : (now later : DriverView) → later ≡ record now { free_lines = later.free_lines; announced_back = later.announced_back } → AnnouncesAlone now later
+looked_alone now later same = record {
+  desk = ap (λ (v : DriverView). v.desk) same;
+  taken = ap (λ (v : DriverView). v.taken) same;
+  found_none = ap (λ (v : DriverView). v.found_none) same;
+  callers = ap caller_rings same;
+}
 
 -- ## One after the other
 

@@ -5,7 +5,7 @@ use Rattle.modem_desk.specs.declared.request.Outcome.{Outcome}
 use Rattle.modem_core.specs.Placing.{OffersFirst, caller_of, Rings, IsRingOf, IsCaller, caller_rings}
 use Rattle.modem_core.specs.WaitingLists.{WaitingLists}
 use Rattle.modem_core.proofs.sessions.steps.FirstOffers.{offers_given, offers_back, offers_passed, offers_none}
-use Rattle.modem_core.proofs.sessions.steps.CallerOffers.{rings_apart, ring_given, ring_full}
+use Rattle.modem_core.proofs.sessions.steps.CallerOffers.{rings_apart, ring_given, ring_full, told_alone}
 use Rattle.modem_core.proofs.waiting.Waiting.offer_outcome.Goals as goal
 use Rattle.modem_core.proofs.waiting.Waiting.offer_outcome.Goals.{then-held_up-caller-via-then-held_up-caller, then-held_up-caller-via-else-held_up-caller+then-outcome-callers}
 
@@ -60,3 +60,9 @@ returns-clause-offers c =
     (subst (λ (n : ℕ). OffersFirst caller_of IsRingOf (IsCaller d.desk) (caller_rings d) (after d.told) held (slice_set held n true) c.args.self.now.outcomes c.push_back_reserved-2.new.self.items false) (sym c.from-caller.ensures)
     (offers_back caller_of IsRingOf (IsCaller d.desk) (caller_rings d) e.free e.told_back held c.args.self.now.outcomes c.pop_front.new.self.items c.push_back_reserved-2.new.self.items o first back rings_apart
     (ring_full o.caller d.free e.free d.told_back e.told_back c.in-Err.ensures.full c.in-Err.ensures.back_counted) (omega arith) way))
+
+pub returns-in_default-tell-clause-alone : goal.returns-in_default-tell-clause-alone
+returns-in_default-tell-clause-alone c = told_alone _ _ c.tell.ensures.same
+
+pub returns-clause-alone : goal.returns-clause-alone
+returns-clause-alone c = told_alone _ _ c.tell.ensures.same

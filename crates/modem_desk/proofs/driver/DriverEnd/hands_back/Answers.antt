@@ -1,37 +1,28 @@
 -- The ring was looked at, and nothing was pushed.
-use Rattle.std.proofs.Common.{ℕ, ◌≡◌, ap, ◌∙◌, ◌<◌, List, length, map, subst, arith}
+use Rattle.std.proofs.Common.{ℕ, ◌≡◌, ap, ◌∙◌, ◌<◌, List, length, subst, arith}
 use mathlib.Core.Option.{some}
 use lib.ListN.{get_elem?}
-use Rattle.modem_desk.specs.Ends.{Changes, DriverView, DeskId, RunsOut, RisesByOne, Hears, EachOnce}
-use Rattle.ring_id.specs.Rings.{RingId, ring_of_producer}
-use Rattle.modem_desk.proofs.desk_places.DriverRings.{same_rings, sent_same, free_changes}
-use Rattle.modem_desk.proofs.desk_places.KindPlaces.{or_at, one_place, changes_where}
+use Rattle.modem_desk.specs.Ends.{Changes, DriverView, RunsOut, RisesByOne, Hears, EachOnce}
+use Rattle.modem_desk.proofs.desk_places.DriverRings.{same_rings, rings_looked_at, sent_same, free_changes}
+use Rattle.modem_desk.proofs.desk_places.KindPlaces.{contains_at, or_at, one_place, changes_where}
 use Rattle.modem_desk.proofs.driver.DriverEnd.hands_back.Goals as goal
+
+pub returns-clause-same : goal.returns-clause-same
+returns-clause-same c =
+    let rings = same_rings c.self.inside.lines.items c.in-Some.place c.index_mut.result.now c.is_full.new.self c.index_mut.ensures.value c.is_full.ensures.looked.0 in
+    let announced = sent_same c.self.inside.lines.items c.in-Some.place c.index_mut.result.now c.is_full.new.self c.index_mut.ensures.value c.is_full.ensures.looked.1 in
+    rings_looked_at _ _ _ _ _ _ c.self.view_is rings announced
+
+pub returns-then-not-is_full-clause-same : goal.returns-then-not-is_full-clause-same
+returns-then-not-is_full-clause-same c =
+    let rings = same_rings c.self.inside.lines.items c.in-Some.place c.index_mut.result.now c.is_full.new.self c.index_mut.ensures.value c.is_full.ensures.looked.0 in
+    let announced = sent_same c.self.inside.lines.items c.in-Some.place c.index_mut.result.now c.is_full.new.self c.index_mut.ensures.value c.is_full.ensures.looked.1 in
+    rings_looked_at _ _ _ _ _ _ c.self.view_is rings announced
 
 pub index_mut-requires : goal.index_mut-requires
 index_mut-requires c =
     let lt = (or_at c.deref.result.now c.in-Some.place c.args.kind c.args.kind c.in-Some.ensures).0 in
     let e = c.deref.ensures.len in let same = c.self.invariant.4 in omega arith
-
-pub returns-then-not-is_full-clause-desk : goal.returns-then-not-is_full-clause-desk
-returns-then-not-is_full-clause-desk c =
-    let was = c.self.view_is in
-    let rings = same_rings c.self.inside.lines.items c.in-Some.place c.index_mut.result.now c.is_full.new.self c.index_mut.ensures.value c.is_full.ensures.looked.0 in
-    (ap (λ (l : List RingId). let d : DeskId = record { queue = c.self.inside.pass.table_id; rings = map ring_of_producer c.self.inside.rings.items; kinds = c.self.inside.kinds.items; line_rings = l } in d) rings ∙ ap (λ (v : DriverView). v.desk) was, ap (λ (v : DriverView). v.taken) was, ap (λ (v : DriverView). v.told) was, ap (λ (v : DriverView). v.free) was)
-
-pub returns-clause-desk : goal.returns-clause-desk
-returns-clause-desk c =
-    let was = c.self.view_is in
-    let rings = same_rings c.self.inside.lines.items c.in-Some.place c.index_mut.result.now c.is_full.new.self c.index_mut.ensures.value c.is_full.ensures.looked.0 in
-    (ap (λ (l : List RingId). let d : DeskId = record { queue = c.self.inside.pass.table_id; rings = map ring_of_producer c.self.inside.rings.items; kinds = c.self.inside.kinds.items; line_rings = l } in d) rings ∙ ap (λ (v : DriverView). v.desk) was, ap (λ (v : DriverView). v.taken) was, ap (λ (v : DriverView). v.told) was, ap (λ (v : DriverView). v.free) was)
-
-pub returns-then-not-is_full-clause-announced : goal.returns-then-not-is_full-clause-announced
-returns-then-not-is_full-clause-announced c =
-    sent_same c.self.inside.lines.items c.in-Some.place c.index_mut.result.now c.is_full.new.self c.index_mut.ensures.value c.is_full.ensures.looked.1 ∙ ap (λ (v : DriverView). v.announced) c.self.view_is
-
-pub returns-clause-announced : goal.returns-clause-announced
-returns-clause-announced c =
-    sent_same c.self.inside.lines.items c.in-Some.place c.index_mut.result.now c.is_full.new.self c.index_mut.ensures.value c.is_full.ensures.looked.1 ∙ ap (λ (v : DriverView). v.announced) c.self.view_is
 
 pub count_one-requires : goal.count_one-requires
 count_one-requires c =
@@ -42,8 +33,7 @@ pub returns-clause-listened : goal.returns-clause-listened
 returns-clause-listened c _ =
     let kinds : c.deref.result.now ≡ c.args.self.now.desk.kinds = c.deref.ensures.value ∙ ap (λ (v : DriverView). v.desk.kinds) c.self.view_is in
     let here : get_elem? c.args.self.now.desk.kinds c.in-Some.place ≡ some c.args.kind = subst (λ ks. get_elem? ks c.in-Some.place ≡ some c.args.kind) kinds c.in-Some.ensures in
-    let at = or_at c.args.self.now.desk.kinds c.in-Some.place c.args.kind c.args.kind here in
-    (c.in-Some.place, at.0, at.1)
+    contains_at c.args.self.now.desk.kinds c.in-Some.place c.args.kind here
 
 pub returns-clause-full : goal.returns-clause-full
 returns-clause-full c _ =

@@ -1,21 +1,14 @@
-use Rattle.std.proofs.Common.{rules, ℕ, arith, ◌≡◌, refl, ap, ◌∙◌, ◌<◌, List, length, map, subst, sym}
+use Rattle.std.proofs.Common.{rules, ℕ, arith, ◌≡◌, refl, ap, ◌∙◌, ◌<◌, List, length, subst, sym}
 use Rattle.std.proofs.lemmas.List.{length-map}
-use Rattle.modem_desk.specs.Ends.{DriverView, DeskId, FallsByOne, RisesByOne, RunsOut, Changes}
-use Rattle.ring_id.specs.Rings.{RingId, ring_of_producer}
-use Rattle.modem_desk.proofs.desk_places.DriverRings.{same_rings, sent_appends, sent_same, free_at, free_changes}
+use Rattle.modem_desk.specs.Ends.{DriverView, FallsByOne, RisesByOne, RunsOut, Changes}
+use Rattle.modem_desk.proofs.desk_places.DriverRings.{same_rings, rings_told, sent_appends, sent_same, free_at, free_changes}
 use Rattle.modem_desk.proofs.driver.DriverEnd.tell.Goals as goal
 
-pub returns-in_default-clause-desk : goal.returns-in_default-clause-desk
-returns-in_default-clause-desk c =
-    let was = c.self.view_is in
-    let rings = same_rings c.self.inside.rings.items c.args.outcome.caller c.index_mut-ring.result.now c.push.new.self c.index_mut-ring.ensures.value c.push.ensures.ring in
-    (ap (λ (l : List RingId). let d : DeskId = record { queue = c.self.inside.pass.table_id; rings = l; kinds = c.self.inside.kinds.items; line_rings = map ring_of_producer c.self.inside.lines.items } in d) rings ∙ ap (λ (v : DriverView). v.desk) was, ap (λ (v : DriverView). v.taken) was, ap (λ (v : DriverView). v.announced) was, ap (λ (v : DriverView). v.free_lines) was)
+pub returns-clause-same : goal.returns-clause-same
+returns-clause-same c = rings_told _ _ _ _ _ _ c.self.view_is (same_rings c.self.inside.rings.items c.args.outcome.caller c.index_mut-ring.result.now c.push.new.self c.index_mut-ring.ensures.value c.push.ensures.ring)
 
-pub returns-clause-desk : goal.returns-clause-desk
-returns-clause-desk c =
-    let was = c.self.view_is in
-    let rings = same_rings c.self.inside.rings.items c.args.outcome.caller c.index_mut-ring.result.now c.push.new.self c.index_mut-ring.ensures.value c.push.ensures.ring in
-    (ap (λ (l : List RingId). let d : DeskId = record { queue = c.self.inside.pass.table_id; rings = l; kinds = c.self.inside.kinds.items; line_rings = map ring_of_producer c.self.inside.lines.items } in d) rings ∙ ap (λ (v : DriverView). v.desk) was, ap (λ (v : DriverView). v.taken) was, ap (λ (v : DriverView). v.announced) was, ap (λ (v : DriverView). v.free_lines) was)
+pub returns-in_default-clause-same : goal.returns-in_default-clause-same
+returns-in_default-clause-same c = rings_told _ _ _ _ _ _ c.self.view_is (same_rings c.self.inside.rings.items c.args.outcome.caller c.index_mut-ring.result.now c.push.new.self c.index_mut-ring.ensures.value c.push.ensures.ring)
 
 pub returns-in_default-clause-told : goal.returns-in_default-clause-told
 returns-in_default-clause-told c =
