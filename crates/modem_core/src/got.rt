@@ -149,21 +149,31 @@ impl Core {
         Ok(acts.into_vec())
     }
 
-    /// Whether the control queue has room for all that the frame calls for: after a loss of the line that is nothing.
+    /// Whether the control queue has room for all that the frame calls for. The condition is that the line isn't lost.
+    fn has_live_room(&self, frame: FrameView<'_>) -> bool
+        requires live { self.now.lost ≡ false }
+        requires short { length frame.info.now ≤ most_info self.now.station.n1 frame.kind }
+        ensures room { HasRoom self.now (Got (frame_of frame.entry)) result }
+        ensures never_full { result ≡ false → ¬ CoreIsIdle self.now }
+        ensures by_station { result ≡ have_room self.now.station.n1 (octets_of self.now.station.queue)
+            (by_frame self.now.station.role (seen_in self.now.station).state (frame_of frame.entry)) }
+    {
+        self.station.has_room_for(frame)
+    }
+
+    /// The same, where the line may be lost: then the frame calls for nothing.
     fn has_room_for(&self, frame: FrameView<'_>) -> bool
         requires short { length frame.info.now ≤ most_info self.now.station.n1 frame.kind }
         ensures room { HasRoom self.now (Got (frame_of frame.entry)) result }
         ensures never_full { result ≡ false → ¬ CoreIsIdle self.now }
-        ensures by_station { self.now.lost ≡ false → result ≡ have_room self.now.station.n1 (octets_of self.now.station.queue)
-            (by_frame self.now.station.role (seen_in self.now.station).state (frame_of frame.entry)) }
     {
         if self.lost {
             return true;
         }
-        self.station.has_room_for(frame)
+        self.has_live_room(frame)
     }
 
-    /// The same, without a copy of the frame. What it calls for waits in the control queue, and what it tells behind the
+    /// As `got_other`, without a copy of the frame. What it calls for waits in the control queue, and what it tells behind the
     /// outcomes that wait, so it takes no memory. Says whether the Stop that was in hand has ended by it. Gives nothing
     /// where the control queue has no room for what it calls for: nothing changes then.
     pub(crate) fn do_other(
@@ -187,11 +197,11 @@ impl Core {
         ensures never_full { IfNone result (¬ CoreIsIdle self.old) }
         ensures room { 128 ≤ deque_capacity told.new }
     {
-        if !self.has_room_for(frame) {
-            return None;
-        }
         if self.lost {
             return Some(false);
+        }
+        if !self.has_live_room(frame) {
+            return None;
         }
         let before = self.station.state(Dlci::CONTROL);
         let noted = take(&mut self.station, frame);

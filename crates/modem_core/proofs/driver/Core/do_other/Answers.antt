@@ -17,21 +17,24 @@ use Rattle.modem_core.specs.Cores as cores
 use Rattle.modem_core.specs.Cores.{Core, Handles, state_shown}
 use Rattle.modem_core.specs.Telling.{told_by, told_to, left_by}
 use Rattle.modem_core.specs.Receiving.{HasRoom, sent_in, answer_room, afresh_if, brings_data}
+use Rattle.modem_core.proofs.cores.FramesAfterLoss.{lost_room}
 use Rattle.modem_core.proofs.holds.HoldsAndFrames.{other_holds}
 use Rattle.modem_core.proofs.outgoing.CoreAfterFrame.{sound}
 use Rattle.modem_core.proofs.frames.OtherFrames.{OtherCame, other_queues, other_since, unread_live}
 use Rattle.modem_core.proofs.driver.Core.do_other.Goals as goal
 
+pub has_live_room-requires-clause-live : goal.has_live_room-requires-clause-live
+has_live_room-requires-clause-live c = ap (λ (v : Core). v.lost) (sym c.self.view_is) ∙ c.if-self.false
+
 pub take-noted-requires-clause-room : goal.take-noted-requires-clause-room
 take-noted-requires-clause-room c =
     let f = frame_of c.args.frame in
-    let live : c.args.self.now.lost ≡ false = ap (λ (v : Core). v.lost) (sym c.self.view_is) ∙ c.if-self.false in
     subst (λ (v : Core). have_room v.station.n1 (octets_of v.station.queue) (by_frame v.station.role (seen_in v.station).state f) ≡ true) (sym c.self.view_is)
-    (sym (c.has_room_for.ensures.by_station live) ∙ c.if-not-has_room_for.false)
+    (sym c.has_live_room.ensures.by_station ∙ c.if-not-has_live_room.false)
 
-pub returns-then-not-has_room_for-clause-no_room : goal.returns-then-not-has_room_for-clause-no_room
-returns-then-not-has_room_for-clause-no_room c =
-    subst (λ (b : Bool). HasRoom c.args.self.now (Got (frame_of c.args.frame)) b) c.if-not-has_room_for.true c.has_room_for.ensures.room
+pub returns-then-not-has_live_room-clause-no_room : goal.returns-then-not-has_live_room-clause-no_room
+returns-then-not-has_live_room-clause-no_room c =
+    subst (λ (b : Bool). HasRoom c.args.self.now (Got (frame_of c.args.frame)) b) c.if-not-has_live_room.true c.has_live_room.ensures.room
 
 pub returns-then-self-clause-does : goal.returns-then-self-clause-does
 returns-then-self-clause-does c =
@@ -43,8 +46,7 @@ returns-then-self-clause-queues c =
     none_queued 1 (answer_room f) c.args.self.now c.args.self.now (Got f) refl
 
 pub returns-then-self-clause-has_room : goal.returns-then-self-clause-has_room
-returns-then-self-clause-has_room c =
-    subst (λ (b : Bool). HasRoom c.args.self.now (Got (frame_of c.args.frame)) b) c.if-not-has_room_for.false c.has_room_for.ensures.room
+returns-then-self-clause-has_room c = lost_room c.args.self.now (frame_of c.args.frame) (ap (λ (v : Core). v.lost) (sym c.self.view_is) ∙ c.if-self.true)
 
 pub returns-clause-does : goal.returns-clause-does
 returns-clause-does c =
@@ -91,7 +93,7 @@ returns-clause-does c =
 
 pub returns-clause-has_room : goal.returns-clause-has_room
 returns-clause-has_room c =
-    subst (λ (b : Bool). HasRoom c.args.self.now (Got (frame_of c.args.frame)) b) c.if-not-has_room_for.false c.has_room_for.ensures.room
+    subst (λ (b : Bool). HasRoom c.args.self.now (Got (frame_of c.args.frame)) b) c.if-not-has_live_room.false c.has_live_room.ensures.room
 
 pub returns-clause-queues : goal.returns-clause-queues
 returns-clause-queues c =
