@@ -176,6 +176,7 @@ impl Core {
     /// As `got_other`, without a copy of the frame. What it calls for waits in the control queue, and what it tells behind the
     /// outcomes that wait, so it takes no memory. Says whether the Stop that was in hand has ended by it. Gives nothing
     /// where the control queue has no room for what it calls for: nothing changes then.
+    #[inline(never)]
     pub(crate) fn do_other(
         &mut self,
         frame: FrameView<'_>,

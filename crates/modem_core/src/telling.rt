@@ -119,6 +119,7 @@ fn ends_for(stop: Option<Asker>, outcome: &Outcome) -> bool
     }
 }
 
+#[inline(always)]
 /// Puts an outcome behind those that wait, where those are fewer than 128.
 pub(crate) fn put_told(told: &mut VecDeque<Outcome>, outcome: Outcome)
     requires { 128 ≤ deque_capacity told.old }
