@@ -135,11 +135,13 @@ impl Hand {
         ensures items { self.new ≡ remove self.old place }
         ensures len { length self.new + 1 ≡ length self.old }
     {
+        let len = self.len();
         move_up(&mut self.starts, place as u8);
-        if place > 0 {
+        if place > len / 2 {
             return self.requests.remove(self.gone + place);
         }
         let first = self.gone;
+        bring_first(&mut self.requests, first, place);
         self.gone += 1;
         mem::replace(&mut self.requests[first], left())
     }
@@ -178,6 +180,35 @@ fn close_up(requests: &mut Vec<Request>, gone: &mut usize)
 {
     requests.drain(..*gone);
     *gone = 0;
+}
+
+#[inline(never)]
+/// The one at a place comes before those that stand before it.
+#[tactic(auto, using(crate::proofs::lists::CommandPlaces::brought_front))]
+fn bring_front(requests: &mut [Request], place: usize)
+    requires { place < length requests.old }
+    ensures len { length requests.new ≡ length requests.old }
+    ensures front { (other : Request) → requests.new ≡ slice_index_or requests.old place other ∷ remove requests.old place }
+{
+    let (front, _) = requests.split_at_mut(place + 1);
+    front.rotate_right(1);
+}
+
+#[inline(always)]
+/// The same behind the first ones, which have left.
+#[tactic(auto, using(crate::proofs::lists::CommandPlaces::is_in_front))]
+fn bring_first(requests: &mut Vec<Request>, gone: usize, place: usize)
+    requires { gone + place < vec_len requests.old }
+    ensures len { vec_len requests.new ≡ vec_len requests.old }
+    ensures front { (other : Request) → drop gone requests.new.items
+        ≡ slice_index_or (drop gone requests.old.items) place other ∷ remove (drop gone requests.old.items) place }
+    ensures room { vec_capacity requests.new ≡ vec_capacity requests.old }
+{
+    if place == 0 {
+        return;
+    }
+    let (_, there) = requests.as_mut_slice().split_at_mut(gone);
+    bring_front(there, place);
 }
 
 /// Makes a place for one more where there is none, since the first ones have left.

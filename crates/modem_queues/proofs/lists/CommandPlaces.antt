@@ -218,6 +218,32 @@ first_left n m x qs e inside = ap (λ (k : ℕ). drop k (slice_set qs n x)) (let
     at zero (q ∷ qs) l = refl
     at (suc n) (q ∷ qs) l = at n qs (omega (arith, l))
 
+-- the one at a place alone
+one_there : (xs : List Request) (p : ℕ) (d : Request) → p < length xs → drop p (take (suc p) xs) ≡ slice_index_or xs p d ∷ []
+one_there [] p d l = let x : ⊥ = omega (arith, l) in absurd x
+one_there (x ∷ xs) zero d l = refl
+one_there (x ∷ xs) (suc p) d l = one_there xs p d (omega (arith, l))
+
+before_it : (xs : List Request) (p : ℕ) → take p (take (suc p) xs) ≡ take p xs
+before_it [] zero = refl
+before_it [] (suc p) = refl
+before_it (x ∷ xs) zero = refl
+before_it (x ∷ xs) (suc p) = ap (λ (ys : List Request). x ∷ ys) (before_it xs p)
+
+-- the one at a place comes before the others once those up to it are turned by one
+pub brought_front : (xs : List Request) (p n : ℕ) (d : Request) → p < length xs → n ≡ p + 1 → (drop p (take n xs) ++ take p (take n xs)) ++ drop n xs ≡ slice_index_or xs p d ∷ remove xs p
+brought_front xs p n d l e =
+    let is : n ≡ suc p = omega (arith, e) in
+    ap (λ (m : ℕ). (drop p (take m xs) ++ take p (take m xs)) ++ drop m xs) is
+    ∙ (ap (λ (ys : List Request). (ys ++ take p (take (suc p) xs)) ++ drop (suc p) xs) (one_there xs p d l)
+    ∙ ap (λ (ys : List Request). slice_index_or xs p d ∷ (ys ++ drop (suc p) xs)) (before_it xs p))
+
+-- the first of those behind so many stands before the others
+pub is_in_front : (xs : List Request) (n : ℕ) (d : Request) → n < length xs → drop n xs ≡ slice_index_or (drop n xs) 0 d ∷ remove (drop n xs) 0
+is_in_front [] n d l = let x : ⊥ = omega (arith, l) in absurd x
+is_in_front (x ∷ xs) zero d l = refl
+is_in_front (x ∷ xs) (suc n) d l = is_in_front xs n d (omega (arith, l))
+
 -- ## All places, one after the other
 
 -- once the place at i is changed too, changing the rest comes to the same
