@@ -4,12 +4,12 @@
 //! wait. A reader and a writer that answer `WouldBlock` instead, such as those of `device_line`, don't wait either. A terminal
 //! set to `min 0 time 1` does wait: each read that finds nothing takes a tenth of a second, and a command was measured to take
 //! 400 ms. For a terminal use the line of `device_line`.
-ghost use Rattle.std.specs.Prelude.{◌≡◌, ◌+◌, ◌<◌, ◌≤◌, ◌++◌, ◌⊎◌, [], true, false, take, length, IfOk, Ok, OnErr, MatchResult};
+ghost use Rattle.std.specs.Prelude.{◌≡◌, ◌+◌, ◌<◌, ◌≤◌, ◌++◌, ◌⊎◌, [], true, false, take, length, IfOk, Ok, OnErr, MatchResult, IfErr};
 ghost use Rattle.std.specs.IoError.{error_kind};
 ghost use Rattle.std.specs.Io.KnownBytes.{Keeps, Consumes, Appends, IsAtEnd};
 ghost use Rattle.serial_line.specs.Counts.{one_more, counted_if_none};
 ghost use Rattle.serial_line.specs.OtherSide.{unknown_side};
-ghost use Rattle.serial_line.specs.StreamLine.{new_stream, stream_view, is_passing, IsRefused};
+ghost use Rattle.serial_line.specs.StreamLine.{new_stream, stream_view, is_passing, ComesOfError, CountsRefusal, IsRefused};
 ghost use Rattle.serial_line.specs.declared.stream_line.ZeroRead.TheVariants.{Ended, Quiet};
 
 use crate::counting::count_if_none;
@@ -123,6 +123,21 @@ fn refused(error: &Error, failures: &mut u64, refusals: &mut u64) -> Result<usiz
     Ok(0)
 }
 
+// What a call comes to by what its reader or writer answered.
+fn outcome(
+    answer: Result<usize, Error>,
+    failures: &mut u64,
+    refusals: &mut u64,
+) -> Result<usize, LineFault>
+    ensures moved { IfOk answer (λ n. (result ≡ Ok n) × (failures.new ≡ failures.old) × (refusals.new ≡ refusals.old)) }
+    ensures missed { IfErr answer (λ e. ComesOfError (is_passing (error_kind e)) failures.old refusals.old failures.new refusals.new result) }
+{
+    match answer {
+        Ok(count) => Ok(count),
+        Err(error) => refused(&error, failures, refusals),
+    }
+}
+
 // A call that failed, as long as the count of failures goes on.
 fn failed(failures: &mut u64) -> Result<usize, LineFault>
     ensures nothing { IfOk result (λ n. n ≡ 0) }
@@ -172,11 +187,11 @@ fn read_once<R: Read>(
     ensures ended { IfOk result (λ n. n ≡ 0 → 0 < length buffer.old → zero ≡ Ended
         → (refusals.new ≡ one_more refusals.old) ⊎ (failures.old ≡ u64.MAX)) }
     ensures some { IfOk result (λ n. 0 < n → refusals.new ≡ refusals.old) }
+    ensures counted { IfOk result (λ n. ((n ≡ 0) × (refusals.new ≡ one_more refusals.old)) ⊎ (refusals.new ≡ refusals.old)) }
 {
     match reader.read(buffer) {
         Ok(0) if !buffer.is_empty() => empty(zero, failures),
-        Ok(count) => Ok(count),
-        Err(error) => refused(&error, failures, refusals),
+        answer => outcome(answer, failures, refusals),
     }
 }
 
@@ -209,6 +224,7 @@ impl<R: Read, W: Write> SerialLine for StreamLine<R, W> {
         ensures ended { IfOk result (λ n. n ≡ 0 → 0 < length buffer.old → self.old.zero ≡ Ended
             → IsRefused self.old self.new ⊎ (self.old.failures ≡ u64.MAX)) }
         ensures some { IfOk result (λ n. 0 < n → self.new.refusals ≡ self.old.refusals) }
+        ensures counted { IfOk result (λ n. CountsRefusal n self.old self.new) }
     {
         self.calls = self.calls.saturating_add(1);
         let count = read_once(
@@ -243,12 +259,11 @@ impl<R: Read, W: Write> SerialLine for StreamLine<R, W> {
         ensures held { MatchResult result (λ n. Appends self.old.held self.new.held (take n octets.now))
             (λ _. Keeps self.old.held self.new.held) }
         ensures some { IfOk result (λ n. 0 < n → self.new.refusals ≡ self.old.refusals) }
+        ensures counted { IfOk result (λ n. CountsRefusal n self.old self.new) }
     {
         self.calls = self.calls.saturating_add(1);
-        let count = match self.writer.write(octets) {
-            Ok(count) => count,
-            Err(error) => refused(&error, &mut self.failures, &mut self.refusals)?,
-        };
+        let answer = self.writer.write(octets);
+        let count = outcome(answer, &mut self.failures, &mut self.refusals)?;
         count_if_none(&mut self.stalled_writes, octets.len(), count);
         self.sent.push(&octets[..count]);
         Ok(count)
