@@ -1,4 +1,4 @@
-//! A desk whose callers and listeners ring a bell.
+//! A desk whose callers and listeners ring a bell, or are woken by one.
 use crate::asks::{submit_stops, take_requests, taken_by, tell_stopped};
 use at_text::{Text, UrcKind};
 use bell::Bell;
@@ -66,6 +66,22 @@ fn a_submit_and_each_take_ring(rt: HostRuntime) -> Result<(), Fail> {
     caller_rings(&rt, &bell, &mut driver, &mut callers);
     let line = ring(&rt, alloc);
     listener_rings(&rt, &bell, &mut driver, listeners.as_mut_slice(), line);
+    Ok(())
+}
+
+#[test]
+fn an_outcome_wakes_its_caller(rt: HostRuntime) -> Result<(), Fail> {
+    let alloc = rt.alloc();
+    let bell = Bell::new(alloc)?;
+    let Ok((mut driver, mut callers, _)) = Desk::open(alloc, 2, &[]) else {
+        panic!(rt; "no memory");
+    };
+    driver.wake(1, bell.share()?);
+    submit_stops(&rt, &mut callers, 1, 1);
+    take_requests(&rt, &mut driver, &[(1, 1)]);
+    tell_stopped(&rt, &mut driver, 1, 1);
+    bell.wait(&rt, long());
+    assert!(rt; taken_by(&rt, &mut callers, 1).is_some());
     Ok(())
 }
 

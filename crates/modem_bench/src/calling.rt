@@ -65,7 +65,10 @@ fn submit<R: Wait>(
     for _ in rt.forever() {
         match caller.submit(rt, left) {
             Ok(number) => return Ok(number),
-            Err((_, back)) => left = back,
+            Err((why, back)) => {
+                signals.refused(why);
+                left = back;
+            }
         }
         let ((), back) = beside(take_or_wait(rt, caller, outcomes, signals), left)?;
         left = back;

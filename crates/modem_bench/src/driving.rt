@@ -107,8 +107,8 @@ fn went_on<'a, R: Wait>(rt: &R, signals: &'a Signals, progress: Progress) -> Res
     }
 }
 
-/// One more poll of the session, and whether the multiplexer has ended. Where it moved something the callers' bells are rung. Where
-/// there is nothing to do it waits.
+/// One more poll of the session, and whether the multiplexer has ended. Where it moved something, callers that wait
+/// for room in the queue are woken. Where there is nothing to do it waits.
 #[tactic(auto, using(crate::proofs::StandStills::steps_moved, crate::proofs::StandStills::steps_still, crate::proofs::StandStills::steps_fails, crate::proofs::StandStills::steps_refused))]
 fn step<'a, L: SerialLine, R: Wait + Drop>(
     rt: &R,
@@ -123,7 +123,7 @@ fn step<'a, L: SerialLine, R: Wait + Drop>(
     match poll(session) {
         Ok(Some(progress)) => {
             limit.moved();
-            signals.bells().ring_callers();
+            signals.moved();
             went_on(rt, signals, progress)
         }
         Ok(None) => {

@@ -6,16 +6,16 @@ ghost use Rattle.modem_bench.specs.Driving.{IsBegun};
 ghost use Rattle.modem_bench.specs.Running.{AreFresh, IsLine};
 ghost use Rattle.modem_bench.specs.Simulating.{IsStarted};
 
+use crate::bells::Bells;
 use crate::ringing_line::RingingLine;
 use crate::signals::{Fault, Signals};
-use bell::Bell;
 use modem_desk::{Caller, Desk, DriverEnd, Listener};
 use modem_driver::Session;
 use modem_sim::{Modem, ModemStart, Script, Sim};
 use mux_frame::N1;
 use results::{beside, both};
 use serial_line::{SerialLine, ThreadLine};
-use std::alloc::Global;
+use std::alloc::{AllocError, Global};
 use std::sync::Wait;
 
 /// What a bench begins with.
@@ -27,18 +27,36 @@ pub struct Ends<L: SerialLine + Drop, R: Wait + Drop> {
     pub listeners: Vec<Listener>,
 }
 
-/// A desk with so many callers, which ring this bell, and no listener.
+/// Has each of so many callers woken by its own bell.
+fn wake_callers(driver: &mut DriverEnd, callers: u8, bells: &Bells) -> Result<(), AllocError>
+    ensures same { driver.new ≡ driver.old }
+{
+    for number in 0..callers {
+        driver.wake(number, bells.of_caller(number).share()?);
+    }
+    Ok(())
+}
+
+/// A desk without a listener, and with so many callers, which ring the driver's bell and are woken by their own.
 fn open_desk(
     alloc: Global,
     callers: u8,
-    bell: &Bell,
+    bells: &Bells,
 ) -> Result<(DriverEnd, Vec<Caller>, Vec<Listener>), Fault>
     ensures { IfOk result (λ r. Opened callers [] 1 r.0 r.1.items r.2.items) }
 {
-    match Desk::open_with_bell(alloc, callers, &[], 1, bell) {
-        Ok(ends) => Ok(ends),
-        Err(_) => Err(Fault::NoMemory),
-    }
+    let Ok((mut driver, all, listeners)) = Desk::open_with_bell(
+        alloc,
+        callers,
+        &[],
+        1,
+        &bells.driver,
+    ) else {
+        return Err(Fault::NoMemory);
+    };
+    let woken = wake_callers(&mut driver, callers, bells);
+    let ((), ends) = beside(woken, (driver, all, listeners))?;
+    Ok(ends)
 }
 
 /// The two ends of a new line, with room for so many octets each way, the driver's first. Each rings the other end's thread.
@@ -84,7 +102,7 @@ fn make_sim<L: SerialLine + Drop>(alloc: Global, line: L, script: Script) -> Res
     }
 }
 
-/// A desk, whose callers ring the driver's bell; a session at its driver's end; and a simulated modem at the other end of the line.
+/// A desk, whose callers ring the driver's bell and are woken by their own; a session at its driver's end; and a simulated modem at the other end of the line.
 pub fn begin<L: SerialLine + Drop, R: Wait + Drop + Copy>(
     rt: &R,
     alloc: Global,
@@ -101,7 +119,7 @@ pub fn begin<L: SerialLine + Drop, R: Wait + Drop + Copy>(
     ensures listeners { IfOk result
         (λ e. AreSubscribed e.session.driver.desk (map subscription_of e.listeners.items)) }
 {
-    let (driver, callers, listeners) = open_desk(alloc, callers, &signals.bells().driver)?;
+    let (driver, callers, listeners) = open_desk(alloc, callers, signals.bells())?;
     let (near, far) = line;
     let session = make_session(*rt, alloc, near, driver);
     let sim = make_sim(alloc, far, script);

@@ -6,7 +6,9 @@ ghost use Rattle.modem_bench.specs.declared.signals.Fault.TheVariants.{GaveUp, N
 use crate::bells::Bells;
 use crate::cause::Cause;
 use bell::Bell;
+use modem_desk::SubmitError;
 use std::alloc::{AllocError, AllocFailed, Global};
+use std::sync::atomic::{AtomicBool, Ordering};
 use std::sync::{Arc, OnceLock, OnceToken, Wait};
 use std::thread::SpawnError;
 use std::time::Duration;
@@ -78,6 +80,8 @@ impl From<Reason<'_>> for Fault {
 pub struct Shared {
     pub fault: OnceLock<Fault>,
     pub bells: Bells,
+    /// Whether a caller found the queue full, and waits for room in it.
+    wants_room: AtomicBool,
 }
 
 /// One thread's share of what all see: whether the bench is given up, and why; and the bells, of which one is its own.
@@ -95,6 +99,7 @@ impl Signals {
         let shared = Shared {
             fault: OnceLock::new(),
             bells,
+            wants_room: AtomicBool::new(false),
         };
         let shared = Arc::new(alloc, shared)?;
         Ok(Signals { shared, bell })
@@ -103,6 +108,21 @@ impl Signals {
     /// All bells.
     pub fn bells(&self) -> &Bells {
         &self.shared.bells
+    }
+
+    /// A caller was refused for this. A full queue has room again once the driver took from it.
+    pub fn refused(&self, why: SubmitError) {
+        if matches!(why, SubmitError::Full) {
+            self.shared.wants_room.store(true, Ordering::SeqCst);
+        }
+    }
+
+    /// The driver moved something: where a caller waits for room in the queue, all are woken.
+    pub fn moved(&self) {
+        if self.shared.wants_room.load(Ordering::SeqCst) {
+            self.shared.wants_room.store(false, Ordering::SeqCst);
+            self.shared.bells.ring_callers();
+        }
     }
 
     /// A share for another thread, which waits on this bell.

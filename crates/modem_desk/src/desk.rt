@@ -13,7 +13,7 @@ use std::alloc::{AllocError, Global};
 use std::sync::Arc;
 
 // How many callers a desk may have.
-const CALLERS: u8 = 8;
+pub(crate) const CALLERS: u8 = 8;
 
 /// Where callers, listeners and the driver meet. A desk is open as long as its ends are.
 ///

@@ -4,7 +4,8 @@ ghost use mathlib.Core.Option.{some};
 ghost use lib.ListN.{get_elem?};
 ghost use Rattle.modem_desk.specs.Ends.{Changes, RisesByOne};
 
-use crate::caller::{Caller, Queue, WAITING, share_of};
+use crate::caller::{Caller, Queue, WAITING, ring, share_of};
+use crate::desk::CALLERS;
 use crate::listener::{LINES, Listener};
 use crate::request::{Outcome, Request, Urc};
 use crate::rule::{AddsCaller, Takes, View};
@@ -33,6 +34,7 @@ pub struct DriverEnd {
     found_none: u64,
     told_back: Vec<u64>,
     lines_back: Vec<u64>,
+    bells: [Option<Bell>; CALLERS as usize],
 }
 
 impl Model for DriverEnd {
@@ -118,6 +120,7 @@ impl DriverEnd {
             found_none: 0,
             told_back,
             lines_back,
+            bells: [None, None, None, None, None, None, None, None],
         }
     }
 
@@ -212,6 +215,23 @@ impl DriverEnd {
         Ok(Listener::new(consumer, kind, place, bell))
     }
 
+    /// Has each outcome that is given to the caller of this number ring this bell, in the place of an earlier one, so that
+    /// the caller's thread may wait on it. Where the desk has no such caller nothing rings it. No clause speaks of the bell.
+    pub fn wake(&mut self, caller: u8, bell: Bell)
+        ensures same { self.new ≡ self.old }
+    {
+        if let Some(place) = self.bells.get_mut(usize::from(caller)) {
+            *place = Some(bell);
+        }
+    }
+
+    // Rings the bell of the caller at this place, if it has one.
+    fn ring_caller(&self, place: usize) {
+        if let Some(bell) = self.bells.get(place) {
+            ring(bell);
+        }
+    }
+
     /// Does nothing, and shows that the requests taken of each caller are numbered one after the other. So no caller used a number twice.
     pub fn numbers(&self)
         ensures { AreNumbered self.now.taken }
@@ -288,8 +308,8 @@ impl DriverEnd {
         true
     }
 
-    /// Gives an outcome to its caller. Requires a caller of this desk. Hands it back if 8 wait for that caller. It never does
-    /// while it knows of a free place.
+    /// Gives an outcome to its caller, and rings the bell by which that is woken (`wake`), if there is one. Requires a caller of this
+    /// desk. Hands it back if 8 wait for that caller. It never does while it knows of a free place.
     pub fn tell(&mut self, outcome: Outcome) -> Result<(), Outcome>
         requires { outcome.caller < length self.old.desk.rings }
         ensures same { self.new ≡ record self.old {
@@ -311,6 +331,7 @@ impl DriverEnd {
         let place = outcome.caller as usize;
         let ring = &mut self.rings[outcome.caller as usize];
         let Err(refused) = ring.push(outcome) else {
+            self.ring_caller(place);
             return Ok(());
         };
         let PushError::Full(back) = refused;
