@@ -8,5 +8,7 @@ pub mod Served
 pub mod Stepping
 pub mod LeftOctets
 pub mod Watched
+pub mod Endless
+pub mod EndlessClients
 mod DataLines
 mod DataEnding

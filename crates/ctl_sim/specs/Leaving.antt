@@ -5,6 +5,7 @@ use Rattle.ctl_text.specs.Writing.{IsBegun}
 use Rattle.ctl_sim.specs.declared.fault.BadOption.{BadOption}
 use Rattle.ctl_sim.specs.declared.fault.ServeFault.{ServeFault}
 use Rattle.ctl_sim.specs.declared.serving.SimOptions.{SimOptions}
+use Rattle.ctl_sim.specs.EndlessClients.{IsEndlessAfter, StandsEndless}
 use Rattle.ctl_sim.specs.Saying.{fault_line, option_line}
 use Rattle.ctl_sim.specs.Serving.{Answers, Entry, IsBadBy, Setting, setting_of}
 
@@ -19,26 +20,30 @@ IsOfReader ServeFault.Output = ⊥
 IsOfReader ServeFault.Capture = ⊥
 IsOfReader ServeFault.EndlessModem = ⊥
 
--- of what answers: memory was refused, or the simulated modem goes on without an end
+-- of what answers: memory was refused; or the simulated modem goes on without an end, of which this is so
+abbrev pub IsOfModemBy : (Endless : Type 0) → ServeFault → Type 0
+IsOfModemBy Endless ServeFault.NoMemory = ⊤
+IsOfModemBy Endless ServeFault.EndlessModem = Endless
+IsOfModemBy Endless ServeFault.Input = ⊥
+IsOfModemBy Endless ServeFault.EndlessInput = ⊥
+IsOfModemBy Endless ServeFault.Output = ⊥
+IsOfModemBy Endless ServeFault.Capture = ⊥
+
+-- the same, and no more is said
 abbrev pub IsOfModem : ServeFault → Type 0
-IsOfModem ServeFault.NoMemory = ⊤
-IsOfModem ServeFault.EndlessModem = ⊤
-IsOfModem ServeFault.Input = ⊥
-IsOfModem ServeFault.EndlessInput = ⊥
-IsOfModem ServeFault.Output = ⊥
-IsOfModem ServeFault.Capture = ⊥
+IsOfModem fault = IsOfModemBy ⊤ fault
 
 -- How the last piece is left that was read. Where no fault came, or one of the reader or of the capture, there is none: all is
--- answered. Where what answers failed, octets were read, and nothing was written to them; where the writer failed, octets were read,
--- and what answers them is begun.
-abbrev pub IsLeftBy : Option ServeFault → (piece part : List ℕ) → (Begun : Type 0) → Type 0
-IsLeftBy None piece part Begun = (piece ≡ []) × (part ≡ [])
-IsLeftBy (Some ServeFault.Input) piece part Begun = (piece ≡ []) × (part ≡ [])
-IsLeftBy (Some ServeFault.EndlessInput) piece part Begun = (piece ≡ []) × (part ≡ [])
-IsLeftBy (Some ServeFault.Capture) piece part Begun = (piece ≡ []) × (part ≡ [])
-IsLeftBy (Some ServeFault.NoMemory) piece part Begun = (piece ≢ []) × (part ≡ [])
-IsLeftBy (Some ServeFault.EndlessModem) piece part Begun = (piece ≢ []) × (part ≡ [])
-IsLeftBy (Some ServeFault.Output) piece part Begun = (piece ≢ []) × Begun
+-- answered. Where what answers failed, octets were read, and nothing was written to them, and it goes on without an end where that is
+-- the fault; where the writer failed, octets were read, and what answers them is begun.
+abbrev pub IsLeftBy : Option ServeFault → (piece part : List ℕ) → (Begun Endless : Type 0) → Type 0
+IsLeftBy None piece part Begun Endless = (piece ≡ []) × (part ≡ [])
+IsLeftBy (Some ServeFault.Input) piece part Begun Endless = (piece ≡ []) × (part ≡ [])
+IsLeftBy (Some ServeFault.EndlessInput) piece part Begun Endless = (piece ≡ []) × (part ≡ [])
+IsLeftBy (Some ServeFault.Capture) piece part Begun Endless = (piece ≡ []) × (part ≡ [])
+IsLeftBy (Some ServeFault.NoMemory) piece part Begun Endless = (piece ≢ []) × (part ≡ [])
+IsLeftBy (Some ServeFault.EndlessModem) piece part Begun Endless = (piece ≢ []) × (part ≡ []) × Endless
+IsLeftBy (Some ServeFault.Output) piece part Begun Endless = (piece ≢ []) × Begun
 
 -- ## What stands on the output
 
@@ -57,7 +62,7 @@ pub record LeavesAnswers (s : Setting) (fault : Option ServeFault) (rest before 
   pub read : Consumes (Some all) rest (came ++ piece)
   pub few : length piece ≤ 4096
   pub answers : Answers s came went
-  pub begun : IsLeftBy fault piece part (BeginsAnswer s came went piece part)
+  pub begun : IsLeftBy fault piece part (BeginsAnswer s came went piece part) (IsEndlessAfter s (came ++ piece))
   pub written : Appends before after (went ++ part)
 
 -- of all that the reader had, where that is known
@@ -95,7 +100,7 @@ pub record NextBegins {X : Type 0} (Holds : Setting → (came went : List ℕ) �
   pub stands : Holds s (came ++ piece) (went ++ (part ++ left)) entries next []
 
 -- some was read, and answered as far as that
-pub record LeftSoFar {X : Type 0} (Holds : Setting → (came went : List ℕ) → List Entry → X → (left : List ℕ) → Type 0) (s : Setting) (fault : Option ServeFault) (input rest before after : Option (List ℕ)) : Type 0 where
+pub record LeftSoFar {X : Type 0} (Holds : Setting → (came went : List ℕ) → List Entry → X → (left : List ℕ) → Type 0) (Endless : X → (left : List ℕ) → Type 0) (s : Setting) (fault : Option ServeFault) (input rest before after : Option (List ℕ)) : Type 0 where
   pub came : List ℕ
   pub went : List ℕ
   pub piece : List ℕ
@@ -105,5 +110,5 @@ pub record LeftSoFar {X : Type 0} (Holds : Setting → (came went : List ℕ) �
   pub read : Consumes input rest (came ++ piece)
   pub few : length piece ≤ 4096
   pub stands : Holds s came went entries now []
-  pub begun : IsLeftBy fault piece part (NextBegins Holds s came went piece part)
+  pub begun : IsLeftBy fault piece part (NextBegins Holds s came went piece part) (StandsEndless Holds Endless s (came ++ piece))
   pub written : Appends before after (went ++ part)

@@ -12,3 +12,5 @@ pub mod Standing
 pub mod Watching
 pub mod DataSaying
 pub mod DataEnds
+pub mod Endless
+pub mod EndlessClients

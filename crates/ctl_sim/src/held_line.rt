@@ -1,5 +1,5 @@
 //! The line of a modem whose client hands octets in and takes octets out.
-ghost use Rattle.std.specs.Prelude.{IfOk, IsOk, OnErr, OnOk, [], ◌++◌, ◌+◌, ◌<◌, ◌↔◌, ◌≡◌, ◌≢◌, ◌≤◌, drop, length, min, take, true};
+ghost use Rattle.std.specs.Prelude.{IfOk, IsOk, OnErr, OnOk, [], ◌++◌, ◌+◌, ◌<◌, ◌↔◌, ◌≡◌, ◌≢◌, ◌≤◌, drop, false, length, min, take, true};
 ghost use Rattle.serial_line.specs.Counts.{one_more, counted_if_none};
 ghost use Rattle.ctl_sim.specs.HeldLine.{held_side, held_view, new_held};
 
@@ -73,8 +73,10 @@ impl HeldLine {
     }
 
     /// Whether all that was handed in is read.
+    #[tactic(auto, using(crate::proofs::Endless::some_left))]
     pub(crate) fn is_read(&self) -> bool
-        ensures { result ≡ true → self.now.waiting ≡ [] }
+        ensures read { result ≡ true → self.now.waiting ≡ [] }
+        ensures unread { result ≡ false → self.now.waiting ≢ [] }
     {
         self.read == self.coming.len()
     }

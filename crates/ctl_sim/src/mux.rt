@@ -1,10 +1,10 @@
 //! A simulated modem in the multiplexer, whose octets are handed in and out.
-ghost use Rattle.std.specs.Prelude.{◌≡◌, ◌&&◌, ◌||◌, [], not, true, false, IfErr, IfOk, List};
+ghost use Rattle.std.specs.Prelude.{◌≡◌, ◌≢◌, ◌⊎◌, ◌&&◌, ◌||◌, [], not, true, false, IfErr, IfOk, List, OnErr};
 ghost use Rattle.modem_sim.specs.Acts.{Act, End, is_open_at_modem};
-ghost use Rattle.modem_sim.specs.Sims.{SimGoes, has_ended};
+ghost use Rattle.modem_sim.specs.Sims.{SimGoes, has_ended, has_failed};
+ghost use Rattle.ctl_sim.specs.Endless.{GoesOn, IsGivenUpFor, IsUnanswered, LacksMemory};
 ghost use Rattle.ctl_sim.specs.HeldLine.{held_side, held_view};
 ghost use Rattle.ctl_sim.specs.InMux.{mux_end};
-ghost use Rattle.ctl_sim.specs.Leaving.{IsOfModem};
 ghost use Rattle.ctl_sim.specs.Muxes.{ComesToRest, FitsHeld, FitsMux, IsFed};
 
 use crate::fault::ServeFault;
@@ -21,7 +21,8 @@ pub(crate) fn begun(
     script: Script,
     n1: N1,
 ) -> Result<Sim<HeldLine>, AllocError>
-    ensures { IfOk result (λ s. script.echo ≡ false → FitsMux (mux_end n1.octets modem script.steps) [] [] s []) }
+    ensures fits { IfOk result (λ s. script.echo ≡ false → FitsMux (mux_end n1.octets modem script.steps) [] [] s []) }
+    ensures sound { IfOk result (λ s. has_failed s ≡ false) }
 {
     match Sim::new(alloc, HeldLine::new(alloc), modem, script, n1.octets) {
         Ok(sim) => Ok(sim),
@@ -40,10 +41,21 @@ enum Turned {
     Ends,
 }
 
-/// One turn.
+/// Whether no octets wait at its line, to be written or to be read.
+fn none_waits(sim: &Sim<HeldLine>) -> bool
+    ensures none { result ≡ true → (sim.now.machine.out ≡ []) × (sim.now.line.waiting ≡ []) }
+    ensures some { result ≡ false → (sim.now.machine.out ≢ []) ⊎ (sim.now.line.waiting ≢ []) }
+{
+    sim.unwritten().is_empty() && sim.line().is_read()
+}
+
+/// One turn. Where octets wait for its line though it has nothing to do, the line was refused memory.
 fn turn(sim: &mut Sim<HeldLine>) -> Result<Turned, AllocError>
     ensures goes { SimGoes held_view sim.old sim.new }
     ensures side { held_side sim.new.line ≡ held_side sim.old.line }
+    ensures sound { has_failed sim.new ≡ has_failed sim.old }
+    ensures moves { IfOk result (λ turned. turned ≡ Turned.Moves → GoesOn sim.old sim.new) }
+    ensures lacks { OnErr result (has_failed sim.old ≡ false → LacksMemory sim.old sim.new) }
     ensures rests { IfOk result (λ turned. turned ≡ Turned.Rests → ComesToRest sim.old sim.new) }
     ensures ends { IfOk result (λ turned. turned ≡ Turned.Ends → has_ended sim.new ≡ true) }
 {
@@ -51,12 +63,10 @@ fn turn(sim: &mut Sim<HeldLine>) -> Result<Turned, AllocError>
         Ok(SimTurn::Moved) => Ok(Turned::Moves),
         Ok(SimTurn::Ended) => Ok(Turned::Ends),
         Ok(SimTurn::Idle) => {
-            if !sim.unwritten().is_empty() {
-                Err(AllocError)
-            } else if sim.line().is_read() {
+            if none_waits(sim) {
                 Ok(Turned::Rests)
             } else {
-                Ok(Turned::Moves)
+                Err(AllocError)
             }
         }
         Err(_) => Err(AllocError),
@@ -69,7 +79,8 @@ fn settle(sim: &mut Sim<HeldLine>) -> Result<bool, ServeFault>
     ensures side { held_side sim.new.line ≡ held_side sim.old.line }
     ensures rests { IfOk result (λ ended. ended ≡ false → ComesToRest sim.old sim.new) }
     ensures ends { IfOk result (λ ended. ended ≡ true → has_ended sim.new ≡ true) }
-    ensures fault { IfErr result IsOfModem }
+    ensures sound { has_failed sim.new ≡ has_failed sim.old }
+    ensures fault { IfErr result (λ fault. IsGivenUpFor fault sim.old sim.new) }
 {
     for _ in 0..u64::MAX {
         match turn(sim)? {
@@ -106,7 +117,8 @@ pub(crate) fn feed(
     out: &mut Vec<u8>,
 ) -> Result<bool, ServeFault>
     ensures fed { IfOk result (λ over. IsFed sim.old sim.new piece.now out.old.items out.new.items over) }
-    ensures fault { IfErr result IsOfModem }
+    ensures sound { has_failed sim.new ≡ has_failed sim.old }
+    ensures fault { IfErr result (λ fault. IsUnanswered fault sim.old sim.new piece.now) }
 {
     let was_up = is_up(sim);
     sim.line_mut().put(piece)?;

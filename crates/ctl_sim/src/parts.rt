@@ -1,7 +1,8 @@
 //! What passes between a client and what answers it, part by part, and who is told of it.
 ghost use Rattle.std.specs.Prelude.{◌≡◌, ◌<◌, ◌++◌, [], false, true, length, IfErr, IfOk, option_map};
 ghost use Rattle.ctl_sim.specs.Entry.{octets_of};
-ghost use Rattle.ctl_sim.specs.Leaving.{IsOfModem};
+ghost use Rattle.ctl_sim.specs.EndlessClients.{PassesToEndless};
+ghost use Rattle.ctl_sim.specs.Leaving.{IsOfModemBy};
 ghost use Rattle.ctl_sim.specs.Standing.{setting_by};
 ghost use Rattle.ctl_sim.specs.Watching.{PassesOn, SeesPart};
 ghost use Rattle.modem_sim.specs.declared.state.ModemState.{ModemState};
@@ -39,7 +40,8 @@ fn pass_part<M: Answering, V: Watcher>(
     ensures pending { IfOk result (λ r. pending.new.items ≡ M.undecided r.0 ++ r.1.items) }
     ensures passes { IfOk result (λ r. (m : ModemState)
         → PassesOn M.holds M.undecided V.sees V.begins (setting_by setup.now m) now r.0 watcher.old watcher.new octets.now r.1.items out.old.items out.new.items) }
-    ensures fault { IfErr result IsOfModem }
+    ensures fault { IfErr result (IsOfModemBy ((m : ModemState)
+        → PassesToEndless M.holds M.undecided V.sees V.begins M.endless (setting_by setup.now m) now watcher.old octets.now)) }
 {
     let mut said = Vec::new(setup.alloc);
     let (next, behind, entered) = now.take_part(setup, octets, &mut said)?;
@@ -65,7 +67,8 @@ pub(crate) fn pass<M: Answering, V: Watcher>(
     ensures pending { IfOk result (λ new. pending.new.items ≡ M.undecided new) }
     ensures passes { IfOk result (λ new. (m : ModemState)
         → PassesOn M.holds M.undecided V.sees V.begins (setting_by setup.now m) first new watcher.old watcher.new octets.now [] out.old.items out.new.items) }
-    ensures fault { IfErr result IsOfModem }
+    ensures fault { IfErr result (IsOfModemBy ((m : ModemState)
+        → PassesToEndless M.holds M.undecided V.sees V.begins M.endless (setting_by setup.now m) first watcher.old octets.now)) }
 {
     let mut now = first;
     let mut rest = Vec::from_slice(setup.alloc, octets)?;

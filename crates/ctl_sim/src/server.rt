@@ -3,7 +3,9 @@ ghost use Rattle.std.specs.Prelude.{◌≡◌, ◌≢◌, ◌<◌, ◌++◌, ℕ
 ghost use Rattle.ctl_sim.specs.Entry.{octets_of};
 ghost use Rattle.ctl_sim.specs.Serving.{Entry, Setting, with_more};
 ghost use Rattle.modem_sim.specs.declared.state.ModemState.{ModemState};
-ghost use Rattle.ctl_sim.specs.Leaving.{IsOfModem};
+ghost use Rattle.ctl_sim.specs.Endless.{IsEndlessAt};
+ghost use Rattle.ctl_sim.specs.EndlessClients.{ComesToEndless, IsEndlessMode, IsEndlessMux};
+ghost use Rattle.ctl_sim.specs.Leaving.{IsOfModemBy};
 ghost use Rattle.ctl_sim.specs.Standing.{EndsWith, HandlesText, Hears, IsEntered, MayBeFrame, Stands, StepsOn, setting_by, undecided, weight};
 ghost use Rattle.ctl_sim.specs.Coming.{may_be_frame, stands_before};
 ghost use Rattle.ctl_sim.specs.declared.server.Mode.TheVariants.{Lines, Mux};
@@ -61,6 +63,9 @@ pub(crate) trait Answering: Drop {
     /// The octets that it has taken of which it isn't decided yet what they are.
     ghost undecided: { Self → List ℕ };
 
+    /// With these octets left it goes on without an end.
+    ghost endless: { Self → List ℕ → Type 0 };
+
     /// What falls with each line that enters the multiplexer, by how many octets are left.
     ghost weight: { Self → ℕ → ℕ };
 
@@ -79,7 +84,8 @@ pub(crate) trait Answering: Drop {
         ensures ends { IfOk result (λ r. EndsWith (undecided self ++ octets.now) (undecided r.0 ++ r.1.items)) }
         ensures steps { IfOk result (λ r. (m : ModemState)
             → StepsOn holds undecided (setting_by setup.now m) self r.0 (option_map octets_of r.2) octets.now r.1.items out.old.items out.new.items) }
-        ensures fault { IfErr result IsOfModem };
+        ensures fault { IfErr result
+            (IsOfModemBy ((m : ModemState) → ComesToEndless holds endless (setting_by setup.now m) self octets.now)) };
 
     /// How many octets aren't decided.
     fn undecided_len(&self) -> usize
@@ -165,7 +171,7 @@ fn handle(
     frame: &[u8],
     out: &mut Vec<u8>,
 ) -> Result<Mode, ServeFault>
-    ensures fault { IfErr result IsOfModem }
+    ensures fault { IfErr result (IsOfModemBy (IsEndlessAt sim frame.now)) }
     ensures handles { IfOk result (λ mode. HandlesText setup.now sim n1.octets frame.now mode out.old.items out.new.items) }
 {
     let mut sim = sim;
@@ -186,7 +192,7 @@ fn take_frame(
     out: &mut Vec<u8>,
 ) -> Result<(Mode, Vec<u8>), ServeFault>
     ensures fewer { IfOk result (λ r. 0 < length octets.now → weight r.0 (length r.1.items) < weight (Mux mux) (length octets.now)) }
-    ensures fault { IfErr result IsOfModem }
+    ensures fault { IfErr result (IsOfModemBy (IsEndlessMux mux octets.now)) }
     ensures ends { IfOk result (λ r. EndsWith (undecided (Mux mux) ++ octets.now) (undecided r.0 ++ r.1.items)) }
     ensures steps { IfOk result (λ r. (m : ModemState)
         → StepsOn Stands undecided (setting_by setup.now m) (Mux mux) r.0 None octets.now r.1.items out.old.items out.new.items) }
@@ -219,7 +225,7 @@ fn step(
     out: &mut Vec<u8>,
 ) -> Result<(Mode, Vec<u8>, Option<N1>), ServeFault>
     ensures fewer { IfOk result (λ r. 0 < length octets.now → weight r.0 (length r.1.items) < weight mode (length octets.now)) }
-    ensures fault { IfErr result IsOfModem }
+    ensures fault { IfErr result (IsOfModemBy (IsEndlessMode mode octets.now)) }
     ensures ends { IfOk result (λ r. EndsWith (undecided mode ++ octets.now) (undecided r.0 ++ r.1.items)) }
     ensures steps { IfOk result (λ r. (m : ModemState)
         → StepsOn Stands undecided (setting_by setup.now m) mode r.0 (option_map octets_of r.2) octets.now r.1.items out.old.items out.new.items) }
@@ -246,7 +252,8 @@ fn take_each(
     ensures ends { IfOk result (λ r. EndsWith (undecided mode ++ octets.now) (undecided r.0 ++ r.1.items)) }
     ensures steps { IfOk result (λ r. (m : ModemState)
         → StepsOn Stands undecided (setting_by setup.now m) mode r.0 (option_map octets_of r.2) octets.now r.1.items out.old.items out.new.items) }
-    ensures fault { IfErr result IsOfModem }
+    ensures fault { IfErr result
+        (IsOfModemBy ((m : ModemState) → ComesToEndless Stands IsEndlessMode (setting_by setup.now m) mode octets.now)) }
 {
     let mut now = mode;
     let mut rest = Vec::from_slice(setup.alloc, octets)?;
@@ -265,6 +272,8 @@ impl Answering for Mode {
     ghost holds = { Stands };
 
     ghost undecided = { undecided };
+
+    ghost endless = { IsEndlessMode };
 
     ghost weight = { weight };
 

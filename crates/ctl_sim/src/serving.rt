@@ -79,7 +79,7 @@ fn serve<M: Answering, V: Watcher, I: Read, W: Write>(
         → WatchedWhole M.holds V.sees V.begins (setting_by setup.now m) (I.remaining input.old) (W.contents output.old)
         (W.contents output.new) watcher.old watcher.new) }
     ensures left { (m : ModemState) → M.holds (setting_by setup.now m) [] [] [] first []
-        → LeftSoFar M.holds (setting_by setup.now m) (result_err result) (I.remaining input.old) (I.remaining input.new)
+        → LeftSoFar M.holds M.endless (setting_by setup.now m) (result_err result) (I.remaining input.old) (I.remaining input.new)
         (W.contents output.old) (W.contents output.new) }
     ensures fault { IfErr result (λ fault. fault ≢ ServeFault.Capture) }
 {

@@ -1,10 +1,27 @@
 use Rattle.std.proofs.Common.{List, ℕ, rules, subst, sym, option_map, take, length, ◌++◌, ◌-◌, ◌≡◌, ◌∙◌, ap}
+use Rattle.modem_sim.specs.declared.state.ModemState.{ModemState}
+use Rattle.ctl_sim.specs.EndlessClients.{ComesToEndless, PassesToEndless}
 use Rattle.ctl_sim.specs.Entry.{octets_of}
+use Rattle.ctl_sim.specs.Leaving.{IsOfModemBy}
+use Rattle.ctl_sim.proofs.EndlessClients.{passes_to_endless}
+use Rattle.ctl_sim.proofs.Leaving.{endless_so, given_so}
 use Rattle.ctl_sim.specs.Standing.{EndsWith, setting_by}
 use Rattle.ctl_sim.specs.Watching.{SeesPart}
 use Rattle.ctl_sim.proofs.Stepping.{front_taken, mapped_none}
 use Rattle.ctl_sim.proofs.Watched.{passes_part}
 use Rattle.ctl_sim.proofs.parts.pass_part.Goals as goal
+
+pub returns-in_err-next-clause-fault : goal.returns-in_err-next-clause-fault
+returns-in_err-next-clause-fault g c =
+    given_so
+    (IsOfModemBy ((m : ModemState) → PassesToEndless g.M.Answering.holds g.M.Answering.undecided g.V.Watcher.sees g.V.Watcher.begins g.M.Answering.endless (setting_by c.args.setup.now m) c.args.now c.args.watcher.now c.args.octets.now))
+    _ _ c.from_residual.ensures.1
+    (endless_so
+    {P = (m : ModemState) → ComesToEndless g.M.Answering.holds g.M.Answering.endless (setting_by c.args.setup.now m) c.args.now c.args.octets.now}
+    {Q = (m : ModemState) → PassesToEndless g.M.Answering.holds g.M.Answering.undecided g.V.Watcher.sees g.V.Watcher.begins g.M.Answering.endless (setting_by c.args.setup.now m) c.args.now c.args.watcher.now c.args.octets.now} _
+    (λ comes m.
+    passes_to_endless g.M.Answering.holds g.M.Answering.undecided g.V.Watcher.sees g.V.Watcher.begins g.M.Answering.endless (setting_by c.args.setup.now m) c.args.now c.args.watcher.now c.args.octets.now (comes m))
+    c.in_err-next.ensures.fault)
 
 pub returns-clause-passes : goal.returns-clause-passes
 returns-clause-passes g c = λ m.

@@ -1,8 +1,17 @@
 use Rattle.std.proofs.Common.{ap, ◌∙◌}
+use Rattle.ctl_sim.specs.Endless.{IsEndlessAt}
+use Rattle.ctl_sim.specs.Leaving.{IsOfModemBy}
+use Rattle.ctl_sim.proofs.Endless.{let_go}
+use Rattle.ctl_sim.proofs.Leaving.{given_so}
 use Rattle.modem_sim.specs.Sims.{modem_of}
 use Rattle.ctl_sim.specs.Plain.{plain_begun}
 use Rattle.ctl_sim.proofs.Stepping.{at_lines_by, flag_kept, in_mux_by}
 use Rattle.ctl_sim.proofs.server.handle.Goals as goal
+
+pub returns-in_err-is_over-clause-fault : goal.returns-in_err-is_over-clause-fault
+returns-in_err-is_over-clause-fault c =
+    given_so (IsOfModemBy (IsEndlessAt c.args.sim c.args.frame.now)) _ _ c.from_residual.ensures.1
+    (let_go c.feed.result _ c.args.sim c.feed.new.sim c.args.frame.now c.in_err-is_over.ensures.refused c.feed.ensures.fault)
 
 pub returns-then-is_over-clause-handles : goal.returns-then-is_over-clause-handles
 returns-then-is_over-clause-handles c =

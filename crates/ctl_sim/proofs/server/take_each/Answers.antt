@@ -1,9 +1,23 @@
 use Rattle.std.proofs.Common.{List, None, Option, option_map, ℕ, ◌∙◌, rules, arith, length, sym, subst, ◌++◌, ◌<◌}
+use Rattle.modem_sim.specs.declared.state.ModemState.{ModemState}
+use Rattle.ctl_sim.specs.EndlessClients.{ComesToEndless, IsEndlessMode}
 use Rattle.ctl_sim.specs.Entry.{octets_of}
+use Rattle.ctl_sim.specs.Leaving.{IsOfModemBy}
+use Rattle.ctl_sim.proofs.EndlessClients.{comes_to_endless}
+use Rattle.ctl_sim.proofs.Leaving.{endless_so, given_so}
 use Rattle.ctl_sim.specs.Standing.{EndsWith, Stands, StepsOn, setting_by, undecided, weight}
 use Rattle.ctl_sim.proofs.Stepping.{none_mapped, not_zero, takes_more, takes_none}
 use Rattle.ctl_sim.proofs.LeftOctets.{ends_more, ends_none}
 use Rattle.ctl_sim.proofs.server.take_each.Goals as goal
+
+pub returns-in_err-next-clause-fault : goal.returns-in_err-next-clause-fault
+returns-in_err-next-clause-fault c =
+    given_so (IsOfModemBy ((m : ModemState) → ComesToEndless Stands IsEndlessMode (setting_by c.args.setup.now m) c.args.mode c.args.octets.now)) _ _ c.from_residual-in_err-next.ensures.1
+    (endless_so {P = IsEndlessMode c.loop-now.now c.as_slice.result.now}
+    {Q = (m : ModemState) → ComesToEndless Stands IsEndlessMode (setting_by c.args.setup.now m) c.args.mode c.args.octets.now} _
+    (λ endless m.
+    comes_to_endless (setting_by c.args.setup.now m) c.args.mode c.loop-now.now c.args.octets.now c.loop-now.rest.items c.as_slice.result.now c.args.out.now.items c.loop-now.out.items (c.loop-now.invariant.steps m) c.as_slice.ensures.value endless)
+    c.in_err-next.ensures.fault)
 
 pub loop-now-init : goal.loop-now-init
 loop-now-init c = record {
